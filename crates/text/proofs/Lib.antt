@@ -1,0 +1,8 @@
+pub mod ListLaws
+pub mod LentLaws
+pub mod BytesLaws
+pub mod Utf8Laws
+pub mod AsciiLaws
+pub mod UuidLaws
+pub mod DecimalLaws
+mod Samples
