@@ -1,0 +1,72 @@
+-- Each turn passes a line, so the place rises.
+-- Assumes nothing.
+use Prim.Native.Nat.{_≤_, _-_}
+use native.Mathlib.Omega.{arith}
+use lib.ListN.{length}
+use Rattle.samples.proofs.run_group.Statement.{statement}
+use Rattle.samples.proofs.run_group.Tie as tie
+use Rattle.samples.proofs.run_group.Reads as reads
+use Rattle.samples.proofs.run_group.Lts as lts
+use Rattle.samples.proofs.after_line.Reads as after-line-reads
+use Rattle.samples.proofs.counted.Reads as counted-reads
+use Rattle.samples.proofs.is_blank.Reads as is-blank-reads
+use Rattle.samples.proofs.is_title.Reads as is-title-reads
+use Rattle.samples.proofs.line_at.Reads as line-at-reads
+use Rattle.samples.proofs.run_case.Reads as run-case-reads
+
+abbrev Inv-loop : tie.InvT-loop
+Inv-loop list at totals₀ next₀ totals next = at ≤ next
+
+abbrev μ-loop : tie.MeasureT-loop
+μ-loop list at totals₀ next₀ totals next = length list - next
+
+loop-holds : tie.Need-loop-holds Inv-loop μ-loop
+loop-holds c = omega arith
+
+line-at-requires : tie.Need-line-at-requires Inv-loop μ-loop
+line-at-requires c κs = tt
+
+is-title-requires : tie.Need-is-title-requires Inv-loop μ-loop
+is-title-requires c κs = tt
+
+returns : tie.Need-returns Inv-loop μ-loop
+returns c = omega arith
+
+is-blank-requires : tie.Need-is-blank-requires Inv-loop μ-loop
+is-blank-requires c κs = tt
+
+run-case-requires : tie.Need-run-case-requires Inv-loop μ-loop
+run-case-requires c κs = tt
+
+counted-requires : tie.Need-counted-requires Inv-loop μ-loop
+counted-requires c κs = tt
+
+after-line-requires : tie.Need-after-line-requires Inv-loop μ-loop
+after-line-requires c κs = tt
+
+loop-less : tie.Need-loop-less Inv-loop μ-loop
+loop-less c = omega (arith, c .after-line .ensures (c .before .before .before .before .before .before .loop-test .taken))
+
+loop-again : tie.Need-loop-again Inv-loop μ-loop
+loop-again c = omega (arith, c .after-line .ensures (c .before .before .before .before .before .before .loop-test .taken))
+
+returns-2 : tie.Need-returns-2 Inv-loop μ-loop
+returns-2 c = omega arith
+
+pub run-group-spec : {M : Type 1} → statement M
+run-group-spec =
+    tie.close
+    (tie.spec
+    Inv-loop
+    μ-loop
+    loop-holds
+    line-at-requires
+    is-title-requires
+    returns
+    is-blank-requires
+    run-case-requires
+    counted-requires
+    after-line-requires
+    loop-less
+    loop-again
+    returns-2)

@@ -1,0 +1,171 @@
+// Executes the cases of data/ against the library and compares each answer with what is expected.
+// A file has groups, `== TITLE`, each of cases, one a line; `#` starts a comment. A mismatch prints its line.
+mod cases;
+mod text_cases;
+
+ghost use Prim.Native.Nat.{_≤_, _<_};
+ghost use lib.ListN.{length};
+use cases::before;
+use cases::rest;
+use cases::word;
+use text::bytes::find_byte;
+use text::bytes::same_bytes;
+
+// How many cases were run, and how many of them went wrong.
+struct Totals {
+    cases: u64,
+    wrong: u64,
+}
+
+// A group that was run, and where the next one starts.
+struct Group {
+    totals: Totals,
+    next: usize,
+}
+
+fn say(text: &[u8]) {
+    io::write_all(1, text);
+}
+
+// The line that starts at `at`, without its LF.
+fn line_at(list: &[u8], at: usize) -> &[u8] {
+    if at < list.len() {
+        return before(&list[at..], b'\n');
+    }
+    &list[..0]
+}
+
+// Whether a line has a title, and not a case.
+fn is_title(line: &[u8]) -> bool {
+    same_bytes(word(line), b"==")
+}
+
+// Whether a line has no case: it is empty, or a comment.
+fn is_blank(line: &[u8]) -> bool {
+    if line.len() == 0 {
+        return true;
+    }
+    line[0] == b'#'
+}
+
+// Runs one case, by its first word. A kind that nobody knows is wrong.
+fn run_case(line: &[u8]) -> bool {
+    let kind = word(line);
+    let args = rest(line);
+    if same_bytes(kind, b"utf8") {
+        return text_cases::utf8_case(args);
+    }
+    if same_bytes(kind, b"uuid") {
+        return text_cases::uuid_case(args);
+    }
+    if same_bytes(kind, b"index") {
+        return text_cases::index_case(args);
+    }
+    if same_bytes(kind, b"put-index") {
+        return text_cases::put_index_case(args);
+    }
+    if same_bytes(kind, b"put-uuid") {
+        return text_cases::put_uuid_case(args);
+    }
+    false
+}
+
+// Counts one case more.
+fn counted(totals: Totals, right: bool, line: &[u8]) -> Totals {
+    let cases = std::num::wrapping_add_u64(totals.cases, 1);
+    if right {
+        return Totals {
+            cases,
+            wrong: totals.wrong,
+        };
+    }
+    say(b"\n  wrong: ");
+    say(line);
+    say(b"\n  ");
+    Totals {
+        cases,
+        wrong: std::num::wrapping_add_u64(totals.wrong, 1),
+    }
+}
+
+// The place after the line that starts at `at`, or the length where no line starts there.
+fn after_line(list: &[u8], at: usize) -> usize
+    ensures { λ r. ⌜ (at < length (now (list .entry)) → at < r) ⌝ }
+{
+    if at < list.len() {
+        let end = find_byte(&list[at..], b'\n');
+        if end < list.len() - at {
+            return at + end + 1;
+        }
+    }
+    list.len()
+}
+
+// Runs the cases from `at` on, up to the next title.
+fn run_group(list: &[u8], at: usize) -> Group
+    ensures { λ r. ⌜ at ≤ r .next ⌝ }
+{
+    let mut totals = Totals { cases: 0, wrong: 0 };
+    let mut next = at;
+    while next < list.len() {
+        let line = line_at(list, next);
+        if is_title(line) {
+            return Group { totals, next };
+        }
+        if !is_blank(line) {
+            totals = counted(totals, run_case(line), line);
+        }
+        next = after_line(list, next);
+    }
+    Group { totals, next }
+}
+
+fn say_totals(totals: Totals) {
+    io::print_decimal(1, totals.cases);
+    say(b" cases, ");
+    io::print_decimal(1, totals.wrong);
+    say(b" wrong\n");
+}
+
+// Runs a whole list, and prints a line per group.
+fn run_list(list: &[u8]) -> Totals {
+    let mut cases: u64 = 0;
+    let mut wrong: u64 = 0;
+    let mut at: usize = 0;
+    while at < list.len() {
+        let line = line_at(list, at);
+        let from = after_line(list, at);
+        at = from;
+        if is_title(line) {
+            say(rest(line));
+            say(b": ");
+            let group = run_group(list, from);
+            let totals = group.totals;
+            say_totals(totals);
+            cases = std::num::wrapping_add_u64(cases, totals.cases);
+            wrong = std::num::wrapping_add_u64(wrong, totals.wrong);
+            at = group.next;
+        }
+    }
+    Totals { cases, wrong }
+}
+
+// Runs the list in a file of at most 65536 bytes.
+fn run_file(path: &[u8]) -> Totals {
+    let fd = os::open_read(path);
+    if fd < 0 {
+        say(b"no file ");
+        say(path);
+        say(b"\n");
+        return Totals { cases: 0, wrong: 1 };
+    }
+    let mut space = io::large_buffer();
+    let n = io::read_full(fd, &mut space);
+    libc::close(fd);
+    run_list(&space[..n])
+}
+
+fn main() {
+    let totals = run_file(b"text.txt");
+    say_totals(totals);
+}
