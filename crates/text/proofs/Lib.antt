@@ -4,5 +4,6 @@ pub mod BytesLaws
 pub mod Utf8Laws
 pub mod AsciiLaws
 pub mod UuidLaws
+pub mod SmallLaws
 pub mod DecimalLaws
 mod Samples
