@@ -1,0 +1,22 @@
+-- elements, tables, maps
+pub mod PickLaws
+pub mod TableLaws
+pub mod ElementLaws
+pub mod KeyLaws
+pub mod PlaceLaws
+pub mod MapLaws
+pub mod PutLaws
+pub mod ViewLaws
+-- the walker and the reading
+pub mod CountLaws
+pub mod FieldLaws
+pub mod WalkLaws
+pub mod ReadingLaws
+-- what a built line reads as
+pub mod PairLaws
+pub mod FoldLaws
+pub mod JoinLaws
+pub mod IdentLaws
+pub mod ReadBack
+-- document 01's samples
+pub mod Samples

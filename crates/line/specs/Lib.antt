@@ -1,0 +1,16 @@
+-- what a reader of the contracts meets, in document 01's order
+pub mod Buttons
+pub mod Axes
+pub mod Elements
+pub mod Maps
+pub mod Tables
+pub mod Fields
+pub mod Values
+pub mod Pairs
+pub mod Walker
+pub mod Puts
+pub mod Reading
+pub mod Refusals
+-- what private helpers and proofs need
+pub mod Inner
+pub mod Effects

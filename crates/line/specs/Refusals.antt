@@ -1,0 +1,78 @@
+-- "Where an answer is an enum, a definition states this paper's number and values for every one of its cases."
+-- Assumes nothing.
+use Prim.Native.Nat.{ℕ}
+use Rattle.line.specs.declared.ev.Code.{Code}
+use Rattle.line.specs.declared.mapping.PutResult.{PutResult}
+use Rattle.line.specs.declared.mapping.PutResult.the-variants as Pr
+use Rattle.line.specs.declared.parser.ErrorKind.{ErrorKind}
+use Rattle.line.specs.declared.parser.ErrorKind.the-variants as Ek
+use Rattle.line.specs.declared.parser.Error.{Error}
+use Rattle.line.specs.declared.parser.Answer.{Answer}
+use Rattle.line.specs.declared.parser.Answer.the-variants as An
+use Rattle.line.specs.declared.reading.ParseSdlMappingError.{ParseSdlMappingError}
+use Rattle.line.specs.declared.reading.ParseSdlMappingError.the-variants as Pe
+use Rattle.line.specs.declared.reading.SdlAnswer.{SdlAnswer}
+use Rattle.line.specs.declared.reading.SdlAnswer.the-variants as Sd
+
+-- ---- a refusal: its number, its place, and the code that it carries
+pub data Place : Type 0 where
+  At : ℕ → Place
+  NoPlace : Place
+
+pub data Carried : Type 0 where
+  Carries : Code → Carried
+  NoCode : Carried
+
+pub record Refusal : Type 0 where
+  pub number : ℕ
+  pub place : Place
+  pub code : Carried
+
+-- an answer is a refusal, or it is none
+pub data Outcome : Type 0 where
+  Passes : Outcome
+  Refuses : Refusal → Outcome
+
+-- a refusal with a place, and one without
+abbrev pub refusalAt : ℕ → ℕ → Refusal
+refusalAt n p = record { number = n; place = At p; code = NoCode }
+
+abbrev pub refusal : ℕ → Refusal
+refusal n = record { number = n; place = NoPlace; code = NoCode }
+
+-- ---- the walker's: "1 and 2 at 0; 3, 5, 6, 8 .. at p; 4 as the walker's paragraph says; .. 9 at 0; 10 at the length
+-- of the longest valid run"
+abbrev pub kindNumber : ErrorKind → ℕ
+kindNumber Ek.InvalidGuid = 1
+kindNumber Ek.UnexpectedEnd = 2
+kindNumber Ek.InvalidKeyValPair = 3
+kindNumber Ek.InvalidValue = 4
+kindNumber Ek.UnknownAxis = 5
+kindNumber Ek.UnknownButton = 6
+kindNumber Ek.EmptyValue = 8
+kindNumber Ek.InvalidParserState = 9
+kindNumber Ek.NotUtf8 = 10
+
+abbrev pub errorRefusal : Error → Refusal
+errorRefusal e = refusalAt (kindNumber (e .kind)) (e .position)
+
+abbrev pub answerOutcome : Answer → Outcome
+answerOutcome (An.Found t) = Passes
+answerOutcome (An.Refused e) = Refuses (errorRefusal e)
+answerOutcome An.End = Passes
+
+-- ---- a put's: 11, whose place is the pair's, known to the reading
+abbrev pub putOutcome : PutResult → Outcome
+putOutcome Pr.Stored = Passes
+putOutcome Pr.Full = Refuses (refusal 11)
+
+-- ---- a reading's: "7 at 0", 11 "at p", 12 none
+abbrev pub readingRefusal : ParseSdlMappingError → Refusal
+readingRefusal (Pe.ParseError e) = errorRefusal e
+readingRefusal Pe.UnknownHatDirection = refusalAt 7 0
+readingRefusal (Pe.TooManyCodes p) = refusalAt 11 p
+readingRefusal Pe.ListTooLong = refusal 12
+
+abbrev pub readingOutcome : SdlAnswer → Outcome
+readingOutcome Sd.Accepted = Passes
+readingOutcome (Sd.Refused e) = Refuses (readingRefusal e)

@@ -1,0 +1,65 @@
+-- The walker over one line, step by step on positions (document 01, 'Walker'). Assumes nothing.
+use Prim.Native.Nat.{ℕ, zero, suc, _+_, _-_}
+use mathlib.Core.List.{List, [], _∷_}
+use lib.Dec.{eqb, ltb}
+use lib.ListN.{length}
+use Rattle.text.specs.Bytes.{pick, byte, ascii, same}
+use Rattle.text.specs.Utf8.{validRun, isUtf8}
+use Rattle.text.specs.Uuid.{uuidOf}
+use Rattle.text.specs.declared.uuid.UuidParse.{UuidParse}
+use Rattle.text.specs.declared.uuid.UuidParse.the-variants as Up
+use Rattle.line.specs.declared.parser.State.{State}
+use Rattle.line.specs.declared.parser.State.the-variants as St
+use Rattle.line.specs.declared.parser.Token.the-variants as Tk
+use Rattle.line.specs.declared.parser.ErrorKind.the-variants as Ek
+use Rattle.line.specs.declared.parser.Answer.{Answer}
+use Rattle.line.specs.declared.parser.Answer.the-variants.{Found, End}
+use Rattle.line.specs.declared.parser.Stepped.{Stepped}
+use Rattle.line.specs.Fields.{findFrom, field}
+use Rattle.line.specs.Pairs.{refuse, pairOf}
+
+abbrev pub stepped : Answer → ℕ → State → Stepped
+stepped a p st = record { answer = a; pos = p; state = st }
+
+-- "`xinput` is the nil UUID, else a UUID"
+unfoldable pub guidOf : List ℕ → UuidParse
+guidOf s = pick (same s (ascii "xinput")) (Up.Parsed (record { high = 0; low = 0 })) (uuidOf s)
+
+-- the first field, from p to e of a line of n bytes: "else 1; then 2 if no comma follows"
+abbrev pub uuidStep : UuidParse → ℕ → ℕ → ℕ → Stepped
+uuidStep Up.Invalid p e n = stepped (refuse Ek.InvalidGuid 0) p St.Invalid
+uuidStep (Up.Parsed u) p e n =
+    pick (eqb e n) (stepped (refuse Ek.UnexpectedEnd 0) p St.Invalid) (stepped (Found (Tk.Uuid u)) (e + 1) St.Name)
+
+-- a step before the line's end, by the state; e is the next comma or the end.
+-- "Second field: the name. Then pairs"; "After either, each further call gives 9"; "gives 10 on every call"
+unfoldable pub fieldStep : List ℕ → ℕ → ℕ → State → Stepped
+fieldStep s p e St.Uuid = uuidStep (guidOf (field s p e)) p e (length s)
+fieldStep s p e St.Name = stepped (Found (Tk.Name p (e - p))) (e + 1) St.KeyVal
+fieldStep s p e St.KeyVal = stepped (pairOf (field s p e) p) (e + 1) St.KeyVal
+fieldStep s p e St.Invalid = stepped (refuse Ek.InvalidParserState 0) p St.Invalid
+fieldStep s p e St.NotUtf8 = stepped (refuse Ek.NotUtf8 (validRun s)) p St.NotUtf8
+
+-- the state of a walker that is made over a line
+unfoldable pub startOf : List ℕ → State
+startOf s = pick (isUtf8 s) St.Uuid St.NotUtf8
+
+-- "At or past the line's end: end."
+unfoldable pub stepOf : List ℕ → ℕ → State → Stepped
+stepOf s p st = pick (ltb p (length s)) (fieldStep s p (findFrom (byte ",") s p) st) (stepped End p st)
+
+-- ---- step after step: the answers from p on, before the end, of at most as many steps as the first number says
+unfoldable pub walked : ℕ → List ℕ → ℕ → State → List Answer
+walked zero s p st = []
+walked (suc n) s p st =
+    pick (ltb p (length s)) (stepOf s p st .answer ∷ walked n s (stepOf s p st .pos) (stepOf s p st .state)) []
+
+-- the answers for pairs, the first of them at p
+unfoldable pub pairsAt : ℕ → List (List ℕ) → List Answer
+pairsAt p [] = []
+pairsAt p (f ∷ fs) = pairOf f p ∷ pairsAt (p + length f + 1) fs
+
+-- the answers for the fields after the first comma, the first of them at p: the name, then the pairs
+unfoldable pub namedAt : ℕ → List (List ℕ) → List Answer
+namedAt p [] = []
+namedAt p (f ∷ fs) = Found (Tk.Name p (length f)) ∷ pairsAt (p + length f + 1) fs

@@ -1,0 +1,183 @@
+// The walker over one mapping line: a step from a position and a state to a token or a refusal, the next position and
+// the next state.
+mod pair;
+mod value;
+
+use crate::ev::AxisOrBtn;
+use crate::parser::pair::read_pair;
+use text::bytes::find_byte;
+use text::bytes::same_bytes;
+use text::utf8::is_utf8;
+use text::utf8::valid_up_to;
+use text::uuid::Uuid;
+use text::uuid::UuidParse;
+ghost use mathlib.Core.Path.{_≡_};
+ghost use Prim.Native.Nat.{_≤_, _<_, _^_};
+ghost use lib.ListN.{length};
+ghost use Rattle.line.specs.Walker.{guidOf, uuidStep, fieldStep, startOf, stepOf};
+ghost use Rattle.line.specs.Walker as specs;
+ghost use Rattle.line.specs.Pairs.{refuse};
+
+pub enum State {
+    Uuid,
+    Name,
+    KeyVal,
+    Invalid,
+    // The line is not UTF-8.
+    NotUtf8,
+}
+
+// The half of an axis that is meant.
+pub enum AxisRange {
+    LowerHalf,
+    UpperHalf,
+    Full,
+}
+
+// What a pair says of the ranges; buttons and hats have a full input and no inversion.
+pub struct Ranges {
+    pub input: AxisRange,
+    pub output: AxisRange,
+    pub inverted: bool,
+}
+
+// A text is its start and length in the line.
+pub enum Token {
+    Uuid(Uuid),
+    Platform {
+        start: usize,
+        len: usize,
+    },
+    Name {
+        start: usize,
+        len: usize,
+    },
+    AxisMapping {
+        from: u16,
+        to: AxisOrBtn,
+        ranges: Ranges,
+    },
+    ButtonMapping {
+        from: u16,
+        to: AxisOrBtn,
+        ranges: Ranges,
+    },
+    HatMapping {
+        hat: u16,
+        direction: u16,
+        to: AxisOrBtn,
+        ranges: Ranges,
+    },
+}
+
+pub enum ErrorKind {
+    InvalidGuid,
+    InvalidKeyValPair,
+    InvalidValue,
+    EmptyValue,
+    UnknownAxis,
+    UnknownButton,
+    InvalidParserState,
+    UnexpectedEnd,
+    NotUtf8,
+}
+
+pub struct Error {
+    pub kind: ErrorKind,
+    pub position: usize,
+}
+
+pub enum Answer {
+    Found(Token),
+    Refused(Error),
+    End,
+}
+
+pub struct Stepped {
+    pub answer: Answer,
+    pub pos: usize,
+    pub state: State,
+}
+
+// The state of a walker that is made over a line.
+pub fn start_state(line: &[u8]) -> State
+    ensures { λ r. ⌜ r ≡ startOf (now (line .entry)) ⌝ }
+{
+    if is_utf8(line) {
+        return State::Uuid;
+    }
+    State::NotUtf8
+}
+
+// One step of the walker.
+pub fn step(line: &[u8], pos: usize, state: State) -> Stepped
+    ensures { λ r. ⌜ r ≡ stepOf (now (line .entry)) pos state ⌝ }
+{
+    if line.len() <= pos {
+        return take_step(Answer::End, pos, state);
+    }
+    let comma = find_byte(&line[pos..], b',');
+    field_step(line, pos, pos + comma, state)
+}
+
+fn take_step(answer: Answer, pos: usize, state: State) -> Stepped
+    ensures { λ r. ⌜ r ≡ specs.stepped answer pos state ⌝ }
+{
+    Stepped { answer, pos, state }
+}
+
+fn refused(kind: ErrorKind, position: usize) -> Answer
+    ensures { λ r. ⌜ r ≡ refuse kind position ⌝ }
+{
+    Answer::Refused(Error { kind, position })
+}
+
+// A step at p, before the line's end; e is the place of the next comma, or the end.
+fn field_step(line: &[u8], p: usize, e: usize, state: State) -> Stepped
+    requires { ⌜ (p ≤ e) × (e ≤ length (now line)) ⌝ }
+    ensures { λ r. ⌜ r ≡ fieldStep (now (line .entry)) p e state ⌝ }
+{
+    match state {
+        State::Uuid => uuid_step(read_guid(&line[p..e]), p, e, line.len()),
+        State::Name => {
+            let name = Token::Name {
+                start: p,
+                len: e - p,
+            };
+            take_step(Answer::Found(name), e + 1, State::KeyVal)
+        }
+        State::KeyVal => take_step(read_pair(&line[p..e], p), e + 1, State::KeyVal),
+        State::Invalid => take_step(refused(ErrorKind::InvalidParserState, 0), p, State::Invalid),
+        State::NotUtf8 => take_step(
+            refused(ErrorKind::NotUtf8, valid_up_to(line)),
+            p,
+            State::NotUtf8,
+        ),
+    }
+}
+
+// The first field: `xinput` is the nil UUID.
+fn read_guid(s: &[u8]) -> UuidParse
+    ensures { λ r. ⌜ r ≡ guidOf (now (s .entry)) ⌝ }
+{
+    if same_bytes(s, b"xinput") {
+        return UuidParse::Parsed(Uuid::NIL);
+    }
+    Uuid::parse_str(s)
+}
+
+// The step of the first field, which is from p to e of a line of n bytes.
+fn uuid_step(id: UuidParse, p: usize, e: usize, n: usize) -> Stepped
+    requires { ⌜ (e ≤ n) × (n < 2 ^ 63) ⌝ }
+    ensures { λ r. ⌜ r ≡ uuidStep id p e n ⌝ }
+{
+    match id {
+        UuidParse::Invalid => take_step(refused(ErrorKind::InvalidGuid, 0), p, State::Invalid),
+        UuidParse::Parsed(u) => {
+            if e == n {
+                return take_step(refused(ErrorKind::UnexpectedEnd, 0), p, State::Invalid);
+            }
+            take_step(Answer::Found(Token::Uuid(u)), e + 1, State::Name)
+        }
+    }
+}
