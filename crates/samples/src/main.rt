@@ -1,7 +1,11 @@
 // Executes the cases of data/ against the library and compares each answer with what is expected.
 // A file has groups, `== TITLE`, each of cases, one a line; `#` starts a comment. A mismatch prints its line.
 mod cases;
+mod element_cases;
+mod line_cases;
+mod many_cases;
 mod text_cases;
+mod written;
 
 ghost use Prim.Native.Nat.{_≤_, _<_};
 ghost use lib.ListN.{length};
@@ -48,10 +52,8 @@ fn is_blank(line: &[u8]) -> bool {
     line[0] == b'#'
 }
 
-// Runs one case, by its first word. A kind that nobody knows is wrong.
-fn run_case(line: &[u8]) -> bool {
-    let kind = word(line);
-    let args = rest(line);
+// Runs one case of the text layer, by its first word.
+fn run_text_case(kind: &[u8], args: &[u8]) -> bool {
     if same_bytes(kind, b"utf8") {
         return text_cases::utf8_case(args);
     }
@@ -68,6 +70,51 @@ fn run_case(line: &[u8]) -> bool {
         return text_cases::put_uuid_case(args);
     }
     false
+}
+
+// Runs one case of the element calls.
+fn run_element_case(kind: &[u8], args: &[u8]) -> bool {
+    if same_bytes(kind, b"button") {
+        return element_cases::button_case(args);
+    }
+    if same_bytes(kind, b"axis") {
+        return element_cases::axis_case(args);
+    }
+    if same_bytes(kind, b"element") {
+        return element_cases::element_case(args);
+    }
+    if same_bytes(kind, b"map") {
+        return element_cases::map_case(args);
+    }
+    if same_bytes(kind, b"map-rev") {
+        return element_cases::map_rev_case(args);
+    }
+    run_text_case(kind, args)
+}
+
+// Runs one case, by its first word. A kind that nobody knows is wrong.
+fn run_case(line: &[u8]) -> bool {
+    let kind = word(line);
+    let args = rest(line);
+    if same_bytes(kind, b"walk") {
+        return line_cases::walk_case(args);
+    }
+    if same_bytes(kind, b"walk-hex") {
+        return line_cases::walk_hex_case(args);
+    }
+    if same_bytes(kind, b"read") {
+        return line_cases::read_case(args);
+    }
+    if same_bytes(kind, b"read-hex") {
+        return line_cases::read_hex_case(args);
+    }
+    if same_bytes(kind, b"many") {
+        return many_cases::many_case(args);
+    }
+    if same_bytes(kind, b"many-hex") {
+        return many_cases::many_hex_case(args);
+    }
+    run_element_case(kind, args)
 }
 
 // Counts one case more.
@@ -166,6 +213,10 @@ fn run_file(path: &[u8]) -> Totals {
 }
 
 fn main() {
-    let totals = run_file(b"text.txt");
-    say_totals(totals);
+    let text = run_file(b"text.txt");
+    let line = run_file(b"line.txt");
+    say_totals(Totals {
+        cases: std::num::wrapping_add_u64(text.cases, line.cases),
+        wrong: std::num::wrapping_add_u64(text.wrong, line.wrong),
+    });
 }

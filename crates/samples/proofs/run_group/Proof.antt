@@ -5,14 +5,6 @@ use native.Mathlib.Omega.{arith}
 use lib.ListN.{length}
 use Rattle.samples.proofs.run_group.Statement.{statement}
 use Rattle.samples.proofs.run_group.Tie as tie
-use Rattle.samples.proofs.run_group.Reads as reads
-use Rattle.samples.proofs.run_group.Lts as lts
-use Rattle.samples.proofs.after_line.Reads as after-line-reads
-use Rattle.samples.proofs.counted.Reads as counted-reads
-use Rattle.samples.proofs.is_blank.Reads as is-blank-reads
-use Rattle.samples.proofs.is_title.Reads as is-title-reads
-use Rattle.samples.proofs.line_at.Reads as line-at-reads
-use Rattle.samples.proofs.run_case.Reads as run-case-reads
 
 abbrev Inv-loop : tie.InvT-loop
 Inv-loop list at totals₀ next₀ totals next = at ≤ next
@@ -45,10 +37,12 @@ after-line-requires : tie.Need-after-line-requires Inv-loop μ-loop
 after-line-requires c κs = tt
 
 loop-less : tie.Need-loop-less Inv-loop μ-loop
-loop-less c = omega (arith, c .after-line .ensures (c .before .before .before .before .before .before .loop-test .taken))
+loop-less c =
+    omega (arith, c .after-line .ensures (c .before .before .before .before .before .before .loop-test .taken))
 
 loop-again : tie.Need-loop-again Inv-loop μ-loop
-loop-again c = omega (arith, c .after-line .ensures (c .before .before .before .before .before .before .loop-test .taken))
+loop-again c =
+    omega (arith, c .after-line .ensures (c .before .before .before .before .before .before .loop-test .taken))
 
 returns-2 : tie.Need-returns-2 Inv-loop μ-loop
 returns-2 c = omega arith

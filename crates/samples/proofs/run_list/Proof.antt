@@ -5,16 +5,6 @@ use native.Mathlib.Omega.{arith}
 use lib.ListN.{length}
 use Rattle.samples.proofs.run_list.Statement.{statement}
 use Rattle.samples.proofs.run_list.Tie as tie
-use Rattle.samples.proofs.run_list.Reads as reads
-use Rattle.samples.proofs.run_list.Lts as lts
-use Rattle.samples.proofs.after_line.Reads as after-line-reads
-use Rattle.samples.proofs.cases.rest.Reads as rest-reads
-use Rattle.samples.proofs.is_title.Reads as is-title-reads
-use Rattle.samples.proofs.line_at.Reads as line-at-reads
-use Rattle.samples.proofs.run_group.Reads as run-group-reads
-use Rattle.samples.proofs.say.Reads as say-reads
-use Rattle.samples.proofs.say_totals.Reads as say-totals-reads
-use Rattle.std.proofs.num.wrapping_add_u64.Reads as wrapping-add-u64-reads
 
 abbrev Inv-loop : tie.InvT-loop
 Inv-loop list cases₀ wrong₀ at₀ t9 cases wrong at = Unit {0}
@@ -59,13 +49,15 @@ wrapping-add-u64-requires-2 : tie.Need-wrapping-add-u64-requires-2 Inv-loop μ-l
 wrapping-add-u64-requires-2 c κs = tt
 
 loop-less : tie.Need-loop-less Inv-loop μ-loop
-loop-less c = omega (arith, c .before .before .before .before .before .before .before .before .before .before .before .after-line .ensures (c .before .before .before .before .before .before .before .before .before .before .before .before .before .loop-test .taken))
+loop-less c =
+    omega (arith, c .before .before .before .before .before .before .before .before .before .before .before .after-line .ensures (c .before .before .before .before .before .before .before .before .before .before .before .before .before .loop-test .taken))
 
 loop-again : tie.Need-loop-again Inv-loop μ-loop
 loop-again c = tt
 
 loop-less-2 : tie.Need-loop-less-2 Inv-loop μ-loop
-loop-less-2 c = omega (arith, c .before .before .after-line .ensures (c .before .before .before .before .loop-test .taken))
+loop-less-2 c =
+    omega (arith, c .before .before .after-line .ensures (c .before .before .before .before .loop-test .taken))
 
 loop-again-2 : tie.Need-loop-again-2 Inv-loop μ-loop
 loop-again-2 c = tt

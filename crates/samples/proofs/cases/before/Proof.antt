@@ -6,9 +6,6 @@ use lib.Seq.{length-take-le}
 use borrow.Author.Needs.{needs}
 use Rattle.samples.proofs.cases.before.Statement.{statement}
 use Rattle.samples.proofs.cases.before.Tie as tie
-use Rattle.samples.proofs.cases.before.Reads as reads
-use Rattle.samples.proofs.cases.before.Lts as lts
-use Rattle.text.proofs.bytes.find_byte.Reads as find-byte-reads
 
 find-byte-requires : tie.Need-find-byte-requires
 find-byte-requires c κs = search needs

@@ -10,9 +10,6 @@ use lib.Seq.{length-take-le}
 use Rattle.io.specs.Counts.{Counts}
 use Rattle.samples.proofs.cases.unhex.Statement.{statement}
 use Rattle.samples.proofs.cases.unhex.Tie as tie
-use Rattle.samples.proofs.cases.unhex.Reads as reads
-use Rattle.samples.proofs.cases.unhex.Lts as lts
-use Rattle.samples.proofs.cases.byte_at.Reads as byte-at-reads
 
 abbrev Inv-loop : tie.InvT-loop
 Inv-loop s out₀ n₀ out n = (n ≤ length out) × (length out ≡ length out₀)

@@ -1,0 +1,224 @@
+// Cases of the walker and of reading. In a case the first field `U` stands for 32 zeros.
+// A token is written `U<low half>`, `N<start>+<len>`, `P<start>+<len>`, or `A<axis>`, `B<button>`, `H<hat>.<direction>`
+// with `><element>`, the input and the output range, `F`, `U` or `L`, and `~` where inverted; a refusal
+// `!<number>@<place>`; the end `E`; a map `<name start>+<name len>;<hat flags>;<code>=<element>,..`.
+use crate::cases::before;
+use crate::cases::rest;
+use crate::cases::unhex;
+use crate::cases::word;
+use crate::written::Text;
+use crate::written::written;
+use line::ev::AxisOrBtn;
+use line::mapping::Mapping;
+use line::parser::Answer;
+use line::parser::AxisRange;
+use line::parser::Error;
+use line::parser::ErrorKind;
+use line::parser::Ranges;
+use line::parser::Token;
+use line::reading::ParseSdlMappingError;
+use line::reading::SdlAnswer;
+use line::reading::SdlMapping;
+use line::reading::parse_sdl_mapping;
+use text::bytes::find_byte;
+use text::bytes::same_bytes;
+
+const NIL: [u8; 32] = *b"00000000000000000000000000000000";
+
+const BUTTONS: [u32; 2] = [0x10130, 0x10131];
+
+const AXES: [u32; 1] = [0x30000];
+
+// The line that a case spells.
+pub fn spelled(s: &[u8]) -> Text {
+    if same_bytes(before(s, b','), b"U") {
+        let n = find_byte(s, b',');
+        return Text::new().text(&NIL).text(after(s, n));
+    }
+    Text::new().text(s)
+}
+
+fn after(s: &[u8], n: usize) -> &[u8] {
+    if n < s.len() {
+        return &s[n..];
+    }
+    &s[..0]
+}
+
+fn range(r: AxisRange) -> u8 {
+    match r {
+        AxisRange::LowerHalf => b'L',
+        AxisRange::UpperHalf => b'U',
+        AxisRange::Full => b'F',
+    }
+}
+
+fn target(out: Text, to: AxisOrBtn, ranges: Ranges) -> Text {
+    let input = ranges.input;
+    let output = ranges.output;
+    let said = out.byte(b'>')
+        .element(to)
+        .byte(range(input))
+        .byte(range(output));
+    if ranges.inverted {
+        return said.byte(b'~');
+    }
+    said
+}
+
+fn part(out: Text, start: usize, len: usize) -> Text {
+    out.number(start).byte(b'+').number(len)
+}
+
+fn token(out: Text, t: Token) -> Text {
+    match t {
+        Token::Uuid(u) => out.byte(b'U').hex(u.low),
+        Token::Platform { start, len } => part(out.byte(b'P'), start, len),
+        Token::Name { start, len } => part(out.byte(b'N'), start, len),
+        Token::AxisMapping { from, to, ranges } => {
+            target(out.byte(b'A').number(from as usize), to, ranges)
+        }
+        Token::ButtonMapping { from, to, ranges } => {
+            target(out.byte(b'B').number(from as usize), to, ranges)
+        }
+        Token::HatMapping {
+            hat,
+            direction,
+            to,
+            ranges,
+        } => {
+            let said = out.byte(b'H').number(hat as usize).byte(b'.');
+            target(said.number(direction as usize), to, ranges)
+        }
+    }
+}
+
+fn kind_number(kind: ErrorKind) -> usize {
+    match kind {
+        ErrorKind::InvalidGuid => 1,
+        ErrorKind::UnexpectedEnd => 2,
+        ErrorKind::InvalidKeyValPair => 3,
+        ErrorKind::InvalidValue => 4,
+        ErrorKind::UnknownAxis => 5,
+        ErrorKind::UnknownButton => 6,
+        ErrorKind::EmptyValue => 8,
+        ErrorKind::InvalidParserState => 9,
+        ErrorKind::NotUtf8 => 10,
+    }
+}
+
+fn placed(out: Text, number: usize, place: usize) -> Text {
+    out.byte(b'!').number(number).byte(b'@').number(place)
+}
+
+fn refused(out: Text, e: Error) -> Text {
+    let kind = e.kind;
+    placed(out, kind_number(kind), e.position)
+}
+
+fn answered(out: Text, answer: Answer) -> Text {
+    match answer {
+        Answer::Found(t) => token(out, t),
+        Answer::Refused(e) => refused(out, e),
+        Answer::End => out.byte(b'E'),
+    }
+}
+
+// So many steps, with `/` after each.
+fn walk(line: &[u8], steps: usize) -> Text {
+    let mut out = Text::new();
+    let mut pos: usize = 0;
+    let mut state = line::parser::start_state(line);
+    let mut left = steps;
+    while 0 < left {
+        let next = line::parser::step(line, pos, state);
+        let answer = next.answer;
+        out = answered(out, answer).byte(b'/');
+        pos = next.pos;
+        state = next.state;
+        left -= 1;
+    }
+    out
+}
+
+// The slashes in a word.
+fn slashes(s: &[u8]) -> usize {
+    let mut n: usize = 0;
+    let mut i = 0;
+    while i < s.len() {
+        if s[i] == b'/' {
+            n = std::num::wrapping_add_usize(n, 1);
+        }
+        i += 1;
+    }
+    n
+}
+
+// `walk ANSWERS TEXT`: a step for each slash.
+pub fn walk_case(args: &[u8]) -> bool {
+    let line = spelled(rest(args));
+    let bytes = line.bytes;
+    let len = line.len;
+    walk(written(&bytes, len), slashes(word(args))).is(word(args))
+}
+
+// `walk-hex ANSWERS BYTES`
+pub fn walk_hex_case(args: &[u8]) -> bool {
+    let mut space = [0u8; 512];
+    let n = unhex(rest(args), &mut space);
+    walk(&space[..n], slashes(word(args))).is(word(args))
+}
+
+fn entries(out: Text, map: Mapping) -> Text {
+    let mut said = out;
+    let mut i: usize = 0;
+    while i < 256 {
+        if map.count <= i {
+            return said;
+        }
+        let e = map.entries[i];
+        let element = e.element;
+        said = said.hex(e.code.0 as u64)
+            .byte(b'=')
+            .element(element)
+            .byte(b',');
+        i += 1;
+    }
+    said
+}
+
+pub fn error(out: Text, e: ParseSdlMappingError) -> Text {
+    match e {
+        ParseSdlMappingError::UnknownHatDirection => placed(out, 7, 0),
+        ParseSdlMappingError::ParseError(error) => refused(out, error),
+        ParseSdlMappingError::TooManyCodes { position } => placed(out, 11, position),
+        ParseSdlMappingError::ListTooLong => out.byte(b'!').number(12),
+    }
+}
+
+// A refused reading has the empty map too.
+fn said(reading: SdlMapping) -> Text {
+    let answer = reading.answer;
+    let map = reading.map;
+    let out = match answer {
+        SdlAnswer::Accepted => Text::new(),
+        SdlAnswer::Refused(e) => error(Text::new(), e).byte(b';'),
+    };
+    let name = part(out, map.name_start, map.name_len).byte(b';');
+    entries(name.number(map.hats_mapped as usize).byte(b';'), map)
+}
+
+// `read ANSWER TEXT`, with buttons 10130 and 10131 and axis 30000
+pub fn read_case(args: &[u8]) -> bool {
+    let line = spelled(rest(args));
+    let bytes = line.bytes;
+    let len = line.len;
+    said(parse_sdl_mapping(written(&bytes, len), &BUTTONS, &AXES)).is(word(args))
+}
+
+// `read-hex ANSWER BYTES`
+pub fn read_hex_case(args: &[u8]) -> bool {
+    let mut space = [0u8; 512];
+    let n = unhex(rest(args), &mut space);
+    said(parse_sdl_mapping(&space[..n], &BUTTONS, &AXES)).is(word(args))
+}

@@ -1,0 +1,85 @@
+// A text of at most 4096 bytes that is written piece by piece: what the library answered, or a line of a case.
+use line::ev::AxisOrBtn;
+use text::bytes::same_bytes;
+
+const ROOM: usize = 4096;
+
+pub struct Text {
+    pub bytes: [u8; ROOM],
+    pub len: usize,
+}
+
+// The first bytes of an array, or all where there are fewer.
+pub fn written(bytes: &[u8], len: usize) -> &[u8] {
+    if len <= bytes.len() {
+        return &bytes[..len];
+    }
+    bytes
+}
+
+impl Text {
+    pub fn new() -> Text {
+        Text {
+            bytes: [0u8; ROOM],
+            len: 0,
+        }
+    }
+
+    // One byte more; none past the end.
+    pub fn byte(self, b: u8) -> Text {
+        let n = self.len;
+        if n < ROOM {
+            let mut out = self;
+            out.bytes[n] = b;
+            out.len = n + 1;
+            return out;
+        }
+        self
+    }
+
+    pub fn text(self, s: &[u8]) -> Text {
+        let mut out = self;
+        let mut i = 0;
+        while i < s.len() {
+            out = out.byte(s[i]);
+            i += 1;
+        }
+        out
+    }
+
+    pub fn number(self, n: usize) -> Text {
+        let mut digits = [0u8; 20];
+        let len = io::decimal(n as u64, &mut digits);
+        self.text(&digits[..len])
+    }
+
+    pub fn hex(self, n: u64) -> Text {
+        let mut digits = [0u8; 16];
+        let len = io::hex(n, 1, &mut digits);
+        self.text(&digits[..len])
+    }
+
+    // `b16` for a button, `a8` for an axis.
+    pub fn element(self, e: AxisOrBtn) -> Text {
+        match e {
+            AxisOrBtn::Axis(a) => self.byte(b'a').number(a.0 as usize),
+            AxisOrBtn::Btn(b) => self.byte(b'b').number(b.0 as usize),
+        }
+    }
+
+    // Whether it is the expected text; else it is printed.
+    pub fn is(self, expected: &[u8]) -> bool {
+        let bytes = self.bytes;
+        let len = self.len;
+        compare(written(&bytes, len), expected)
+    }
+}
+
+fn compare(answer: &[u8], expected: &[u8]) -> bool {
+    if same_bytes(answer, expected) {
+        return true;
+    }
+    io::write_all(1, b"\n  answer: ");
+    io::write_all(1, answer);
+    false
+}
