@@ -31,6 +31,7 @@ use Rattle.line.specs.Values.{axisOf, valueOf}
 use Rattle.line.specs.Pairs.{halfOf, rangesOf, keyedOf, pairOf}
 use Rattle.line.specs.Puts.{listed, putsOf}
 use Rattle.line.specs.Effects.{does, answerEffect, effectOf}
+use Rattle.line.proofs.TableLaws.{both-T}
 use Rattle.line.proofs.CountLaws.{count-append, count-none}
 use Rattle.line.proofs.JoinLaws.{Free, count-one, take-before, drop-after}
 
@@ -88,10 +89,6 @@ unfolding allNamed names countOf halfOf same keyRow rowFrom axesSdl axes element
 axes-named = tt
 
 -- ---- what the test says of each
-both-T : (a b : Bool) → T (both a b) → T a × T b
-both-T true b t = (tt, t)
-both-T false b t = absurd t
-
 full-is : (h : AxisRange) → T (isFull h) → h ≡ Ar.Full
 full-is Ar.Full t = refl
 full-is Ar.UpperHalf t = absurd t

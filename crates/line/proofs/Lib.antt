@@ -12,6 +12,7 @@ pub mod CountLaws
 pub mod FieldLaws
 pub mod WalkLaws
 pub mod ReadingLaws
+pub mod RefusalLaws
 -- what a built line reads as
 pub mod PairLaws
 pub mod FoldLaws

@@ -10,21 +10,17 @@ use lib.ListN.{length, getD}
 use Rattle.text.specs.Bytes.{both}
 use Rattle.line.specs.Tables.{every}
 
-both-left : (a b : Bool) → T (both a b) → T a
-both-left true b t = tt
-both-left false b t = t
-
-both-right : (a b : Bool) → T (both a b) → T b
-both-right true b t = t
-both-right false b t = absurd t
+pub both-T : (a b : Bool) → T (both a b) → T a × T b
+both-T true b t = (tt, t)
+both-T false b t = absurd t
 
 module _ {A : Type 0} (f : ℕ → A → Bool) (d : A) where
   every-from : (xs : List A) (i : ℕ) → T (every f i xs) → (k : ℕ) → k < length xs → T (f (i + k) (getD xs k d))
   every-from [] i t k h = absurd (omega arith)
-  every-from (x ∷ xs) i t zero h = rw add-zero (both-left (f i x) (every f (suc i) xs) t)
+  every-from (x ∷ xs) i t zero h = rw add-zero (both-T (f i x) (every f (suc i) xs) t .0)
   every-from (x ∷ xs) i t (suc k) h =
       let e : i + suc k ≡ suc i + k = omega arith in
-      rw e (every-from xs (suc i) (both-right (f i x) (every f (suc i) xs) t) k (omega arith))
+      rw e (every-from xs (suc i) (both-T (f i x) (every f (suc i) xs) t .1) k (omega arith))
 
   pub every-at : (xs : List A) → T (every f 0 xs) → (k : ℕ) → k < length xs → T (f k (getD xs k d))
   every-at xs t k h = let e : 0 + k ≡ k = omega arith in rw e at (every-from xs 0 t k h)

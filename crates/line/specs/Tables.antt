@@ -23,8 +23,8 @@ abbrev pub ROWS : ℕ
 ROWS = 35
 
 -- the longest name, and the bytes of a row
-abbrev pub NAME_MAX : ℕ
-NAME_MAX = 13
+abbrev pub IDENT_MAX : ℕ
+IDENT_MAX = 13
 
 -- `AXES_SDL`, row by row
 unfoldable pub axesSdl : List (List ℕ)
@@ -102,7 +102,7 @@ asAxis k = Axis (record { 0 = k })
 
 -- as the program hands it out: the name, filled with zeros, and its length
 abbrev pub padded : List ℕ → List ℕ
-padded n = n ++ replicate (NAME_MAX - length n) 0
+padded n = n ++ replicate (IDENT_MAX - length n) 0
 
 abbrev pub named : List ℕ → Ident
 named n = record { name = padded n; len = length n }

@@ -12,7 +12,7 @@ ghost use Rattle.line.specs.Inner.{untilZero};
 const ROWS: usize = 35;
 
 // The longest name.
-pub const NAME_MAX: usize = 13;
+pub const IDENT_MAX: usize = 13;
 
 // The element of a key, if it has one.
 pub enum KeyElement {
@@ -22,7 +22,7 @@ pub enum KeyElement {
 
 // The name of an element: the first `len` bytes.
 pub struct Ident {
-    pub name: [u8; NAME_MAX],
+    pub name: [u8; IDENT_MAX],
     pub len: usize,
 }
 
@@ -40,7 +40,7 @@ enum Order {
 }
 
 // The names in byte order, each ended by 0 where it is shorter than the row.
-pub const AXES_SDL: [[u8; NAME_MAX]; ROWS] = [
+pub const AXES_SDL: [[u8; IDENT_MAX]; ROWS] = [
     *b"a\0\0\0\0\0\0\0\0\0\0\0\0",
     *b"b\0\0\0\0\0\0\0\0\0\0\0\0",
     *b"back\0\0\0\0\0\0\0\0\0",
@@ -136,7 +136,7 @@ pub fn ident_of(e: AxisOrBtn) -> Ident
     match row {
         KeyRow::At(i) => ident_at(i),
         KeyRow::Nowhere => Ident {
-            name: [0; NAME_MAX],
+            name: [0; IDENT_MAX],
             len: 0,
         },
     }
@@ -168,11 +168,11 @@ fn find_key(key: &[u8]) -> KeyRow
 }
 
 // How the name in `row` compares with `key`.
-fn order_of(row: [u8; NAME_MAX], key: &[u8]) -> Order
+fn order_of(row: [u8; IDENT_MAX], key: &[u8]) -> Order
     ensures { λ r. ⌜ r ≡ byteOrder (untilZero row) (now (key .entry)) ⌝ }
 {
     let mut j = 0;
-    while j < NAME_MAX {
+    while j < IDENT_MAX {
         let b = row[j];
         if b == 0 {
             if j < key.len() {
@@ -192,7 +192,7 @@ fn order_of(row: [u8; NAME_MAX], key: &[u8]) -> Order
         }
         j += 1;
     }
-    if NAME_MAX < key.len() {
+    if IDENT_MAX < key.len() {
         return Order::Less;
     }
     Order::Equal
@@ -230,11 +230,11 @@ fn ident_at(i: usize) -> Ident
 }
 
 // How many bytes stand before the first 0.
-fn name_len(row: [u8; NAME_MAX]) -> usize
+fn name_len(row: [u8; IDENT_MAX]) -> usize
     ensures { λ r. ⌜ r ≡ length (untilZero row) ⌝ }
 {
     let mut j = 0;
-    while j < NAME_MAX {
+    while j < IDENT_MAX {
         if row[j] == 0 {
             return j;
         }

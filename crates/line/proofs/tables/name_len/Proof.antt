@@ -4,18 +4,18 @@ use Prim.Native.Nat.{_≤_, _-_, _+_}
 use native.Mathlib.Omega.{arith}
 use borrow.Author.Needs.{needs}
 use lib.ListN.{length, drop}
-use Rattle.line.specs.Tables.{NAME_MAX}
+use Rattle.line.specs.Tables.{IDENT_MAX}
 use Rattle.line.specs.Inner.{untilZero}
 use Rattle.line.proofs.KeyLaws.{until-end, until-more, until-full}
 use Rattle.line.proofs.tables.name_len.Statement.{statement}
 use Rattle.line.proofs.tables.name_len.Tie as tie
 
 abbrev Inv-loop : tie.InvT-loop
-Inv-loop row j₀ j = (length row ≡ NAME_MAX) × (j ≤ NAME_MAX) × (j + length (untilZero (drop j row))
+Inv-loop row j₀ j = (length row ≡ IDENT_MAX) × (j ≤ IDENT_MAX) × (j + length (untilZero (drop j row))
     ≡ length (untilZero row))
 
 abbrev μ-loop : tie.MeasureT-loop
-μ-loop row j₀ j = NAME_MAX - j
+μ-loop row j₀ j = IDENT_MAX - j
 
 loop-holds : tie.Need-loop-holds Inv-loop μ-loop
 loop-holds c = (search needs, omega arith, omega arith)

@@ -4,7 +4,7 @@ use Prim.Native.Nat.{_≤_, _-_}
 use native.Mathlib.Omega.{arith}
 use borrow.Author.Needs.{needs}
 use lib.ListN.{length}
-use Rattle.line.specs.Tables.{NAME_MAX, byteOrder}
+use Rattle.line.specs.Tables.{IDENT_MAX, byteOrder}
 use Rattle.line.specs.Inner.{untilZero}
 use Rattle.line.proofs.KeyLaws.{rest, ends-less, ends-equal, full-less, full-equal, key-ends, byte-less}
 use Rattle.line.proofs.KeyLaws.{byte-greater, byte-same}
@@ -13,10 +13,10 @@ use Rattle.line.proofs.tables.order_of.Tie as tie
 
 abbrev Inv-loop : tie.InvT-loop
 Inv-loop key row j₀ j =
-    (length row ≡ NAME_MAX) × (j ≤ NAME_MAX) × (j ≤ length key) × (rest row key j ≡ byteOrder (untilZero row) key)
+    (length row ≡ IDENT_MAX) × (j ≤ IDENT_MAX) × (j ≤ length key) × (rest row key j ≡ byteOrder (untilZero row) key)
 
 abbrev μ-loop : tie.MeasureT-loop
-μ-loop key row j₀ j = NAME_MAX - j
+μ-loop key row j₀ j = IDENT_MAX - j
 
 loop-holds : tie.Need-loop-holds Inv-loop μ-loop
 loop-holds c = (search needs, omega arith, omega arith, refl)
