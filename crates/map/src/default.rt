@@ -1,0 +1,160 @@
+// The default map of a pad: its codes by their usual meaning.
+use crate::error::MappingAnswer;
+use crate::error::MappingError;
+use crate::lists::in_list;
+use crate::lists::lists_fit;
+use line::ev::Axis;
+use line::ev::AxisOrBtn;
+use line::ev::Button;
+use line::ev::Code;
+use line::ev::nec;
+use line::mapping::Entry;
+use line::mapping::Mapping;
+ghost use mathlib.Core.Path.{_≡_};
+ghost use Prim.Native.Nat.{_<_};
+ghost use lib.ListN.{getD};
+ghost use Rattle.line.specs.Maps.{unusedEntry, toMap};
+ghost use Rattle.map.specs.Default.{rows, rowCount, inItsList, keptOf, keptMap, defaultOf};
+
+const ROWS: usize = 31;
+
+// The codes, and the element of each beside it.
+const CODES: [Code; ROWS] = [
+    nec::BTN_SOUTH,
+    nec::BTN_EAST,
+    nec::BTN_C,
+    nec::BTN_NORTH,
+    nec::BTN_WEST,
+    nec::BTN_Z,
+    nec::BTN_LT,
+    nec::BTN_RT,
+    nec::BTN_LT2,
+    nec::BTN_RT2,
+    nec::BTN_SELECT,
+    nec::BTN_START,
+    nec::BTN_MODE,
+    nec::BTN_LTHUMB,
+    nec::BTN_RTHUMB,
+    nec::BTN_DPAD_UP,
+    nec::BTN_DPAD_DOWN,
+    nec::BTN_DPAD_LEFT,
+    nec::BTN_DPAD_RIGHT,
+    nec::AXIS_LSTICKX,
+    nec::AXIS_LSTICKY,
+    nec::AXIS_LEFTZ,
+    nec::AXIS_RSTICKX,
+    nec::AXIS_RSTICKY,
+    nec::AXIS_RIGHTZ,
+    nec::AXIS_DPADX,
+    nec::AXIS_DPADY,
+    nec::AXIS_LT,
+    nec::AXIS_RT,
+    nec::AXIS_LT2,
+    nec::AXIS_RT2,
+];
+
+const ELEMENTS: [AxisOrBtn; ROWS] = [
+    AxisOrBtn::Btn(Button::South),
+    AxisOrBtn::Btn(Button::East),
+    AxisOrBtn::Btn(Button::C),
+    AxisOrBtn::Btn(Button::North),
+    AxisOrBtn::Btn(Button::West),
+    AxisOrBtn::Btn(Button::Z),
+    AxisOrBtn::Btn(Button::LeftTrigger),
+    AxisOrBtn::Btn(Button::RightTrigger),
+    AxisOrBtn::Btn(Button::LeftTrigger2),
+    AxisOrBtn::Btn(Button::RightTrigger2),
+    AxisOrBtn::Btn(Button::Select),
+    AxisOrBtn::Btn(Button::Start),
+    AxisOrBtn::Btn(Button::Mode),
+    AxisOrBtn::Btn(Button::LeftThumb),
+    AxisOrBtn::Btn(Button::RightThumb),
+    AxisOrBtn::Btn(Button::DPadUp),
+    AxisOrBtn::Btn(Button::DPadDown),
+    AxisOrBtn::Btn(Button::DPadLeft),
+    AxisOrBtn::Btn(Button::DPadRight),
+    AxisOrBtn::Axis(Axis::LeftStickX),
+    AxisOrBtn::Axis(Axis::LeftStickY),
+    AxisOrBtn::Axis(Axis::LeftZ),
+    AxisOrBtn::Axis(Axis::RightStickX),
+    AxisOrBtn::Axis(Axis::RightStickY),
+    AxisOrBtn::Axis(Axis::RightZ),
+    AxisOrBtn::Axis(Axis::DPadX),
+    AxisOrBtn::Axis(Axis::DPadY),
+    AxisOrBtn::Btn(Button::LeftTrigger),
+    AxisOrBtn::Btn(Button::RightTrigger),
+    AxisOrBtn::Btn(Button::LeftTrigger2),
+    AxisOrBtn::Btn(Button::RightTrigger2),
+];
+
+// A refused one has the empty map.
+pub struct DefaultMap {
+    pub answer: MappingAnswer,
+    pub map: Mapping,
+}
+
+// A row of the two tables.
+fn row(i: usize) -> Entry
+    requires { ⌜ i < rowCount ⌝ }
+    ensures { λ r. ⌜ r ≡ getD rows i unusedEntry ⌝ }
+{
+    Entry {
+        code: CODES[i],
+        element: ELEMENTS[i],
+    }
+}
+
+// The code of a button is sought among the buttons, that of an axis among the axes.
+fn in_its_list(buttons: &[u32], axes: &[u32], code: Code) -> bool
+    ensures { λ r. ⌜ r ≡ inItsList (now (buttons .entry)) (now (axes .entry)) code ⌝ }
+{
+    if code.0 < nec::AXIS_LSTICKX.0 {
+        return in_list(buttons, code);
+    }
+    in_list(axes, code)
+}
+
+// East stays even where the list lacks it.
+fn kept(buttons: &[u32], axes: &[u32], code: Code) -> bool
+    ensures { λ r. ⌜ r ≡ keptOf (now (buttons .entry)) (now (axes .entry)) code ⌝ }
+{
+    if code.0 == nec::BTN_EAST.0 {
+        return true;
+    }
+    in_its_list(buttons, axes, code)
+}
+
+// The map of the rows that are kept.
+fn kept_map(buttons: &[u32], axes: &[u32]) -> Mapping
+    ensures { λ r. ⌜ r ≡ toMap (keptMap (now (buttons .entry)) (now (axes .entry))) ⌝ }
+{
+    let mut map = Mapping::new();
+    map.is_default = true;
+    let mut i: usize = 0;
+    while i < ROWS {
+        let e = row(i);
+        if kept(buttons, axes, e.code) {
+            let a = map.put(e);
+            map = a.map;
+        }
+        i += 1;
+    }
+    map
+}
+
+// The default map.
+pub fn default(buttons: &[u32], axes: &[u32]) -> DefaultMap
+    ensures { λ r. ⌜ r ≡ defaultOf (now (buttons .entry)) (now (axes .entry)) ⌝ }
+{
+    if lists_fit(buttons, axes) {
+        let map = kept_map(buttons, axes);
+        return DefaultMap {
+            answer: MappingAnswer::Accepted,
+            map,
+        };
+    }
+    DefaultMap {
+        answer: MappingAnswer::Refused(MappingError::ListTooLong),
+        map: Mapping::new(),
+    }
+}
