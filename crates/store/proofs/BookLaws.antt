@@ -1,0 +1,112 @@
+-- Each call of the book keeps the lines such that the buffers can hold them.
+-- Assumes nothing.
+use mathlib.Core.Bool.{Bool, true, false, not}
+use mathlib.Core.List.{List, [], _∷_}
+use mathlib.Core.Path.{_≡_, refl, ap}
+use Prim.Native.Nat.{ℕ, suc, _≤_, zero-le}
+use lib.Dec.{ltb}
+use lib.ListN.{length}
+use borrow.Author.Tests.{ltb-false}
+use Rattle.text.specs.Bytes.{pick}
+use Rattle.text.specs.Utf8.{isUtf8, validRun}
+use Rattle.text.specs.declared.uuid.Uuid.{Uuid}
+use Rattle.text.specs.declared.uuid.UuidParse.{UuidParse}
+use Rattle.text.specs.declared.uuid.UuidParse.the-variants.{Parsed, Invalid}
+use Rattle.store.specs.Book.{turn, noRoom, room, under, Reached, after, stopped, reachWanted, reach, insertTurn}
+use Rattle.store.specs.Book.{onReached, insertLines, bookInsert, Attempt, refused, files, Saving, bookAttempt}
+use Rattle.store.specs.Book.{Call, clear, insert, save, bookTurn, runBook}
+use Rattle.store.specs.Guarantee.{Builds}
+use Rattle.store.specs.Held.{Held, file, distinct}
+use Rattle.map.specs.Bounds.{lineMax}
+use Rattle.store.specs.Layout.{Shape, records, texts}
+use Rattle.store.specs.Lines.{linesOf, wanted}
+use Rattle.store.proofs.DecodeLaws.{Good}
+use Rattle.store.proofs.HeldLaws.{distinct-file, shapes-file}
+use Rattle.store.proofs.RoomLaws.{room-index, room-text}
+use Rattle.store.proofs.WantedLaws.{wanted-small, wanted-some}
+use Rattle.store.specs.declared.calls.Answer.the-variants as A
+
+pub wanted-shape : (l : List ℕ) (u : Uuid) → wanted l ≡ Parsed u → length l ≤ lineMax → Shape (under u l)
+wanted-shape l u e q = record { key = wanted-small l u e; some = wanted-some l u e; most = q }
+
+module _ (n m : ℕ) where
+  pub keeps-file : (h : Held) (hs : List Held) → Good n m hs → Shape h → room n m h hs ≡ true → Good n m (file h hs)
+  keeps-file h hs g s e = record {
+    shapes = shapes-file h hs (g .shapes) s;
+    once = distinct-file h hs (g .once);
+    index = room-index n m h hs e;
+    text = room-text n m h hs e;
+  }
+
+  pub keeps-none : Good n m []
+  unfolding texts distinct records
+  keeps-none = record { shapes = tt; once = refl; index = zero-le; text = zero-le }
+
+  -- a line that is reached, whatever it does, keeps them
+  abbrev pub Kept : Reached → Type 0
+  Kept (after hs) = Good n m hs
+  Kept (stopped e) = Unit {0}
+
+  pub keeps-reach : (hs : List Held) → Good n m hs → (l : List ℕ) → Kept (reach n m hs l)
+  unfolding reach
+  keeps-reach hs g l = go (wanted l) refl
+    where
+      fits : (u : Uuid) (b : Bool) → noRoom n m (under u l) hs ≡ b → Shape (under u l)
+          → Kept (pick b (stopped A.NoRoom) (after (file (under u l) hs)))
+      fits u true e s = tt
+      fits u false e s = keeps-file (under u l) hs g s (ap not e)
+
+      short : (u : Uuid) (b : Bool) → ltb lineMax (length l) ≡ b → wanted l ≡ Parsed u
+          → Kept (pick b (stopped A.LineTooLong)
+          (pick (noRoom n m (under u l) hs) (stopped A.NoRoom) (after (file (under u l) hs))))
+      short u true e w = tt
+      short u false e w = fits u (noRoom n m (under u l) hs) refl (wanted-shape l u w (ltb-false lineMax (length l) e))
+
+      go : (p : UuidParse) → wanted l ≡ p → Kept (reachWanted n m hs l p)
+      go Invalid w = g
+      go (Parsed u) w = short u (ltb lineMax (length l)) refl w
+
+  keeps-lines : (ls : List (List ℕ)) (hs : List Held) (k : ℕ) → Good n m hs → Good n m (insertLines n m hs k ls .held)
+  unfolding insertLines
+  keeps-lines [] hs k g = g
+  keeps-lines (l ∷ ls) hs k g =
+      go (reach n m hs l) (keeps-reach hs g l) (λ (hs′ : List Held) (g′ : Good n m hs′). keeps-lines ls hs′ (suc k) g′)
+    where
+      go : (r : Reached) → Kept r → ((hs′ : List Held) → Good n m hs′ → Good n m (insertLines n m hs′ (suc k) ls .held))
+          → Good n m (onReached r (λ a. insertTurn hs a k) (λ hs′. insertLines n m hs′ (suc k) ls) .held)
+      go (after hs′) q ih = ih hs′ q
+      go (stopped a) q ih = g
+
+  pub keeps-insert : (hs : List Held) → Good n m hs → (s : List ℕ) → Good n m (bookInsert n m hs s .held)
+  unfolding bookInsert
+  keeps-insert hs g s = go (isUtf8 s)
+    where
+      go : (b : Bool) → Good n m (pick b (insertLines n m hs 0 (linesOf s))
+          (insertTurn hs (A.NotUtf8 (validRun s)) 0) .held)
+      go true = keeps-lines (linesOf s) hs 0 g
+      go false = g
+
+  module _ (S : Saving) (owed : Builds S) where
+    keeps-save : (hs : List Held) → Good n m hs → (a : S .Args)
+        → Good n m (bookAttempt (S .full) n m hs (S .attempt a) .held)
+    keeps-save hs g a = go (S .attempt a) refl
+      where
+        fits : (h : Held) (v : S .Value) (b : Bool) → noRoom n m h hs ≡ b → Shape h
+            → Good n m (pick b (turn (S .full) hs) (turn v (file h hs)) .held)
+        fits h v true e s = g
+        fits h v false e s = keeps-file h hs g s (ap not e)
+
+        go : (x : Attempt (S .Value)) → S .attempt a ≡ x → Good n m (bookAttempt (S .full) n m hs x .held)
+        go (refused v) q = g
+        go (files h v) q = fits h v (noRoom n m h hs) refl (owed .shape a h v q)
+
+    pub keeps-turn : (hs : List Held) → Good n m hs → (x : Call S) → Good n m (bookTurn n m hs x .held)
+    unfolding bookTurn
+    keeps-turn hs g clear = keeps-none
+    keeps-turn hs g (insert s) = keeps-insert hs g s
+    keeps-turn hs g (save a) = keeps-save hs g a
+
+    pub keeps-run : (xs : List (Call S)) (hs : List Held) → Good n m hs → Good n m (runBook n m hs xs .held)
+    unfolding runBook
+    keeps-run [] hs g = g
+    keeps-run (x ∷ xs) hs g = keeps-run xs (bookTurn n m hs x .held) (keeps-turn hs g x)

@@ -1,0 +1,27 @@
+-- The laws of the store layer, from the bytes up to the guarantee. What a reader may want first: RoomLaws, EncodesLaws,
+-- Guarantee and Samples.
+pub mod BoolLaws
+pub mod HeldLaws
+pub mod BufferLaws
+pub mod RecordLaws
+pub mod RowLaws
+pub mod FindLaws
+pub mod MoveLaws
+pub mod DecodeLaws
+pub mod SoundLaws
+pub mod RoomLaws
+pub mod FilingLaws
+pub mod LookLaws
+pub mod ClearLaws
+pub mod LineLaws
+pub mod WantedLaws
+pub mod BookLaws
+pub mod InsertLaws
+pub mod SaveLaws
+pub mod EncodesLaws
+pub mod StoreLaws
+pub mod FilingsLaws
+pub mod Guarantee
+pub mod SaveCallLaws
+pub mod Saves
+mod Samples

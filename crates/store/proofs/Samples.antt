@@ -1,0 +1,253 @@
+-- Document 01's examples and traps of the store, computed by the definitions.
+-- Assumes nothing.
+use mathlib.Core.Path.{_≡_, refl}
+use mathlib.Core.Bool.{true, false}
+use mathlib.Core.Option.{none, some}
+use mathlib.Core.List.{List, [], _∷_, _++_}
+use Prim.Native.Nat.{ℕ}
+use lib.ListN.{replicate}
+use Rattle.text.specs.Bytes.{ascii, same, firstOf}
+use Rattle.text.specs.Utf8.{begins, firstLength, charLength, runOf, validRun, isUtf8}
+use Rattle.text.specs.Uuid.{hexDigit, readHex, uuidOf, bigEndian}
+use Rattle.text.specs.declared.uuid.Uuid.{Uuid}
+use Rattle.text.specs.declared.uuid.UuidParse.the-variants.{Parsed, Invalid}
+use Rattle.store.specs.declared.calls.Answer.the-variants as A
+use Rattle.store.specs.Held.{sameKey, strike, file, holds, distinct}
+use Rattle.store.specs.Layout.{recordBytes, records, texts, padded, encodeIndex, encodeText}
+use Rattle.store.specs.Decode.{bodyAt, headAt, headFits, zeroes, walk, decode}
+use Rattle.store.specs.Lines.{linesOf, forPlatform, wanted}
+use Rattle.map.specs.Search.{firstText}
+use Rattle.store.specs.Book.{under, lengths, noRoom, reach, insertLines, bookInsert}
+use Rattle.store.specs.Store.{storeClear, storeInsert}
+
+-- UUIDs of zeros, and of zeros and a one
+nil : Uuid
+nil = record { high = 0; low = 0 }
+
+one : Uuid
+one = record { high = 0; low = 1 }
+
+-- U, 32 zeros
+u : List ℕ
+u = ascii "00000000000000000000000000000000"
+
+-- ---- lines
+
+module _ where
+  empty-text : linesOf [] ≡ []
+  unfolding linesOf
+  empty-text = refl
+
+  one-lf : linesOf (ascii "\n") ≡ [] ∷ []
+  unfolding linesOf
+  one-lf = refl
+
+  bare-cr : linesOf (ascii "\r") ≡ ascii "\r" ∷ []
+  unfolding linesOf
+  bare-cr = refl
+
+  crlf : linesOf (ascii "\r\n") ≡ [] ∷ []
+  unfolding linesOf
+  crlf = refl
+
+  lf-cr : linesOf (ascii "\n\r") ≡ [] ∷ ascii "\r" ∷ []
+  unfolding linesOf
+  lf-cr = refl
+
+  two-crs : linesOf (ascii "a\r\r\n") ≡ ascii "a\r" ∷ []
+  unfolding linesOf
+  two-crs = refl
+
+  final-lf : linesOf (ascii "a\nb\n") ≡ ascii "a" ∷ ascii "b" ∷ []
+  unfolding linesOf
+  final-lf = refl
+
+  no-final-lf : linesOf (ascii "a\nb") ≡ ascii "a" ∷ ascii "b" ∷ []
+  unfolding linesOf
+  no-final-lf = refl
+
+-- ---- wanted lines
+
+module _ where
+  no-platform : wanted (u ++ ascii ",T") ≡ Parsed nil
+  unfolding wanted forPlatform firstText uuidOf readHex hexDigit firstOf same u nil
+  no-platform = refl
+
+  uuid-alone : wanted u ≡ Parsed nil
+  unfolding wanted forPlatform firstText uuidOf readHex hexDigit firstOf same u nil
+  uuid-alone = refl
+
+  for-linux : wanted (u ++ ascii ",T,platform:Linux,") ≡ Parsed nil
+  unfolding wanted forPlatform firstText uuidOf readHex hexDigit firstOf same u nil
+  for-linux = refl
+
+  in-the-name : wanted (u ++ ascii ",myplatform:Linux,platform:Windows") ≡ Parsed nil
+  unfolding wanted forPlatform firstText uuidOf readHex hexDigit firstOf same u nil
+  in-the-name = refl
+
+  first-counts : wanted (u ++ ascii ",T,platform:Windows,platform:Linux") ≡ Invalid
+  unfolding wanted forPlatform firstText firstOf same u
+  first-counts = refl
+
+  cr-kept : wanted (u ++ ascii ",T,platform:Linux\r") ≡ Invalid
+  unfolding wanted forPlatform firstText firstOf same u
+  cr-kept = refl
+
+  not-exactly : wanted (u ++ ascii ",T,platform:Linux:x") ≡ Invalid
+  unfolding wanted forPlatform firstText firstOf same u
+  not-exactly = refl
+
+  twice : wanted (u ++ ascii ",T,platform:platform:Linux") ≡ Invalid
+  unfolding wanted forPlatform firstText firstOf same u
+  twice = refl
+
+  nothing-follows : wanted (u ++ ascii ",T,platform:") ≡ Invalid
+  unfolding wanted forPlatform firstText firstOf same u
+  nothing-follows = refl
+
+  xinput-unwanted : wanted (ascii "xinput,T,a:b1,") ≡ Invalid
+  unfolding wanted forPlatform firstText uuidOf firstOf same
+  xinput-unwanted = refl
+
+-- ---- no room
+
+module _ where
+  index-of-20 : noRoom 20 1 (under nil (ascii "a")) [] ≡ true
+  unfolding noRoom strike lengths
+  index-of-20 = refl
+
+  fresh-fits : noRoom 21 1 (under nil (ascii "a")) [] ≡ false
+  unfolding noRoom strike lengths
+  fresh-fits = refl
+
+  own-line-left-out : noRoom 21 60 (under nil (replicate 60 97)) (under nil (replicate 60 98) ∷ []) ≡ false
+  unfolding noRoom strike lengths sameKey nil
+  own-line-left-out = refl
+
+  other-line-counts : noRoom 41 3 (under nil (ascii "a")) (under one (ascii "b") ∷ []) ≡ true
+  unfolding noRoom strike lengths sameKey nil one
+  other-line-counts = refl
+
+  text-of-one : noRoom 42 1 (under nil (ascii "a")) (under one (ascii "b") ∷ []) ≡ true
+  unfolding noRoom strike lengths sameKey nil one
+  text-of-one = refl
+
+-- ---- soundness
+
+-- the record of a UUID at an offset, with a length
+rec : Uuid → ℕ → ℕ → List ℕ
+rec k off len = recordBytes k off len
+
+module _ where
+  fresh-store : decode (replicate 22 0) (replicate 3 0) ≡ some []
+  unfolding decode walk headAt zeroes distinct
+  fresh-store = refl
+
+  one-line : decode (rec one 0 5 ++ replicate 2 0) (ascii "hello" ++ replicate 2 0)
+      ≡ some (under one (ascii "hello") ∷ [])
+  unfolding decode walk headAt headFits bodyAt zeroes distinct holds recordBytes bigEndian rec one
+  one-line = refl
+
+  two-lines : decode (rec one 0 2 ++ rec nil 2 1) (ascii "abc")
+      ≡ some (under one (ascii "ab") ∷ under nil (ascii "c") ∷ [])
+  unfolding decode walk headAt headFits bodyAt zeroes distinct holds sameKey recordBytes bigEndian rec one nil
+  two-lines = refl
+
+  -- a line may end with zero bytes
+  zero-byte : decode (rec one 0 2) (97 ∷ 0 ∷ []) ≡ some (under one (97 ∷ 0 ∷ []) ∷ [])
+  unfolding decode walk headAt headFits bodyAt zeroes distinct holds recordBytes bigEndian rec one
+  zero-byte = refl
+
+  -- document 01: "index byte 9 first"
+  kind-nine : decode (9 ∷ replicate 20 0) [] ≡ none
+  unfolding decode walk headAt zeroes
+  kind-nine = refl
+
+  kind-zero-first : decode (0 ∷ rec one 0 1) (ascii "a") ≡ none
+  unfolding decode walk headAt zeroes recordBytes bigEndian rec one
+  kind-zero-first = refl
+
+  truncated : decode (1 ∷ replicate 19 0) [] ≡ none
+  unfolding decode walk headAt zeroes
+  truncated = refl
+
+  gap : decode (rec one 1 1) (ascii "ab") ≡ none
+  unfolding decode walk headAt headFits bodyAt zeroes distinct recordBytes bigEndian rec one
+  gap = refl
+
+  overlap : decode (rec one 0 2 ++ rec nil 1 1) (ascii "ab") ≡ none
+  unfolding decode walk headAt headFits bodyAt zeroes distinct holds sameKey recordBytes bigEndian rec one nil
+  overlap = refl
+
+  swapped : decode (rec one 1 1 ++ rec nil 0 1) (ascii "ab") ≡ none
+  unfolding decode walk headAt headFits bodyAt zeroes distinct holds sameKey recordBytes bigEndian rec one nil
+  swapped = refl
+
+  past-the-text : decode (rec one 0 2) (ascii "a") ≡ none
+  unfolding decode walk headAt headFits bodyAt zeroes distinct recordBytes bigEndian rec one
+  past-the-text = refl
+
+  index-tail : decode (rec one 0 1 ++ (0 ∷ 7 ∷ [])) (ascii "a") ≡ none
+  unfolding decode walk headAt headFits bodyAt zeroes distinct recordBytes bigEndian rec one
+  index-tail = refl
+
+  text-tail : decode (rec one 0 1) (ascii "ab") ≡ none
+  unfolding decode walk headAt headFits bodyAt zeroes distinct recordBytes bigEndian rec one
+  text-tail = refl
+
+  same-uuid-twice : decode (rec one 0 1 ++ rec one 1 1) (ascii "ab") ≡ none
+  unfolding decode walk headAt headFits bodyAt zeroes distinct holds sameKey recordBytes bigEndian rec one
+  same-uuid-twice = refl
+
+  length-zero : decode (rec one 0 0) (ascii "") ≡ none
+  unfolding decode walk headAt headFits bodyAt zeroes distinct recordBytes bigEndian rec one
+  length-zero = refl
+
+  length-4097 : decode (rec one 0 4097) (replicate 4097 97) ≡ none
+  unfolding decode walk headAt headFits bodyAt zeroes distinct recordBytes bigEndian rec one
+  length-4097 = refl
+
+  length-4096 : decode (rec one 0 4096) (replicate 4096 97) ≡ some (under one (replicate 4096 97) ∷ [])
+  unfolding decode walk headAt headFits bodyAt zeroes distinct holds recordBytes bigEndian rec one
+  length-4096 = refl
+
+-- ---- inserts
+
+module _ where
+  -- 19 comes before 10
+  unsound-first : storeInsert (9 ∷ []) [] (255 ∷ [])
+      ≡ record { answer = record { answer = A.Unsound; count = 0 }; index = 9 ∷ []; text = [] }
+  unfolding storeInsert decode walk headAt zeroes
+  unsound-first = refl
+
+  -- 10 at the length of the valid run, and nothing filed
+  not-utf8 : storeInsert (0 ∷ []) [] (65 ∷ 195 ∷ [])
+      ≡ record { answer = record { answer = A.NotUtf8 1; count = 0 }; index = 0 ∷ []; text = [] }
+  unfolding storeInsert decode walk headAt zeroes distinct bookInsert isUtf8 validRun runOf charLength firstLength
+      begins encodeIndex encodeText records texts padded
+  not-utf8 = refl
+
+  -- an unwanted line is counted, a wanted one filed without its CR
+  filed : storeInsert (replicate 22 0) (replicate 33 0) (ascii "x\n" ++ (u ++ ascii "\r\n"))
+      ≡ record {
+        answer = record { answer = A.Done; count = 2 };
+        index = rec nil 0 32 ++ (0 ∷ []);
+        text =
+            u ++ (0 ∷ []);
+      }
+  unfolding storeInsert decode walk headAt zeroes distinct bookInsert isUtf8 validRun runOf charLength firstLength
+      begins encodeIndex encodeText records texts padded linesOf insertLines reach wanted forPlatform firstText uuidOf
+      readHex hexDigit firstOf same noRoom strike lengths file recordBytes bigEndian rec u nil
+  filed = refl
+
+  -- "index of 20 bytes": 21, after one line
+  full : storeInsert (replicate 20 0) (replicate 33 0) (ascii "x\n" ++ u)
+      ≡ record { answer = record { answer = A.NoRoom; count = 1 }; index = replicate 20 0; text = replicate 33 0 }
+  unfolding storeInsert decode walk headAt zeroes distinct bookInsert isUtf8 validRun runOf charLength firstLength
+      begins encodeIndex encodeText records texts padded linesOf insertLines reach wanted forPlatform firstText uuidOf
+      readHex hexDigit firstOf same noRoom strike lengths u nil
+  full = refl
+
+  cleared : storeClear (9 ∷ []) (1 ∷ 2 ∷ []) ≡ record { answer = A.Done; index = 0 ∷ []; text = 0 ∷ 0 ∷ [] }
+  unfolding storeClear
+  cleared = refl

@@ -1,0 +1,103 @@
+-- A store's calls answer as the book's, and leave the buffers that encode the book's lines, for every list of calls.
+-- Assumes nothing.
+use mathlib.Core.List.{List, [], _∷_}
+use mathlib.Core.Path.{_≡_, refl, ap, _∙_}
+use Prim.Native.Nat.{ℕ, _≤_}
+use native.Mathlib.Nat.{sub-zero}
+use lib.ListN.{length}
+use borrow.Author.Tests.{le-leb}
+use Rattle.store.specs.Book.{Turn, bookClear, bookInsert, bookAttempt, Attempt, refused, files, Saving, Call}
+use Rattle.store.specs.Book.{clear, insert, save, Reply, inserted, saved, Run, bookTurn, runBook}
+use Rattle.store.specs.Decode.{decode}
+use Rattle.store.specs.Guarantee.{Builds, fresh, stored, booked}
+use Rattle.store.specs.Held.{Key, Held, find, bufferMax}
+use Rattle.store.specs.Layout.{records, texts, padded, encodeIndex, encodeText}
+use Rattle.store.specs.Store.{Done, onLines, storeClear, storeInsert, storeAttempt, answered, storeCall, Runs}
+use Rattle.store.specs.Store.{andRuns, runStore, lookUp, lookedAt, lookedIn}
+use Rattle.store.proofs.BookLaws.{keeps-none, keeps-turn, keeps-run}
+use Rattle.store.proofs.BoolLaws.{and-both}
+use Rattle.store.proofs.DecodeLaws.{Good, length-index, length-text, decode-encoded}
+use Rattle.store.specs.declared.calls.Answer.the-variants as A
+
+module _ (n m : ℕ) where
+  -- a turn and a run of the book, with the buffers that encode its lines
+  abbrev done : {A : Type 0} → Turn A → Done A
+  done r = record { answer = r .answer; index = encodeIndex n (r .held); text = encodeText m (r .held) }
+
+  abbrev ended : {S : Saving} → Run S → Runs S
+  ended r = record { answers = r .answers; index = encodeIndex n (r .held); text = encodeText m (r .held) }
+
+  fresh-index : fresh n ≡ encodeIndex n []
+  unfolding encodeIndex records padded
+  fresh-index = rw sub-zero
+
+  fresh-text : fresh m ≡ encodeText m []
+  unfolding encodeText texts padded
+  fresh-text = rw sub-zero
+
+  module _ (ln : n ≤ bufferMax) (lm : m ≤ bufferMax) where
+    module _ (hs : List Held) (g : Good n m hs) where
+      on-lines : {A : Type 0} (e : A) (f : ℕ → ℕ → List Held → Turn A)
+          → onLines (encodeIndex n hs) (encodeText m hs) (decode (encodeIndex n hs) (encodeText m hs)) e
+          (λ ks. f (length (encodeIndex n hs)) (length (encodeText m hs)) ks)
+          ≡ done (f n m hs)
+      on-lines e f = rw (decode-encoded n m hs g ln lm, length-index n m hs g, length-text n m hs g)
+
+      clears : storeClear (encodeIndex n hs) (encodeText m hs) ≡ done bookClear
+      unfolding storeClear
+      clears =
+          rw (
+            length-index n m hs g,
+            length-text n m hs g,
+            and-both _ _ (le-leb n bufferMax ln) (le-leb m bufferMax lm),
+            ← fresh-index,
+            ← fresh-text,
+          )
+
+      inserts : (s : List ℕ) → storeInsert (encodeIndex n hs) (encodeText m hs) s ≡ done (bookInsert n m hs s)
+      unfolding storeInsert
+      inserts s = on-lines (record { answer = A.Unsound; count = 0 }) (λ a b ks. bookInsert a b ks s)
+
+      saves : {B : Type 0} (unsound full : B) (x : Attempt B)
+          → storeAttempt unsound full (encodeIndex n hs) (encodeText m hs) x ≡ done (bookAttempt full n m hs x)
+      saves unsound full (refused v) = refl
+      saves unsound full (files h v) = on-lines unsound (λ a b ks. bookAttempt full a b ks (files h v))
+
+      pub one-call : {S : Saving} (x : Call S)
+          → storeCall (encodeIndex n hs) (encodeText m hs) x ≡ done (bookTurn n m hs x)
+      unfolding storeCall bookTurn
+      one-call clear = ap (answered Reply.cleared) clears
+      one-call (insert s) = ap (answered inserted) (inserts s)
+      one-call {S} (save a) = ap (answered saved) (saves (S .unsound) (S .full) (S .attempt a))
+
+    module _ (S : Saving) (owed : Builds S) where
+      from : (xs : List (Call S)) (hs : List Held) → Good n m hs
+          → runStore (encodeIndex n hs) (encodeText m hs) xs ≡ ended (runBook n m hs xs)
+      unfolding runStore runBook
+      from [] hs g = refl
+      from (x ∷ xs) hs g =
+          ap (λ (d : Done (Reply S)). andRuns (d .answer) (runStore (d .index) (d .text) xs)) (one-call hs g x)
+          ∙ ap (andRuns (bookTurn n m hs x .answer)) (from xs (bookTurn n m hs x .held) (keeps-turn n m S owed hs g x))
+
+      -- the answers are the book's, and the buffers encode the book's lines
+      pub whole : (xs : List (Call S)) → stored n m xs ≡ ended (booked n m xs)
+      whole xs = rw (fresh-index, fresh-text) (from xs [] (keeps-none n m))
+
+      pub still-good : (xs : List (Call S)) → Good n m (booked n m xs .held)
+      still-good xs = keeps-run n m S owed xs [] (keeps-none n m)
+
+      -- a look-up afterwards finds the book's line, and none exactly when the book has none
+      pub whole-look-up : (xs : List (Call S)) (k : Key)
+          → lookUp k (stored n m xs .index) (stored n m xs .text) ≡ lookedIn (find k (booked n m xs .held))
+      unfolding lookUp
+      whole-look-up xs k =
+          ap (λ (r : Runs S). lookUp k (r .index) (r .text)) (whole xs)
+          ∙ ap (lookedAt k) (decode-encoded n m (booked n m xs .held) (still-good xs) ln lm)
+
+      -- the next call answers as the book's
+      pub whole-next : (xs : List (Call S)) (x : Call S)
+          → storeCall (stored n m xs .index) (stored n m xs .text) x .answer
+          ≡ bookTurn n m (booked n m xs .held) x .answer
+      whole-next xs x =
+          ap (λ (r : Runs S). storeCall (r .index) (r .text) x .answer) (whole xs)
+          ∙ ap (λ (d : Done (Reply S)). d .answer) (one-call (booked n m xs .held) (still-good xs) x)

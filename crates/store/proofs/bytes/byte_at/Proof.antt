@@ -1,0 +1,21 @@
+-- Past the end a list reads as 0.
+use mathlib.Core.Path.{sym}
+use lib.ListN.{List·getD-eq-default}
+use borrow.Author.Needs.{needs}
+use Rattle.store.proofs.bytes.byte_at.Statement.{statement}
+use Rattle.store.proofs.bytes.byte_at.Tie as tie
+
+-- src/lib.rt:12:16
+shared-slice-read-result : tie.Need-shared-slice-read-result
+shared-slice-read-result c = search needs
+
+-- src/lib.rt:12:9
+returns : tie.Need-returns
+returns c = search needs
+
+-- src/lib.rt:8:1
+returns-2 : tie.Need-returns-2
+returns-2 c = sym (List·getD-eq-default (c .before .args .s .now) 0 (c .if1 .left))
+
+pub byte-at-spec : {M : Type 1} → statement M
+byte-at-spec = tie.close (tie.spec shared-slice-read-result returns returns-2)

@@ -1,0 +1,79 @@
+-- The list of lines that a sound store encodes, read off its bytes; none of another store.
+-- The laws `decode-encodes` and `encodes-decode` say that this is Layout's `Encodes`, no more and no less.
+-- Assumes nothing: these are definitions.
+use mathlib.Core.Bool.{Bool, true, false, _&&_}
+use mathlib.Core.Option.{Option, none, some}
+use mathlib.Core.List.{List, [], _∷_}
+use Prim.Native.Nat.{ℕ, zero, suc, _+_, _*_}
+use lib.Dec.{eqb, leb}
+use lib.ListN.{length, getD, take, drop}
+use Rattle.text.specs.Bytes.{pick}
+use Rattle.store.specs.declared.records.Head.{Head}
+use Rattle.store.specs.declared.records.Body.{Body}
+use Rattle.store.specs.Held.{Held, distinct, bufferMax, recordSize}
+use Rattle.map.specs.Bounds.{lineMax}
+
+-- the numbers in the two, four and eight bytes at k, high byte first
+abbrev pub word : List ℕ → ℕ → ℕ
+word s k = 256 * getD s k 0 + getD s (k + 1) 0
+
+abbrev pub word4 : List ℕ → ℕ → ℕ
+word4 s k = 65536 * word s k + word s (k + 2)
+
+abbrev pub word8 : List ℕ → ℕ → ℕ
+word8 s k = 4294967296 * word4 s k + word4 s (k + 4)
+
+-- "then 20 bytes: UUID (16), offset in the text (2), length (2)"
+unfoldable pub bodyAt : List ℕ → Body
+bodyAt s = record { uuid = record { high = word8 s 0; low = word8 s 8 }; off = word s 16; len = word s 18 }
+
+-- what the record at an index's front says; size 0 where no whole record of kind 1 stands there
+abbrev pub noHead : Head
+noHead = record { size = 0; key = record { high = 0; low = 0 }; off = 0; len = 0 }
+
+abbrev pub headWith : Body → Head
+headWith b = record { size = recordSize; key = b .uuid; off = b .off; len = b .len }
+
+unfoldable pub headAt : List ℕ → Head
+headAt i = pick (leb recordSize (length i) && eqb (getD i 0 0) 1) (headWith (bodyAt (drop 1 i))) noHead
+
+-- a record is of a line at that offset, whose length is allowed and which fits in n bytes of text
+unfoldable pub headFits : ℕ → Head → ℕ → Bool
+headFits off h n = eqb (h .off) off && (leb 1 (h .len) && (leb (h .len) lineMax && leb (h .len) n))
+
+-- the line of the record at the index's front, whose text starts at the text's front
+abbrev pub heldOf : List ℕ → List ℕ → Held
+heldOf i t = record { key = headAt i .key; line = take (headAt i .len) t }
+
+-- every byte is 0
+unfoldable pub zeroes : List ℕ → Bool
+zeroes [] = true
+zeroes (x ∷ xs) = eqb x 0 && zeroes xs
+
+abbrev pub consTo : Bool → Held → Option (List Held) → Option (List Held)
+consTo false h o = none
+consTo true h none = none
+consTo true h (some hs) = some (h ∷ hs)
+
+-- the lines from the front of index and text on, of which the first lies at that offset; at most f - 1 of them
+unfoldable pub walk : ℕ → ℕ → List ℕ → List ℕ → Option (List Held)
+walk zero off i t = none
+walk (suc f) off i t =
+    pick (eqb (headAt i .size) 0)
+    (pick (zeroes i && zeroes t) (some []) none)
+    (consTo (headFits off (headAt i) (length t)) (heldOf i t)
+    (walk f (off + headAt i .len) (drop (headAt i .size) i) (drop (headAt i .len) t)))
+
+-- "no UUID twice"
+abbrev pub guarded : Option (List Held) → Option (List Held)
+guarded none = none
+guarded (some hs) = pick (distinct hs) (some hs) none
+
+-- the lines of a sound store, and none of another one (19); "An index or text over 65535 is 19"
+unfoldable pub decode : List ℕ → List ℕ → Option (List Held)
+decode i t = pick (leb (length i) bufferMax && leb (length t) bufferMax) (guarded (walk (suc (length i)) 0 i t)) none
+
+-- the store is sound
+abbrev pub known : {A : Type 0} → Option A → Bool
+known none = false
+known (some a) = true

@@ -1,0 +1,71 @@
+-- What a list of calls has filed in the book since the last clear, by which call, and the line last filed under a UUID.
+-- "In demand 3, filed means filed in the book."
+-- Assumes nothing: these are definitions.
+use mathlib.Core.Option.{Option, none, some}
+use mathlib.Core.List.{List, [], _∷_, _++_}
+use Prim.Native.Nat.{ℕ}
+use Rattle.text.specs.Bytes.{pick}
+use Rattle.text.specs.Utf8.{isUtf8}
+use Rattle.text.specs.declared.uuid.UuidParse.{UuidParse}
+use Rattle.text.specs.declared.uuid.UuidParse.the-variants.{Parsed, Invalid}
+use Rattle.store.specs.Held.{Key, Held, sameKey}
+use Rattle.store.specs.Lines.{linesOf, wanted}
+use Rattle.store.specs.Book.{noRoom, under, reach, onReached, Attempt, refused, files, Saving, Call, clear}
+use Rattle.store.specs.Book.{insert, save, Reply, bookTurn}
+
+-- a line that was filed, the call that filed it, and what that call answered
+pub record Filing (S : Saving) : Type 0 where
+  pub held : Held
+  pub by : Call S
+  pub answer : Reply S
+
+abbrev pub filing : {S : Saving} → Call S → Reply S → Held → Filing S
+filing x a h = record { held = h; by = x; answer = a }
+
+-- an insert files the wanted lines that it reaches, up to the one that stops it
+abbrev pub filedLine : {S : Saving} → Call S → Reply S → List ℕ → UuidParse → List (Filing S)
+filedLine x a l (Parsed u) = filing x a (under u l) ∷ []
+filedLine x a l Invalid = []
+
+unfoldable pub filedLines : {S : Saving} → Call S → Reply S → ℕ → ℕ → List Held → List (List ℕ) → List (Filing S)
+filedLines x a n m hs [] = []
+filedLines x a n m hs (l ∷ ls) =
+    onReached (reach n m hs l) (λ e. []) (λ hs′. filedLine x a l (wanted l) ++ filedLines x a n m hs′ ls)
+
+-- a save files build's line, unless it is refused
+abbrev pub filedAttempt : {S : Saving} {B : Type 0} → Call S → Reply S → ℕ → ℕ → List Held → Attempt B → List (Filing S)
+filedAttempt x a n m hs (refused v) = []
+filedAttempt x a n m hs (files h v) = pick (noRoom n m h hs) [] (filing x a h ∷ [])
+
+abbrev pub filedAs : {S : Saving} → Reply S → ℕ → ℕ → List Held → Call S → List (Filing S)
+filedAs a n m hs clear = []
+filedAs a n m hs (insert s) = pick (isUtf8 s) (filedLines (insert s) a n m hs (linesOf s)) []
+filedAs {S} a n m hs (save x) = filedAttempt (save x) a n m hs (S .attempt x)
+
+-- what one call files in a book that holds hs
+abbrev pub filedBy : {S : Saving} → ℕ → ℕ → List Held → Call S → List (Filing S)
+filedBy n m hs x = filedAs (bookTurn n m hs x .answer) n m hs x
+
+-- what is filed since the last clear: a clear forgets, any other call adds what it files
+abbrev pub since : {S : Saving} → Call S → List (Filing S) → List (Filing S) → List (Filing S)
+since clear fs gs = []
+since (insert s) fs gs = fs ++ gs
+since (save a) fs gs = fs ++ gs
+
+-- the calls from a book that holds hs on, fs being filed before
+unfoldable pub filings : {S : Saving} → ℕ → ℕ → List Held → List (Filing S) → List (Call S) → List (Filing S)
+filings n m hs fs [] = fs
+filings n m hs fs (x ∷ xs) = filings n m (bookTurn n m hs x .held) (since x fs (filedBy n m hs x)) xs
+
+-- the last of the filings under a UUID, if there is one
+abbrev pub laterOr : {A : Type 0} → Option A → Option A → Option A
+laterOr (some a) o = some a
+laterOr none o = o
+
+unfoldable pub lastFiled : {S : Saving} → Key → List (Filing S) → Option (Filing S)
+lastFiled k [] = none
+lastFiled k (f ∷ fs) = laterOr (lastFiled k fs) (pick (sameKey k (f .held .key)) (some f) none)
+
+abbrev pub lineFiled : {S : Saving} → Option (Filing S) → Option (List ℕ)
+lineFiled none = none
+lineFiled (some f) = some (f .held .line)

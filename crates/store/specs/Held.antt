@@ -1,0 +1,53 @@
+-- Lines held under their UUIDs, and the limits of a store (document 01, 'Records' and 'Store').
+-- Assumes nothing: these are definitions.
+use mathlib.Core.Bool.{Bool, true, false, not, _&&_, _||_}
+use mathlib.Core.Option.{Option, none, some}
+use mathlib.Core.List.{List, [], _∷_, _++_}
+use Prim.Native.Nat.{ℕ}
+use lib.Dec.{eqb}
+use Rattle.text.specs.declared.uuid.Uuid.{Uuid}
+use Rattle.text.specs.Bytes.{pick}
+
+-- "two lent buffers, index and text, each of at most 65535 bytes"
+abbrev pub bufferMax : ℕ
+bufferMax = 65535
+
+-- "a kind byte 1, then 20 bytes"
+abbrev pub recordSize : ℕ
+recordSize = 21
+
+-- what a line is held under: its UUID
+abbrev pub Key : Type 0
+Key = Uuid
+
+unfoldable pub sameKey : Key → Key → Bool
+sameKey a b = eqb (a .high) (b .high) && eqb (a .low) (b .low)
+
+-- "a list of lines, each under its UUID"
+pub record Held : Type 0 where
+  pub key : Key
+  pub line : List ℕ
+
+-- "the lines held under other UUIDs": any line under that one struck out
+unfoldable pub strike : Key → List Held → List Held
+strike k [] = []
+strike k (h ∷ hs) = pick (sameKey k (h .key)) (strike k hs) (h ∷ strike k hs)
+
+-- "Filing strikes out any line under that UUID and writes the new one last."
+unfoldable pub file : Held → List Held → List Held
+file h hs = strike (h .key) hs ++ (h ∷ [])
+
+-- the line held under a UUID, if there is one
+unfoldable pub find : Key → List Held → Option (List ℕ)
+find k [] = none
+find k (h ∷ hs) = pick (sameKey k (h .key)) (some (h .line)) (find k hs)
+
+-- a line is held under that UUID
+unfoldable pub holds : Key → List Held → Bool
+holds k [] = false
+holds k (h ∷ hs) = sameKey k (h .key) || holds k hs
+
+-- "no UUID twice"
+unfoldable pub distinct : List Held → Bool
+distinct [] = true
+distinct (h ∷ hs) = not (holds (h .key) hs) && distinct hs

@@ -1,0 +1,154 @@
+-- What the contracts of private functions say of a store, each for every list of lines that lies in the index, and
+-- what the
+-- proofs go by. No public contract cites these.
+-- Assumes nothing: these are definitions.
+use mathlib.Core.Path.{_≡_}
+use mathlib.Core.Bool.{Bool, true, false}
+use mathlib.Core.Option.{some}
+use mathlib.Core.List.{List, [], _∷_, _++_}
+use Prim.Native.Nat.{ℕ, _+_, _/_, _%_, _≤_, _<_}
+use lib.Dec.{eqb, ltb}
+use lib.ListN.{length, drop, take, replicate, getD}
+use Rattle.text.specs.Bytes.{pick, firstOf}
+use Rattle.text.specs.declared.uuid.Uuid.{Uuid}
+use Rattle.store.specs.declared.records.Head.{Head}
+use Rattle.store.specs.declared.records.Spot.{Spot}
+use Rattle.store.specs.declared.records.Extent.{Extent}
+use Rattle.store.specs.declared.lines.Reach.{Reach}
+use Rattle.store.specs.declared.calls.Answer.the-variants as A
+use Rattle.store.specs.Held.{Key, Held, sameKey, strike, file, holds, distinct, bufferMax}
+use Rattle.store.specs.Layout.{Shapes, recordBytes, recordOf, records, sizes, texts, padded, encodeIndex}
+use Rattle.store.specs.Layout.{encodeText}
+use Rattle.store.specs.Decode.{headAt, decode}
+use Rattle.store.specs.Lines.{cr}
+use Rattle.map.specs.Search.{lf}
+use Rattle.store.specs.Book.{room, Reached, after, stopped, reach}
+
+-- every byte of a buffer is one
+abbrev pub Bytes : List ℕ → Type 0
+Bytes s = (k : ℕ) → getD s k 0 < 256
+
+-- ---- records
+
+-- numbers of two, four and eight bytes, high byte first
+abbrev pub be2 : ℕ → List ℕ
+be2 x = x / 256 % 256 ∷ x % 256 ∷ []
+
+abbrev pub be4 : ℕ → List ℕ
+be4 x = be2 (x / 65536) ++ be2 x
+
+abbrev pub be8 : ℕ → List ℕ
+be8 x = be4 (x / 4294967296) ++ be4 x
+
+-- a record without its kind
+abbrev pub bodySize : ℕ
+bodySize = 20
+
+unfoldable pub bodyBytes : Uuid → ℕ → ℕ → List ℕ
+bodyBytes u off len = be8 (u .high) ++ (be8 (u .low) ++ (be2 off ++ be2 len))
+
+-- what a record says
+abbrev pub headOf : ℕ → Held → Head
+headOf off h = record { size = length (recordOf off h); key = h .key; off = off; len = length (h .line) }
+
+-- `record_size`: the size of a record of that key
+abbrev pub Sized : Key → ℕ → Type 0
+Sized k r = (off len : ℕ) → r ≡ length (recordBytes k off len)
+
+-- ---- lines that lie in an index
+
+-- the lines before the first one of that key
+unfoldable pub upTo : Key → List Held → List Held
+upTo k [] = []
+upTo k (h ∷ hs) = pick (sameKey k (h .key)) [] (h ∷ upTo k hs)
+
+-- those lines' records lie in s from its front on, their first line at that offset, and then only 0
+pub record Lies (off : ℕ) (hs : List Held) (s : List ℕ) : Type 0 where
+  pub more : ℕ
+  pub is : s ≡ records off hs ++ replicate more 0
+  pub shapes : Shapes hs
+  pub below : off + length (texts hs) ≤ bufferMax
+
+-- `find`: the place of the record of that key, or of the records' end, and what stands there
+pub record Finds (i : List ℕ) (k : Key) (r : Spot) : Type 0 where
+  pub within : r .at ≤ length i
+  pub stands : r .head ≡ headAt (drop (r .at) i)
+  pub place : (off : ℕ) (hs : List Held) → Lies off hs i → r .at ≡ sizes off (upTo k hs)
+
+-- `in_use`: where the records and the lines end
+abbrev pub Measures : List ℕ → Extent → Type 0
+Measures i r = (hs : List Held) → Lies 0 hs i → (r .end ≡ sizes 0 hs) × (r .used ≡ length (texts hs))
+
+-- `has_key`, `each_once`
+abbrev pub Holds : List ℕ → Key → Bool → Type 0
+Holds i k r = (off : ℕ) (hs : List Held) → Lies off hs i → r ≡ holds k hs
+
+abbrev pub Once : List ℕ → Bool → Type 0
+Once i r = (off : ℕ) (hs : List Held) → Lies off hs i → r ≡ distinct hs
+
+-- ---- filing
+
+-- some lines lie in s, and they may be laid out from `start` on
+pub record Moves (start : ℕ) (s : List ℕ) : Type 0 where
+  pub off : ℕ
+  pub hs : List Held
+  pub lies : Lies off hs s
+  pub fits : start + length (texts hs) ≤ bufferMax
+
+-- `renumber`: the lines lie from `start` on
+abbrev pub Renumbers : ℕ → List ℕ → List ℕ → Type 0
+Renumbers start s s′ =
+    (off : ℕ) (hs : List Held) → Lies off hs s → start + length (texts hs) ≤ bufferMax
+    → s′ ≡ padded (length s) (records start hs)
+
+-- in the store of those lines, `at` is the place of the record of that key, or of the records' end, and `head`
+-- stands there
+pub record Spotted (i t : List ℕ) (at : ℕ) (head : Head) (k : Key) (hs : List Held) : Type 0 where
+  pub decoded : decode i t ≡ some hs
+  pub place : at ≡ sizes 0 (upTo k hs)
+  pub stands : head ≡ headAt (drop at i)
+
+-- `make_room`: the line of that key is struck out
+abbrev pub Strikeable : List ℕ → List ℕ → ℕ → Head → Type 0
+Strikeable i t at head = (k : Key) × ((hs : List Held) × Spotted i t at head k hs)
+
+abbrev pub Strikes : List ℕ → List ℕ → ℕ → Head → List ℕ → List ℕ → Type 0
+Strikes i t at head i′ t′ =
+    (k : Key) (hs : List Held) → Spotted i t at head k hs
+    → (i′ ≡ encodeIndex (length i) (strike k hs)) × (t′ ≡ encodeText (length t) (strike k hs))
+
+-- `file_line`: r says whether there was room for the line
+abbrev pub Files : List ℕ → List ℕ → Held → Bool → List ℕ → List ℕ → Type 0
+Files i t h r i′ t′ =
+    (hs : List Held) → decode i t ≡ some hs
+    → (r ≡ room (length i) (length t) h hs)
+    × (i′ ≡ encodeIndex (length i) (pick r (file h hs) hs))
+    × (t′ ≡ encodeText (length t) (pick r (file h hs) hs))
+
+-- ---- inserting
+
+-- a final CR dropped
+unfoldable pub withoutCr : List ℕ → List ℕ
+withoutCr [] = []
+withoutCr (x ∷ []) = pick (eqb x cr) [] (x ∷ [])
+withoutCr (x ∷ y ∷ s) = x ∷ withoutCr (y ∷ s)
+
+-- the first line of a text that is not empty
+unfoldable pub firstLine : List ℕ → List ℕ
+firstLine s = pick (ltb (firstOf lf s) (length s)) (withoutCr (take (firstOf lf s) s)) s
+
+-- `reach_line`: what one line of an insert does
+abbrev pub reachOf : Reached → Reach
+reachOf (after hs) = record { on = true; answer = A.Done }
+reachOf (stopped e) = record { on = false; answer = e }
+
+abbrev pub heldAfter : List Held → Reached → List Held
+heldAfter hs (after ks) = ks
+heldAfter hs (stopped e) = hs
+
+abbrev pub Reaches : List ℕ → List ℕ → List ℕ → Reach → List ℕ → List ℕ → Type 0
+Reaches i t l r i′ t′ =
+    (hs : List Held) → decode i t ≡ some hs
+    → (r ≡ reachOf (reach (length i) (length t) hs l))
+    × (i′ ≡ encodeIndex (length i) (heldAfter hs (reach (length i) (length t) hs l)))
+    × (t′ ≡ encodeText (length t) (heldAfter hs (reach (length i) (length t) hs l)))

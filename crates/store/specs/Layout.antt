@@ -1,0 +1,66 @@
+-- How a list of lines lies in the two buffers of a store (document 01, 'Records').
+-- A record's form and size stand in `recordOf` alone; the rest goes by `sizeOf` and `sizes`.
+-- Assumes nothing: these are definitions.
+use mathlib.Core.Path.{_≡_}
+use mathlib.Core.Bool.{true}
+use mathlib.Core.List.{List, [], _∷_, _++_}
+use Prim.Native.Nat.{ℕ, _+_, _-_, _≤_}
+use lib.ListN.{length, replicate}
+use Rattle.text.specs.Uuid.{bigEndian, uuidBytes}
+use Rattle.text.specs.Inner.{Small}
+use Rattle.store.specs.Held.{Key, Held, distinct, bufferMax}
+use Rattle.map.specs.Bounds.{lineMax}
+
+-- "Per line the index has a kind byte 1, then 20 bytes: UUID (16), offset in the text (2), length (2), high byte
+-- first."
+unfoldable pub recordBytes : Key → ℕ → ℕ → List ℕ
+recordBytes k off len = 1 ∷ (uuidBytes k ++ (bigEndian 2 off ++ bigEndian 2 len))
+
+abbrev pub recordOf : ℕ → Held → List ℕ
+recordOf off h = recordBytes (h .key) off (length (h .line))
+
+abbrev pub sizeOf : ℕ → Held → ℕ
+sizeOf off h = length (recordOf off h)
+
+-- "Lines lie end to end from offset 0 in list order.": the records of lines that lie so from an offset on
+unfoldable pub records : ℕ → List Held → List ℕ
+records off [] = []
+records off (h ∷ hs) = recordOf off h ++ records (off + length (h .line)) hs
+
+abbrev pub sizes : ℕ → List Held → ℕ
+sizes off hs = length (records off hs)
+
+unfoldable pub texts : List Held → List ℕ
+texts [] = []
+texts (h ∷ hs) = h .line ++ texts hs
+
+-- "Every byte after the last record and after the last line is 0"
+unfoldable pub padded : ℕ → List ℕ → List ℕ
+padded n s = s ++ replicate (n - length s) 0
+
+-- the index of n bytes and the text of m bytes that encode a list of lines
+unfoldable pub encodeIndex : ℕ → List Held → List ℕ
+encodeIndex n hs = padded n (records 0 hs)
+
+unfoldable pub encodeText : ℕ → List Held → List ℕ
+encodeText m hs = padded m (texts hs)
+
+-- "each length from 1 to 4096", and a UUID of 128 bits
+pub record Shape (h : Held) : Type 0 where
+  pub key : Small (h .key)
+  pub some : 1 ≤ length (h .line)
+  pub most : length (h .line) ≤ lineMax
+
+abbrev pub Shapes : List Held → Type 0
+Shapes [] = Unit {0}
+Shapes (h ∷ hs) = Shape h × Shapes hs
+
+-- "A store is sound exactly when it encodes some list with no UUID twice and each length from 1 to 4096.": it encodes
+-- this one
+pub record Encodes (i t : List ℕ) (hs : List Held) : Type 0 where
+  pub index : i ≡ encodeIndex (length i) hs
+  pub text : t ≡ encodeText (length t) hs
+  pub once : distinct hs ≡ true
+  pub shapes : Shapes hs
+  pub index-most : length i ≤ bufferMax
+  pub text-most : length t ≤ bufferMax

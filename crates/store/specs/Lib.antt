@@ -1,0 +1,13 @@
+-- The definitions of the store layer, in reading order. Decode computes what Layout says; Inner serves private
+-- functions only.
+pub mod Held
+pub mod Layout
+pub mod Decode
+pub mod Lines
+pub mod Answers
+pub mod Book
+pub mod Store
+pub mod Filings
+pub mod Guarantee
+pub mod Saves
+pub mod Inner

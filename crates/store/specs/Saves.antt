@@ -1,0 +1,105 @@
+-- A save (document 01, 'Store', and the order of its refusals): what its own checks come to, by the map layer's build.
+-- Assumes nothing: these are definitions.
+use mathlib.Core.Path.{_≡_}
+use mathlib.Core.Bool.{Bool, false, _||_}
+use mathlib.Core.List.{List}
+use Prim.Native.Nat.{ℕ}
+use lib.Dec.{ltb}
+use lib.ListN.{length}
+use Rattle.text.specs.Bytes.{pick, firstOf}
+use Rattle.text.specs.Inner.{Small}
+use Rattle.text.specs.declared.uuid.Uuid.{Uuid}
+use Rattle.line.specs.declared.mapping.Mapping.{Mapping}
+use Rattle.line.specs.Maps.{emptyMap}
+use Rattle.line.specs.Reading.{readingOf, acceptedOf}
+use Rattle.map.specs.declared.error.MappingAnswer.{MappingAnswer}
+use Rattle.map.specs.declared.error.MappingAnswer.the-variants.{Accepted, Refused}
+use Rattle.map.specs.declared.mapping_data.MappingData.{MappingData}
+use Rattle.map.specs.Build.{checksOf, builtLine, builtMap}
+use Rattle.map.specs.Refusals.{mappingRefusal}
+use Rattle.store.specs.declared.calls.Answer.{Answer}
+use Rattle.store.specs.declared.calls.Answer.the-variants as A
+use Rattle.store.specs.declared.calls.SaveAnswer.{SaveAnswer}
+use Rattle.store.specs.declared.calls.SaveAnswer.the-variants as Sv
+use Rattle.store.specs.declared.calls.Saved.{Saved}
+use Rattle.map.specs.Search.{lf, firstText, platformKey}
+use Rattle.store.specs.Book.{under, Attempt, refused, files, Saving}
+use Rattle.store.specs.Store.{Done, storeAttempt}
+
+-- the arguments of a save
+pub record SaveArgs : Type 0 where
+  pub slots : MappingData
+  pub buttons : List ℕ
+  pub axes : List ℕ
+  pub name : List ℕ
+  pub uuid : Uuid
+
+abbrev pub saveArgs : MappingData → List ℕ → List ℕ → List ℕ → Uuid → SaveArgs
+saveArgs d buttons axes name u = record { slots = d; buttons = buttons; axes = axes; name = name; uuid = u }
+
+-- "saved name has LF or `platform:`": 22
+abbrev pub unsavedName : List ℕ → Bool
+unsavedName name = ltb (firstOf lf name) (length name) || ltb (firstText platformKey name) (length name)
+
+-- "A refused [..] save [..] returns the empty map"
+abbrev pub refusedSave : SaveAnswer → Saved
+refusedSave a = record { answer = a; map = emptyMap }
+
+-- "save's map is build's"
+abbrev pub acceptedSave : Mapping → Saved
+acceptedSave m = record { answer = Sv.Done; map = m }
+
+-- "Save: as build without 18, then 22", and then 19, 21
+abbrev pub attemptAfter : SaveArgs → MappingAnswer → Attempt Saved
+attemptAfter a (Refused e) = refused (refusedSave (Sv.Refused e))
+attemptAfter a Accepted =
+    pick (unsavedName (a .name)) (refused (refusedSave Sv.UnsavedName))
+    (files (under (a .uuid) (builtLine (a .slots) (a .buttons) (a .axes) (a .name) (a .uuid)))
+    (acceptedSave (builtMap (a .slots) (a .name))))
+
+unfoldable pub attemptOf : SaveArgs → Attempt Saved
+attemptOf a = attemptAfter a (checksOf (a .slots) (a .buttons) (a .axes) (a .name))
+
+unfoldable pub storeSave : List ℕ → List ℕ → SaveArgs → Done Saved
+storeSave i t a = storeAttempt (refusedSave Sv.Unsound) (refusedSave Sv.NoRoom) i t (attemptOf a)
+
+-- what a save answers by what filing its line answers (which is done, 21 or 19)
+abbrev pub saidBy : Mapping → Answer → Saved
+saidBy m A.Done = acceptedSave m
+saidBy m (A.NotUtf8 place) = refusedSave Sv.Unsound
+saidBy m A.Unsound = refusedSave Sv.Unsound
+saidBy m A.LineTooLong = refusedSave Sv.Unsound
+saidBy m A.NoRoom = refusedSave Sv.NoRoom
+saidBy m A.BufferTooLarge = refusedSave Sv.Unsound
+
+-- document 01's number of a save's answer, 0 where nothing is refused
+abbrev pub saveNumber : SaveAnswer → ℕ
+saveNumber Sv.Done = 0
+saveNumber (Sv.Refused e) = mappingRefusal e .number
+saveNumber Sv.UnsavedName = 22
+saveNumber Sv.Unsound = 19
+saveNumber Sv.NoRoom = 21
+
+-- "reading it with that save's button and axis lists gives the map, name, default flag (off) and hat flags (zero) that
+-- the save returned"
+pub record ReadsBack (a : SaveArgs) (line : List ℕ) (v : Saved) : Type 0 where
+  pub reading : readingOf line (a .buttons) (a .axes) ≡ acceptedOf (v .map)
+  pub default-off : v .map .«is_default» ≡ false
+  pub hats-zero : v .map .«hats_mapped» ≡ 0
+
+-- a save in a list of calls: its UUID has 128 bits, as every value of the program has
+pub record SaveCall : Type 0 where
+  pub args : SaveArgs
+  pub small : Small (args .uuid)
+
+-- document 01's save
+abbrev pub saving : Saving
+saving = record {
+  Args = SaveCall;
+  Value = Saved;
+  attempt = λ c. attemptOf (c .args);
+  unsound = refusedSave Sv.Unsound;
+  full = refusedSave Sv.NoRoom;
+  number = λ v. saveNumber (v .answer);
+  Reads = λ c. ReadsBack (c .args);
+}

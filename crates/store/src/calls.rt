@@ -1,0 +1,176 @@
+// The public calls of a store. Each takes any buffers and arguments; specs/Answers gives document 01's numbers.
+use crate::bytes::zero_all;
+use crate::lines::line_length;
+use crate::lines::reach_line;
+use crate::records::find;
+use crate::saving::file_built;
+use crate::saving::refused_save;
+use crate::saving::saved_as;
+use crate::saving::unsaved_name;
+use crate::soundness::BUFFER_MAX;
+use crate::soundness::LINE_MAX;
+use crate::soundness::sound;
+use line::mapping::Mapping;
+use map::error::MappingAnswer;
+use map::error::MappingError;
+use map::from_data::from_data;
+use map::mapping_data::MappingData;
+use text::bytes::find_byte;
+use text::utf8::is_utf8;
+use text::utf8::valid_up_to;
+use text::uuid::Uuid;
+ghost use mathlib.Core.Path.{_≡_};
+ghost use Rattle.store.specs.Saves.{saveArgs, storeSave};
+ghost use Rattle.store.specs.Store.{storeClear, storeInsert, lookUp, lineOf, saysOf};
+
+// What a call answers; `NotUtf8` with the length of the text's valid run.
+pub enum Answer {
+    Done,
+    NotUtf8(usize),
+    Unsound,
+    LineTooLong,
+    NoRoom,
+    BufferTooLarge,
+}
+
+// An insert's answer, and the lines walked.
+pub struct Inserted {
+    pub answer: Answer,
+    pub count: usize,
+}
+
+// What a save answers: done, build's refusal, a name that has LF or `platform:`, or as the other calls.
+pub enum SaveAnswer {
+    Done,
+    Refused(MappingError),
+    UnsavedName,
+    Unsound,
+    NoRoom,
+}
+
+// A save's answer, and its map.
+pub struct Saved {
+    pub answer: SaveAnswer,
+    pub map: Mapping,
+}
+
+// What a look-up says: a line is held, none is, or the store is not sound.
+pub enum Look {
+    Found,
+    Missing,
+    Unsound,
+}
+
+// Whether a line is held under that UUID.
+pub fn found(index: &[u8], text: &[u8], uuid: Uuid) -> Look
+    ensures { λ r. ⌜ r ≡ saysOf (lookUp uuid (now (index .entry)) (now (text .entry))) ⌝ }
+{
+    if !sound(index, text) {
+        return Look::Unsound;
+    }
+    let spot = find(index, uuid);
+    if spot.head.size == 0 {
+        return Look::Missing;
+    }
+    Look::Found
+}
+
+// The line held under a UUID, as a part of the text; an empty part where none is held, or the store is not sound.
+pub fn get<'a>(index: &[u8], text: &'a [u8], uuid: Uuid) -> &'a [u8]
+    ensures { λ r. ⌜ now r ≡ lineOf (lookUp uuid (now (index .entry)) (now (text .entry))) ⌝ }
+{
+    if !sound(index, text) {
+        return &text[0..0];
+    }
+    let spot = find(index, uuid);
+    if spot.head.size == 0 {
+        return &text[0..0];
+    }
+    let offset = spot.head.off;
+    let length = spot.head.len;
+    &text[offset..offset + length]
+}
+
+// Sets every byte of both buffers to 0, whether the store was sound or not.
+pub fn clear(index: &mut [u8], text: &mut [u8]) -> Answer
+    ensures { λ r. ⌜
+        record { answer = r; index = now (index .exit); text = now (text .exit) }
+        ≡ storeClear (now (index .entry)) (now (text .entry)) ⌝ }
+{
+    if BUFFER_MAX < index.len() {
+        return Answer::BufferTooLarge;
+    }
+    if BUFFER_MAX < text.len() {
+        return Answer::BufferTooLarge;
+    }
+    zero_all(index);
+    zero_all(text);
+    Answer::Done
+}
+
+// Files the wanted lines of a text, in order, up to one that is too long or has no room.
+pub fn insert(index: &mut [u8], text: &mut [u8], lines: &[u8]) -> Inserted
+    ensures { λ r. ⌜
+        record { answer = r; index = now (index .exit); text = now (text .exit) }
+        ≡ storeInsert (now (index .entry)) (now (text .entry)) (now (lines .entry)) ⌝ }
+{
+    if !sound(index, text) {
+        return Inserted {
+            answer: Answer::Unsound,
+            count: 0,
+        };
+    }
+    if !is_utf8(lines) {
+        return Inserted {
+            answer: Answer::NotUtf8(valid_up_to(lines)),
+            count: 0,
+        };
+    }
+    let mut at = 0;
+    let mut count = 0;
+    while at < lines.len() {
+        let end = find_byte(&lines[at..], b'\n');
+        let len = line_length(&lines[at..], end);
+        let step = reach_line(index, text, &lines[at..at + len]);
+        if !step.on {
+            let answer = step.answer;
+            return Inserted { answer, count };
+        }
+        count += 1;
+        at += end + 1;
+    }
+    Inserted {
+        answer: Answer::Done,
+        count,
+    }
+}
+
+// Builds a line and files it.
+pub fn save(
+    index: &mut [u8],
+    text: &mut [u8],
+    data: MappingData,
+    buttons: &[u32],
+    axes: &[u32],
+    name: &[u8],
+    uuid: Uuid,
+) -> Saved
+    ensures { λ r. ⌜
+        record { answer = r; index = now (index .exit); text = now (text .exit) }
+        ≡ storeSave (now (index .entry)) (now (text .entry))
+        (saveArgs «data» (now (buttons .entry)) (now (axes .entry)) (now (name .entry)) uuid) ⌝ }
+{
+    let mut scratch = [0u8; LINE_MAX];
+    let built = from_data(data, buttons, axes, name, uuid, &mut scratch);
+    let answer = built.answer;
+    if let MappingAnswer::Refused(e) = answer {
+        return refused_save(SaveAnswer::Refused(e));
+    }
+    if unsaved_name(name) {
+        return refused_save(SaveAnswer::UnsavedName);
+    }
+    let len = built.len;
+    let filed = file_built(index, text, uuid, &scratch[0..len]);
+    let map = built.map;
+    saved_as(filed, map)
+}

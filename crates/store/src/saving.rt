@@ -1,0 +1,70 @@
+// The end of a save: a line that was built goes into the store.
+use crate::calls::Answer;
+use crate::calls::SaveAnswer;
+use crate::calls::Saved;
+use crate::filing::file_line;
+use crate::lines::find_text;
+use crate::soundness::sound;
+use line::mapping::Mapping;
+use text::bytes::find_byte;
+use text::uuid::Uuid;
+ghost use mathlib.Core.Path.{_≡_};
+ghost use Prim.Native.Nat.{_≤_};
+ghost use lib.ListN.{length};
+ghost use Rattle.map.specs.Bounds.{lineMax};
+ghost use Rattle.store.specs.Book.{under};
+ghost use Rattle.store.specs.Store.{storeFile};
+ghost use Rattle.store.specs.Saves.{unsavedName, refusedSave, saidBy};
+
+// Files a line that was built under its UUID, unless the store is not sound or has no room.
+pub fn file_built(index: &mut [u8], text: &mut [u8], uuid: Uuid, line: &[u8]) -> Answer
+    requires { ⌜ (1 ≤ length (now line)) × (length (now line) ≤ lineMax) ⌝ }
+    ensures { λ r. ⌜
+        record { answer = r; index = now (index .exit); text = now (text .exit) }
+        ≡ storeFile (now (index .entry)) (now (text .entry)) (under uuid (now (line .entry))) ⌝ }
+{
+    if !sound(index, text) {
+        return Answer::Unsound;
+    }
+    if !file_line(index, text, uuid, line) {
+        return Answer::NoRoom;
+    }
+    Answer::Done
+}
+
+// Whether a name has LF or `platform:`.
+pub fn unsaved_name(name: &[u8]) -> bool
+    ensures { λ r. ⌜ r ≡ unsavedName (now (name .entry)) ⌝ }
+{
+    if find_byte(name, b'\n') < name.len() {
+        return true;
+    }
+    find_text(name, b"platform:") < name.len()
+}
+
+// A refused save has the empty map.
+pub fn refused_save(answer: SaveAnswer) -> Saved
+    ensures { λ r. ⌜ r ≡ refusedSave answer ⌝ }
+{
+    Saved {
+        answer,
+        map: Mapping::new(),
+    }
+}
+
+// What a save answers when its line was filed, or was not.
+pub fn saved_as(filed: Answer, map: Mapping) -> Saved
+    ensures { λ r. ⌜ r ≡ saidBy map filed ⌝ }
+{
+    match filed {
+        Answer::Done => Saved {
+            answer: SaveAnswer::Done,
+            map,
+        },
+        Answer::NoRoom => refused_save(SaveAnswer::NoRoom),
+        Answer::Unsound => refused_save(SaveAnswer::Unsound),
+        Answer::NotUtf8(_) => refused_save(SaveAnswer::Unsound),
+        Answer::LineTooLong => refused_save(SaveAnswer::Unsound),
+        Answer::BufferTooLarge => refused_save(SaveAnswer::Unsound),
+    }
+}
