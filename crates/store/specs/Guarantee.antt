@@ -35,8 +35,7 @@ abbrev pub lastOf : {S : Saving} → ℕ → ℕ → List (Call S) → Key → O
 lastOf n m xs k = lastFiled k (filings n m [] [] xs)
 
 -- a save filed that line under k: it is the line of the save's attempt, the save's answer is that attempt's, and
--- reading the
--- line with the save's lists gives what that answer has
+-- reading the line with the save's lists gives what that answer has
 pub record FromSave (S : Saving) (k : Key) (f : Filing S) (a : S .Args) : Type 0 where
   pub value : S .Value
   pub attempted : S .attempt a ≡ files (f .held) value

@@ -1,7 +1,5 @@
 -- What the contracts of private functions say of a store, each for every list of lines that lies in the index, and
--- what the
--- proofs go by. No public contract cites these.
--- Assumes nothing: these are definitions.
+-- what the proofs go by. No public contract cites these. Assumes nothing: these are definitions.
 use mathlib.Core.Path.{_≡_}
 use mathlib.Core.Bool.{Bool, true, false}
 use mathlib.Core.Option.{some}
