@@ -1,4 +1,6 @@
 // The fields of a case: words with one space between, bytes in hexadecimal, numbers in base ten.
+ghost use Prim.Native.Nat.{_<_};
+ghost use lib.ListN.{length};
 ghost use Rattle.io.specs.Counts.{Counts};
 use text::bytes::find_byte;
 use text::decimal::IndexParse;
@@ -18,9 +20,9 @@ pub fn word(s: &[u8]) -> &[u8] {
     before(s, b' ')
 }
 
-// What stands after the first space.
-pub fn rest(s: &[u8]) -> &[u8] {
-    let n = find_byte(s, b' ');
+// What stands after the first `b`, or nothing.
+pub fn after(s: &[u8], b: u8) -> &[u8] {
+    let n = find_byte(s, b);
     if n < s.len() {
         let from = n + 1;
         return &s[from..];
@@ -28,12 +30,17 @@ pub fn rest(s: &[u8]) -> &[u8] {
     &s[..0]
 }
 
-// The value of an upper-case hexadecimal digit.
+// What stands after the first space.
+pub fn rest(s: &[u8]) -> &[u8] {
+    after(s, b' ')
+}
+
+// The value of a hexadecimal digit.
 fn digit(b: u8) -> u8 {
     if b < b'A' {
         return b % 16;
     }
-    (b - b'A') % 6 + 10
+    (b % 32 + 9) % 16
 }
 
 // The byte that the two digits at `2 * i` spell.
@@ -42,6 +49,38 @@ fn byte_at(s: &[u8], i: usize) -> u8 {
         return digit(s[2 * i]) % 16 * 16 + digit(s[2 * i + 1]) % 16;
     }
     0
+}
+
+// The number that hexadecimal digits spell, modulo 2^32.
+pub fn hex_number(s: &[u8]) -> u32 {
+    let mut n: u32 = 0;
+    let mut i = 0;
+    while i < s.len() {
+        n = n % 0x10000000 * 16 + digit(s[i]) as u32 % 16;
+        i += 1;
+    }
+    n
+}
+
+// The part that starts at `at` and ends before the next `b`.
+pub fn part_at(s: &[u8], at: usize, b: u8) -> &[u8] {
+    if at < s.len() {
+        return before(&s[at..], b);
+    }
+    &s[..0]
+}
+
+// The place after the part that starts at `at`, or the length where none starts there.
+pub fn after_part(s: &[u8], at: usize, b: u8) -> usize
+    ensures { λ r. ⌜ (at < length (now (s .entry)) → at < r) ⌝ }
+{
+    if at < s.len() {
+        let end = find_byte(&s[at..], b);
+        if end < s.len() - at {
+            return at + end + 1;
+        }
+    }
+    s.len()
 }
 
 // Puts the bytes that `s` spells into `out`, and returns how many there are.

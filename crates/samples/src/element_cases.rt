@@ -23,7 +23,7 @@ fn flag(out: Text, on: bool, letter: u8) -> Text {
 }
 
 // The element that a word `b1` or `a1` is.
-fn element(s: &[u8]) -> AxisOrBtn {
+pub fn element(s: &[u8]) -> AxisOrBtn {
     if s.len() == 0 {
         return AxisOrBtn::Btn(Button(0));
     }

@@ -2,6 +2,7 @@
 // A token is written `U<low half>`, `N<start>+<len>`, `P<start>+<len>`, or `A<axis>`, `B<button>`, `H<hat>.<direction>`
 // with `><element>`, the input and the output range, `F`, `U` or `L`, and `~` where inverted; a refusal
 // `!<number>@<place>`; the end `E`; a map `<name start>+<name len>;<hat flags>;<code>=<element>,..`.
+use crate::cases::after;
 use crate::cases::before;
 use crate::cases::rest;
 use crate::cases::unhex;
@@ -20,7 +21,6 @@ use line::reading::ParseSdlMappingError;
 use line::reading::SdlAnswer;
 use line::reading::SdlMapping;
 use line::reading::parse_sdl_mapping;
-use text::bytes::find_byte;
 use text::bytes::same_bytes;
 
 const NIL: [u8; 32] = *b"00000000000000000000000000000000";
@@ -32,17 +32,13 @@ const AXES: [u32; 1] = [0x30000];
 // The line that a case spells.
 pub fn spelled(s: &[u8]) -> Text {
     if same_bytes(before(s, b','), b"U") {
-        let n = find_byte(s, b',');
-        return Text::new().text(&NIL).text(after(s, n));
+        let nil = Text::new().text(&NIL);
+        if s.len() == 1 {
+            return nil;
+        }
+        return nil.byte(b',').text(after(s, b','));
     }
     Text::new().text(s)
-}
-
-fn after(s: &[u8], n: usize) -> &[u8] {
-    if n < s.len() {
-        return &s[n..];
-    }
-    &s[..0]
 }
 
 fn range(r: AxisRange) -> u8 {
@@ -197,13 +193,17 @@ pub fn error(out: Text, e: ParseSdlMappingError) -> Text {
 }
 
 // A refused reading has the empty map too.
-fn said(reading: SdlMapping) -> Text {
+pub fn said(reading: SdlMapping) -> Text {
     let answer = reading.answer;
     let map = reading.map;
     let out = match answer {
         SdlAnswer::Accepted => Text::new(),
         SdlAnswer::Refused(e) => error(Text::new(), e).byte(b';'),
     };
+    map_text(out, map)
+}
+
+pub fn map_text(out: Text, map: Mapping) -> Text {
     let name = part(out, map.name_start, map.name_len).byte(b';');
     entries(name.number(map.hats_mapped as usize).byte(b';'), map)
 }

@@ -1,18 +1,20 @@
 // Executes the cases of data/ against the library and compares each answer with what is expected.
 // A file has groups, `== TITLE`, each of cases, one a line; `#` starts a comment. A mismatch prints its line.
+mod build_cases;
 mod cases;
+mod codes;
 mod element_cases;
 mod line_cases;
 mod many_cases;
+mod slot_cases;
 mod text_cases;
 mod written;
 
-ghost use Prim.Native.Nat.{_≤_, _<_};
-ghost use lib.ListN.{length};
-use cases::before;
+ghost use Prim.Native.Nat.{_≤_};
+use cases::after_part;
+use cases::part_at;
 use cases::rest;
 use cases::word;
-use text::bytes::find_byte;
 use text::bytes::same_bytes;
 
 // How many cases were run, and how many of them went wrong.
@@ -29,14 +31,6 @@ struct Group {
 
 fn say(text: &[u8]) {
     io::write_all(1, text);
-}
-
-// The line that starts at `at`, without its LF.
-fn line_at(list: &[u8], at: usize) -> &[u8] {
-    if at < list.len() {
-        return before(&list[at..], b'\n');
-    }
-    &list[..0]
 }
 
 // Whether a line has a title, and not a case.
@@ -92,6 +86,20 @@ fn run_element_case(kind: &[u8], args: &[u8]) -> bool {
     run_text_case(kind, args)
 }
 
+// Runs one case of the map layer.
+fn run_map_case(kind: &[u8], args: &[u8]) -> bool {
+    if same_bytes(kind, b"build") {
+        return build_cases::build_case(args);
+    }
+    if same_bytes(kind, b"slots") {
+        return slot_cases::slots_case(args);
+    }
+    if same_bytes(kind, b"default") {
+        return slot_cases::default_case(args);
+    }
+    run_element_case(kind, args)
+}
+
 // Runs one case, by its first word. A kind that nobody knows is wrong.
 fn run_case(line: &[u8]) -> bool {
     let kind = word(line);
@@ -114,7 +122,7 @@ fn run_case(line: &[u8]) -> bool {
     if same_bytes(kind, b"many-hex") {
         return many_cases::many_hex_case(args);
     }
-    run_element_case(kind, args)
+    run_map_case(kind, args)
 }
 
 // Counts one case more.
@@ -135,19 +143,6 @@ fn counted(totals: Totals, right: bool, line: &[u8]) -> Totals {
     }
 }
 
-// The place after the line that starts at `at`, or the length where no line starts there.
-fn after_line(list: &[u8], at: usize) -> usize
-    ensures { λ r. ⌜ (at < length (now (list .entry)) → at < r) ⌝ }
-{
-    if at < list.len() {
-        let end = find_byte(&list[at..], b'\n');
-        if end < list.len() - at {
-            return at + end + 1;
-        }
-    }
-    list.len()
-}
-
 // Runs the cases from `at` on, up to the next title.
 fn run_group(list: &[u8], at: usize) -> Group
     ensures { λ r. ⌜ at ≤ r .next ⌝ }
@@ -155,14 +150,14 @@ fn run_group(list: &[u8], at: usize) -> Group
     let mut totals = Totals { cases: 0, wrong: 0 };
     let mut next = at;
     while next < list.len() {
-        let line = line_at(list, next);
+        let line = part_at(list, next, b'\n');
         if is_title(line) {
             return Group { totals, next };
         }
         if !is_blank(line) {
             totals = counted(totals, run_case(line), line);
         }
-        next = after_line(list, next);
+        next = after_part(list, next, b'\n');
     }
     Group { totals, next }
 }
@@ -174,27 +169,41 @@ fn say_totals(totals: Totals) {
     say(b" wrong\n");
 }
 
+// Prints a title, runs its group, and prints how it went.
+fn run_titled(title: &[u8], list: &[u8], from: usize) -> Group
+    ensures { λ r. ⌜ from ≤ r .next ⌝ }
+{
+    say(rest(title));
+    say(b": ");
+    let group = run_group(list, from);
+    let totals = group.totals;
+    say_totals(totals);
+    group
+}
+
+// Both together.
+fn added(a: Totals, b: Totals) -> Totals {
+    Totals {
+        cases: std::num::wrapping_add_u64(a.cases, b.cases),
+        wrong: std::num::wrapping_add_u64(a.wrong, b.wrong),
+    }
+}
+
 // Runs a whole list, and prints a line per group.
 fn run_list(list: &[u8]) -> Totals {
-    let mut cases: u64 = 0;
-    let mut wrong: u64 = 0;
+    let mut all = Totals { cases: 0, wrong: 0 };
     let mut at: usize = 0;
     while at < list.len() {
-        let line = line_at(list, at);
-        let from = after_line(list, at);
-        at = from;
+        let line = part_at(list, at, b'\n');
+        at = after_part(list, at, b'\n');
         if is_title(line) {
-            say(rest(line));
-            say(b": ");
-            let group = run_group(list, from);
+            let group = run_titled(line, list, at);
             let totals = group.totals;
-            say_totals(totals);
-            cases = std::num::wrapping_add_u64(cases, totals.cases);
-            wrong = std::num::wrapping_add_u64(wrong, totals.wrong);
+            all = added(all, totals);
             at = group.next;
         }
     }
-    Totals { cases, wrong }
+    all
 }
 
 // Runs the list in a file of at most 65536 bytes.
@@ -215,8 +224,6 @@ fn run_file(path: &[u8]) -> Totals {
 fn main() {
     let text = run_file(b"text.txt");
     let line = run_file(b"line.txt");
-    say_totals(Totals {
-        cases: std::num::wrapping_add_u64(text.cases, line.cases),
-        wrong: std::num::wrapping_add_u64(text.wrong, line.wrong),
-    });
+    let map = run_file(b"map.txt");
+    say_totals(added(added(text, line), map));
 }

@@ -3,6 +3,8 @@ use crate::cases::number;
 use crate::cases::rest;
 use crate::cases::unhex;
 use crate::cases::word;
+use crate::codes::first;
+use crate::codes::numbered;
 use crate::line_cases::error;
 use crate::line_cases::spelled;
 use crate::written::Text;
@@ -10,26 +12,6 @@ use crate::written::written;
 use line::reading::SdlAnswer;
 use line::reading::SdlMapping;
 use line::reading::parse_sdl_mapping;
-
-const LONGEST: usize = 1025;
-
-// The codes 1 to 1025.
-fn codes() -> [u32; LONGEST] {
-    let mut list = [0u32; LONGEST];
-    let mut code: u32 = 1;
-    for i in 0..LONGEST {
-        list[i] = code;
-        code = std::num::wrapping_add_u32(code, 1);
-    }
-    list
-}
-
-fn first(list: &[u32], n: usize) -> &[u32] {
-    if n <= list.len() {
-        return &list[..n];
-    }
-    list
-}
 
 // The line `START,a:b0,a:b1,..END` with so many pairs.
 fn line_of(start: &[u8], pairs: usize, end: &[u8]) -> Text {
@@ -67,7 +49,7 @@ pub fn many_case(args: &[u8]) -> bool {
     let more = rest(rest(lists));
     let tail = rest(more);
     let line = line_of(word(tail), number(word(more)), rest(tail));
-    let list = codes();
+    let list = numbered();
     let reading = read(line, &list, number(word(lists)), number(word(rest(lists))));
     counted(reading).is(word(args))
 }
@@ -78,7 +60,7 @@ pub fn many_hex_case(args: &[u8]) -> bool {
     let lists = rest(args);
     let n = unhex(rest(rest(lists)), &mut space);
     let line = Text::new().text(&space[..n]);
-    let list = codes();
+    let list = numbered();
     let reading = read(line, &list, number(word(lists)), number(word(rest(lists))));
     counted(reading).is(word(args))
 }

@@ -67,6 +67,31 @@ impl Text {
         }
     }
 
+    // The other text after it.
+    pub fn and(self, other: Text) -> Text {
+        let bytes = other.bytes;
+        let len = other.len;
+        self.text(written(&bytes, len))
+    }
+
+    pub fn same(self, other: Text) -> bool {
+        let bytes = self.bytes;
+        let len = self.len;
+        other.same_as(written(&bytes, len))
+    }
+
+    fn same_as(self, other: &[u8]) -> bool {
+        let bytes = self.bytes;
+        let len = self.len;
+        same_bytes(written(&bytes, len), other)
+    }
+
+    pub fn is_text(self, expected: Text) -> bool {
+        let bytes = expected.bytes;
+        let len = expected.len;
+        self.is(written(&bytes, len))
+    }
+
     // Whether it is the expected text; else it is printed.
     pub fn is(self, expected: &[u8]) -> bool {
         let bytes = self.bytes;

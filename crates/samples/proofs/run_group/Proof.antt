@@ -15,8 +15,8 @@ abbrev μ-loop : tie.MeasureT-loop
 loop-holds : tie.Need-loop-holds Inv-loop μ-loop
 loop-holds c = omega arith
 
-line-at-requires : tie.Need-line-at-requires Inv-loop μ-loop
-line-at-requires c κs = tt
+part-at-requires : tie.Need-part-at-requires Inv-loop μ-loop
+part-at-requires c κs = tt
 
 is-title-requires : tie.Need-is-title-requires Inv-loop μ-loop
 is-title-requires c κs = tt
@@ -33,16 +33,16 @@ run-case-requires c κs = tt
 counted-requires : tie.Need-counted-requires Inv-loop μ-loop
 counted-requires c κs = tt
 
-after-line-requires : tie.Need-after-line-requires Inv-loop μ-loop
-after-line-requires c κs = tt
+after-part-requires : tie.Need-after-part-requires Inv-loop μ-loop
+after-part-requires c κs = tt
 
 loop-less : tie.Need-loop-less Inv-loop μ-loop
 loop-less c =
-    omega (arith, c .after-line .ensures (c .before .before .before .before .before .before .loop-test .taken))
+    omega (arith, c .after-part .ensures (c .before .before .before .before .before .before .loop-test .taken))
 
 loop-again : tie.Need-loop-again Inv-loop μ-loop
 loop-again c =
-    omega (arith, c .after-line .ensures (c .before .before .before .before .before .before .loop-test .taken))
+    omega (arith, c .after-part .ensures (c .before .before .before .before .before .before .loop-test .taken))
 
 returns-2 : tie.Need-returns-2 Inv-loop μ-loop
 returns-2 c = omega arith
@@ -54,13 +54,13 @@ run-group-spec =
     Inv-loop
     μ-loop
     loop-holds
-    line-at-requires
+    part-at-requires
     is-title-requires
     returns
     is-blank-requires
     run-case-requires
     counted-requires
-    after-line-requires
+    after-part-requires
     loop-less
     loop-again
     returns-2)

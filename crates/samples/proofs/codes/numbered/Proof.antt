@@ -3,8 +3,8 @@
 use borrow.Author.Needs.{needs}
 use native.Mathlib.Omega.{arith}
 use Prim.Native.Nat.{_-_, _≤_}
-use Rattle.samples.proofs.many_cases.codes.Statement.{statement}
-use Rattle.samples.proofs.many_cases.codes.Tie as tie
+use Rattle.samples.proofs.codes.numbered.Statement.{statement}
+use Rattle.samples.proofs.codes.numbered.Tie as tie
 
 abbrev Inv-loop : tie.InvT-loop
 Inv-loop list₀ code₀ i₀ list code i = i ≤ 1025
@@ -36,8 +36,8 @@ loop-again c = omega arith
 returns : tie.Need-returns Inv-loop μ-loop
 returns c = search needs
 
-pub codes-spec : {M : Type 1} → statement M
-codes-spec =
+pub numbered-spec : {M : Type 1} → statement M
+numbered-spec =
     tie.close
     (tie.spec
     Inv-loop

@@ -4,8 +4,8 @@ use native.Mathlib.Omega.{arith}
 use lib.Seq.{length-take-le}
 use mathlib.Core.Path.{sym}
 use borrow.Author.Needs.{needs}
-use Rattle.samples.proofs.many_cases.first.Statement.{statement}
-use Rattle.samples.proofs.many_cases.first.Tie as tie
+use Rattle.samples.proofs.codes.first.Statement.{statement}
+use Rattle.samples.proofs.codes.first.Tie as tie
 
 slice-aggregate-result : tie.Need-slice-aggregate-result
 slice-aggregate-result c = sym (length-take-le _ (c .before .before .args .list .now) (omega arith))

@@ -1,0 +1,48 @@
+-- Each turn writes one byte.
+-- Assumes nothing.
+use borrow.Author.Needs.{needs}
+use native.Mathlib.Omega.{arith}
+use Prim.Native.Nat.{_-_}
+use Rattle.samples.proofs.build_cases.repeated.Statement.{statement}
+use Rattle.samples.proofs.build_cases.repeated.Tie as tie
+
+abbrev Inv-loop : tie.InvT-loop
+Inv-loop n b out₀ i₀ out i = Unit {0}
+
+abbrev μ-loop : tie.MeasureT-loop
+μ-loop n b out₀ i₀ out i = n - i
+
+new-requires : tie.Need-new-requires Inv-loop μ-loop
+new-requires c κs = search needs
+
+loop-holds : tie.Need-loop-holds Inv-loop μ-loop
+loop-holds c = tt
+
+byte-requires : tie.Need-byte-requires Inv-loop μ-loop
+byte-requires c κs = search needs
+
+add-i : tie.Need-add-i Inv-loop μ-loop
+add-i c = omega arith
+
+loop-less : tie.Need-loop-less Inv-loop μ-loop
+loop-less c = omega arith
+
+loop-again : tie.Need-loop-again Inv-loop μ-loop
+loop-again c = tt
+
+returns : tie.Need-returns Inv-loop μ-loop
+returns c = search needs
+
+pub repeated-spec : {M : Type 1} → statement M
+repeated-spec =
+    tie.close
+    (tie.spec
+    Inv-loop
+    μ-loop
+    new-requires
+    loop-holds
+    byte-requires
+    add-i
+    loop-less
+    loop-again
+    returns)
