@@ -3,18 +3,19 @@
 use Prim.Native.Nat.{ℕ, _+_, _<_, _≤_}
 use mathlib.Core.Path.{_≡_, refl, sym, ap, _∙_}
 use mathlib.Core.Bool.{false}
-use mathlib.Core.List.{List, [], _∷_}
+use mathlib.Core.List.{List, [], _∷_, _++_}
 use native.Mathlib.Omega.{arith}
 use lib.ListN.{length, drop, getD, length-take, drop-of-length-le}
 use Rattle.line.specs.declared.mapping.Entry.{Entry}
 use Rattle.line.specs.declared.mapping.Mapping.{Mapping}
-use Rattle.line.specs.Maps.{CODES_MAX, MapView, putEntry, putOf, toMap, emptyMap}
+use Rattle.line.specs.Maps.{CODES_MAX, MapView, Ascending, putEntry, putOf, toMap, emptyMap}
 use Rattle.line.specs.Effects.{putsInto}
+use Rattle.line.proofs.PutLaws.{put-ascending}
 use Rattle.line.proofs.ViewLaws.{with, put-adds, put-map}
 use Rattle.line.proofs.FoldLaws.{puts-append}
 use Rattle.map.specs.declared.from_data.filled.Filled.{Filled}
 use Rattle.map.specs.declared.mapping_data.MappingData.{MappingData}
-use Rattle.map.specs.Build.{filledButtons, filledAxes, nameStart, builtMap}
+use Rattle.map.specs.Build.{filledButtons, filledAxes, nameStart, builtView, builtMap}
 use Rattle.map.specs.Inner.{heldIn, putAll}
 use Rattle.map.proofs.FilledLaws.{held-next, buttons-few, axes-few}
 
@@ -60,6 +61,19 @@ pub puts-few : (es zs : List Entry) → length (putsInto es zs) ≤ length zs + 
 unfolding putsInto
 puts-few [] zs = omega arith
 puts-few (e ∷ es) zs = omega (arith, puts-few es (putEntry e zs), put-adds e zs)
+
+-- "ascending by code"
+pub puts-ascending : (es zs : List Entry) → Ascending zs → Ascending (putsInto es zs)
+unfolding putsInto
+puts-ascending [] zs h = h
+puts-ascending (e ∷ es) zs h = puts-ascending es (putEntry e zs) (put-ascending e zs h)
+
+none-ascending : Ascending []
+unfolding Ascending
+none-ascending = tt
+
+pub built-ascending : (d : MappingData) (name : List ℕ) → Ascending (builtView d name .list)
+built-ascending d name = puts-ascending (filledButtons d ++ filledAxes d) [] none-ascending
 
 -- ---- the map of a build
 named-map : (m : Mapping) (n : ℕ) → m ≡ emptyMap → named m n ≡ toMap (namedView n)

@@ -47,8 +47,9 @@ filledButtons d = filledFrom (λ k. buttonOf d (record { 0 = k })) asButton butt
 abbrev pub filledAxes : MappingData → List Entry
 filledAxes d = filledFrom (λ k. axisOf d (record { 0 = k })) asAxis axisSlots 0
 
--- ---- the checks
--- "name over 2048 bytes"
+-- ---- the checks: "Build 10, 17, 12, 13, 14 for the button, 15 for buttons ascending, 14 for the axis, 15 ascending,
+-- 16, 18", one line for each below; 18 stands in `answerOf`
+-- 17: "name over 2048 bytes"
 abbrev pub NAME_MAX : ℕ
 NAME_MAX = 2048
 
@@ -58,11 +59,11 @@ unless t e rest = pick t rest (Refused e)
 abbrev pub when : Bool → MappingError → MappingAnswer → MappingAnswer
 when t e rest = pick t (Refused e) rest
 
--- "comma in name"
+-- 13: "comma in name"
 abbrev pub commaFree : List ℕ → Bool
 commaFree name = eqb (firstOf (byte ",") name) (length name)
 
--- "code not in its list; carries it": the first of the entries for which that holds
+-- 15: "code not in its list; carries it": that of the first entry for which it holds
 unfoldable pub missingOf : List Entry → List ℕ → SlotCode
 missingOf [] codes = Nothing
 missingOf (e ∷ es) codes = pick (inList (e .code) codes) (missingOf es codes) (Is (e .code))
@@ -71,8 +72,7 @@ abbrev pub whenMissing : SlotCode → MappingAnswer → MappingAnswer
 whenMissing (Is c) rest = Refused (Me.InvalidCode c)
 whenMissing Nothing rest = rest
 
--- "14 for the button, 15 for buttons ascending", then
--- "14 for the axis, 15 ascending, 16"
+-- "14 for the axis, 15 ascending, 16": "Unknown slot filled", "axis slot 7 or 8"
 unfoldable pub axisChecks : MappingData → List ℕ → MappingAnswer
 axisChecks d axes =
     when (hasCode (axisOf d A.Unknown)) Me.UnknownElement
@@ -81,13 +81,14 @@ axisChecks d axes =
     (when (hasCode (axisOf d A.DPadY)) Me.NotSdl2Compatible
     Accepted)))
 
+-- "14 for the button, 15 for buttons ascending", then the axes'
 unfoldable pub slotChecks : MappingData → List ℕ → List ℕ → MappingAnswer
 slotChecks d buttons axes =
     when (hasCode (buttonOf d B.Unknown)) Me.UnknownElement
     (whenMissing (missingOf (filledButtons d) buttons)
     (axisChecks d axes))
 
--- "Build 10, 17, 12, 13", then the slots'
+-- "10, 17, 12, 13", then the slots'
 unfoldable pub checksOf : MappingData → List ℕ → List ℕ → List ℕ → MappingAnswer
 checksOf d buttons axes name =
     unless (isUtf8 name) (Me.NotUtf8 (validRun name))
@@ -141,7 +142,7 @@ abbrev pub after : MappingAnswer → MappingAnswer → MappingAnswer
 after Accepted rest = rest
 after (Refused e) rest = Refused e
 
--- "18": "output shorter than the line", after all others
+-- 18: "output shorter than the line", after all others
 unfoldable pub answerOf : MappingData → List ℕ → List ℕ → List ℕ → Uuid → ℕ → MappingAnswer
 answerOf d buttons axes name uuid room =
     after (checksOf d buttons axes name)
@@ -168,6 +169,7 @@ unfoldable pub outputOf : MappingData → List ℕ → List ℕ → List ℕ →
 outputOf d buttons axes name uuid out =
     left (answerOf d buttons axes name uuid (length out)) out (builtLine d buttons axes name uuid)
 
+-- what build answers, and the output that it leaves
 abbrev pub Builds : MappingData → List ℕ → List ℕ → List ℕ → Uuid → List ℕ → Built → List ℕ → Type 0
 Builds d buttons axes name uuid out answer after =
     (answer ≡ buildOf d buttons axes name uuid (length out)) × (after ≡ outputOf d buttons axes name uuid out)

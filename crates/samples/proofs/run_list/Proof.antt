@@ -33,8 +33,11 @@ added-requires c κs = search needs
 
 loop-less : tie.Need-loop-less Inv-loop μ-loop
 loop-less c =
-    omega (arith, c .before .before .before .before .before .after-part .ensures
-    (c .before .before .before .before .before .before .before .loop-test .taken))
+    omega (
+      arith,
+      c .before .before .before .before .before .after-part .ensures
+          (c .before .before .before .before .before .before .before .loop-test .taken),
+    )
 
 loop-again : tie.Need-loop-again Inv-loop μ-loop
 loop-again c = tt
