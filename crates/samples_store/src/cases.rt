@@ -1,0 +1,129 @@
+// The cases, each on the store as the one before left it. An answer is document 01's number, 0 where there is none.
+use crate::fields::after;
+use crate::fields::before;
+use crate::fields::number;
+use crate::fields::rest;
+use crate::fields::unhex;
+use crate::fields::uuid;
+use crate::fields::word;
+use crate::spelled::first;
+use crate::spelled::spelled;
+use store::calls::Answer;
+use store::calls::Look;
+use store::calls::clear;
+use store::calls::found;
+use store::calls::get;
+use store::calls::insert;
+use text::bytes::same_bytes;
+
+fn answer_number(answer: Answer) -> usize {
+    match answer {
+        Answer::Done => 0,
+        Answer::NotUtf8(_) => 10,
+        Answer::Unsound => 19,
+        Answer::LineTooLong => 20,
+        Answer::NoRoom => 21,
+        Answer::BufferTooLarge => 23,
+    }
+}
+
+fn answer_place(answer: Answer) -> usize {
+    match answer {
+        Answer::NotUtf8(place) => place,
+        Answer::Done => 65535,
+        Answer::Unsound => 65535,
+        Answer::LineTooLong => 65535,
+        Answer::NoRoom => 65535,
+        Answer::BufferTooLarge => 65535,
+    }
+}
+
+// Whether it is the expected one: `19`, or `10@3` with the place.
+fn is(answer: Answer, expected: &[u8]) -> bool {
+    if answer_number(answer) != number(before(expected, b'@')) {
+        return false;
+    }
+    answer_place(answer) == number(after(expected, b'@'))
+}
+
+// `clear ANSWER`
+pub fn clear_case(index: &mut [u8], text: &mut [u8], args: &[u8]) -> bool {
+    is(clear(index, text), args)
+}
+
+// `insert ANSWER COUNT TEXT`
+pub fn insert_case(index: &mut [u8], text: &mut [u8], args: &[u8]) -> bool {
+    let lines = spelled(rest(rest(args)));
+    let bytes = lines.bytes;
+    let len = lines.len;
+    let inserted = insert(index, text, first(&bytes, len));
+    let answer = inserted.answer;
+    if inserted.count != number(word(rest(args))) {
+        return false;
+    }
+    is(answer, word(args))
+}
+
+fn look_number(look: Look) -> usize {
+    match look {
+        Look::Found => 1,
+        Look::Missing => 0,
+        Look::Unsound => 19,
+    }
+}
+
+fn same_line(index: &[u8], text: &[u8], key: &[u8], line: &[u8]) -> bool {
+    same_bytes(get(index, text, uuid(key)), line)
+}
+
+// `find SAYS UUID LINE`: 1 found, 0 none or 19, and the line that is handed back, empty unless found.
+pub fn find_case(index: &[u8], text: &[u8], args: &[u8]) -> bool {
+    let key = word(rest(args));
+    if look_number(found(index, text, uuid(key))) != number(word(args)) {
+        return false;
+    }
+    let line = spelled(rest(rest(args)));
+    let bytes = line.bytes;
+    let len = line.len;
+    same_line(index, text, key, first(&bytes, len))
+}
+
+// Whether all bytes from `from` on are 0.
+fn zero_from(s: &[u8], from: usize) -> bool {
+    let mut i = from;
+    while i < s.len() {
+        if s[i] != 0 {
+            return false;
+        }
+        i += 1;
+    }
+    true
+}
+
+fn is_followed_by_zeros(s: &[u8], expected: &[u8]) -> bool {
+    if !same_bytes(first(s, expected.len()), expected) {
+        return false;
+    }
+    zero_from(s, expected.len())
+}
+
+// `index TEXT`, `text TEXT`: the bytes of the buffer, all after them being 0.
+pub fn bytes_case(buffer: &[u8], args: &[u8]) -> bool {
+    let expected = spelled(args);
+    let bytes = expected.bytes;
+    let len = expected.len;
+    is_followed_by_zeros(buffer, first(&bytes, len))
+}
+
+// Puts bytes into a buffer from `at` on, as many as fit.
+fn put(buffer: &mut [u8], at: usize, bytes: &[u8]) {
+    text::bytes::write_bytes(buffer, at, bytes);
+}
+
+// `poke-index AT BYTES`, `poke-text AT BYTES`: changes bytes; not a call of the store.
+pub fn poke_case(buffer: &mut [u8], args: &[u8]) -> bool {
+    let mut space = [0u8; 64];
+    let n = unhex(rest(args), &mut space);
+    put(buffer, number(word(args)), &space[..n]);
+    true
+}
