@@ -90,12 +90,16 @@ pub fn unhex(s: &[u8], out: &mut [u8]) -> usize
 }
 
 // The number in a word, or 65535 where it is none.
-pub fn number(s: &[u8]) -> usize {
+pub fn short(s: &[u8]) -> u16 {
     let parsed = parse_u16(s);
     match parsed {
-        IndexParse::Parsed(n) => n as usize,
+        IndexParse::Parsed(n) => n,
         IndexParse::Invalid => 65535,
     }
+}
+
+pub fn number(s: &[u8]) -> usize {
+    short(s) as usize
 }
 
 // The UUID in a word: 32 digits, or a number, which is its value.

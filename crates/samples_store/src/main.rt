@@ -3,6 +3,7 @@
 // of buffers of those lengths. A mismatch prints its line.
 mod cases;
 mod fields;
+mod save_cases;
 mod spelled;
 
 ghost use Prim.Native.Nat.{_≤_};
@@ -43,6 +44,9 @@ fn run_case(index: &mut [u8], text: &mut [u8], line: &[u8]) -> bool {
     }
     if same_bytes(kind, b"insert") {
         return cases::insert_case(index, text, args);
+    }
+    if same_bytes(kind, b"save") {
+        return save_cases::save_case(index, text, args);
     }
     if same_bytes(kind, b"clear") {
         return cases::clear_case(index, text, args);

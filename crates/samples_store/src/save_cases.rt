@@ -1,0 +1,221 @@
+// Cases of save.
+use crate::fields::after;
+use crate::fields::after_part;
+use crate::fields::before;
+use crate::fields::number;
+use crate::fields::part_at;
+use crate::fields::rest;
+use crate::fields::short;
+use crate::fields::uuid;
+use crate::fields::word;
+use crate::spelled::first;
+use crate::spelled::spelled;
+use line::ev::Axis;
+use line::ev::Button;
+use line::ev::Code;
+use line::mapping::Mapping;
+use line::reading::SdlAnswer;
+use line::reading::parse_sdl_mapping;
+use map::error::MappingError;
+use map::mapping_data::MappingData;
+use store::calls::SaveAnswer;
+use store::calls::Saved;
+use store::calls::get;
+use store::calls::save;
+use text::uuid::Uuid;
+
+const LONGEST: usize = 1025;
+
+// The codes 1 to 1025.
+fn numbered() -> [u32; LONGEST] {
+    let mut list = [0u32; LONGEST];
+    let mut code: u32 = 1;
+    for i in 0..LONGEST {
+        list[i] = code;
+        code = std::num::wrapping_add_u32(code, 1);
+    }
+    list
+}
+
+// The first codes of a list, or all where there are fewer.
+fn first_codes(list: &[u32], n: usize) -> &[u32] {
+    if n <= list.len() {
+        return &list[..n];
+    }
+    list
+}
+
+// `b1=5`: button 1 has code 5.
+fn with_slot(slots: MappingData, s: &[u8]) -> MappingData {
+    if s.len() == 0 {
+        return slots;
+    }
+    let n = short(before(&s[1..], b'='));
+    let code = Code(short(after(s, b'=')) as u32);
+    if s[0] == b'a' {
+        return slots.insert_axis(code, Axis(n)).slots;
+    }
+    slots.insert_btn(code, Button(n)).slots
+}
+
+fn slots_of(s: &[u8]) -> MappingData {
+    let mut slots = MappingData::new();
+    let mut at: usize = 0;
+    while at < s.len() {
+        slots = with_slot(slots, part_at(s, at, b','));
+        at = after_part(s, at, b',');
+    }
+    slots
+}
+
+fn build_number(e: MappingError) -> usize {
+    match e {
+        MappingError::NotUtf8(_) => 10,
+        MappingError::ListTooLong => 12,
+        MappingError::InvalidName => 13,
+        MappingError::UnknownElement => 14,
+        MappingError::InvalidCode(_) => 15,
+        MappingError::NotSdl2Compatible => 16,
+        MappingError::NameTooLong => 17,
+        MappingError::OutputTooShort => 18,
+    }
+}
+
+// What a refusal carries: a place or a code, else 0.
+fn carried(e: MappingError) -> usize {
+    match e {
+        MappingError::NotUtf8(place) => place,
+        MappingError::InvalidCode(c) => c.0 as usize,
+        MappingError::ListTooLong => 0,
+        MappingError::InvalidName => 0,
+        MappingError::UnknownElement => 0,
+        MappingError::NotSdl2Compatible => 0,
+        MappingError::NameTooLong => 0,
+        MappingError::OutputTooShort => 0,
+    }
+}
+
+fn is_built(e: MappingError, expected: &[u8]) -> bool {
+    if build_number(e) != number(before(expected, b'@')) {
+        return false;
+    }
+    if expected.len() == 2 {
+        return true;
+    }
+    carried(e) == number(after(expected, b'@'))
+}
+
+// Whether it is the expected one: `22`, `10@3` with the place, or `15@5` with the code.
+fn is(answer: SaveAnswer, expected: &[u8]) -> bool {
+    match answer {
+        SaveAnswer::Refused(e) => is_built(e, expected),
+        SaveAnswer::Done => number(expected) == 0,
+        SaveAnswer::UnsavedName => number(expected) == 22,
+        SaveAnswer::Unsound => number(expected) == 19,
+        SaveAnswer::NoRoom => number(expected) == 21,
+    }
+}
+
+fn same_entries(a: Mapping, b: Mapping) -> bool {
+    let mut i: usize = 0;
+    while i < 256 {
+        let x = a.entries[i];
+        let y = b.entries[i];
+        let to = x.element;
+        let other = y.element;
+        if x.code.0 != y.code.0 {
+            return false;
+        }
+        if !to.eq(other) {
+            return false;
+        }
+        i += 1;
+    }
+    true
+}
+
+fn same_map(a: Mapping, b: Mapping) -> bool {
+    if a.count != b.count {
+        return false;
+    }
+    if a.name_start != b.name_start {
+        return false;
+    }
+    if a.name_len != b.name_len {
+        return false;
+    }
+    if a.is_default != b.is_default {
+        return false;
+    }
+    if a.hats_mapped != b.hats_mapped {
+        return false;
+    }
+    same_entries(a, b)
+}
+
+// Whether the line that is held reads back as that map.
+fn reads_back(line: &[u8], map: Mapping, buttons: &[u32], axes: &[u32]) -> bool {
+    let reading = parse_sdl_mapping(line, buttons, axes);
+    let answer = reading.answer;
+    let again = reading.map;
+    match answer {
+        SdlAnswer::Accepted => same_map(again, map),
+        SdlAnswer::Refused(_) => false,
+    }
+}
+
+// A save that filed reads back as its map; a refused one has the empty map.
+fn is_right(
+    index: &[u8],
+    text: &[u8],
+    saved: Saved,
+    key: Uuid,
+    buttons: &[u32],
+    axes: &[u32],
+) -> bool {
+    let answer = saved.answer;
+    let map = saved.map;
+    match answer {
+        SaveAnswer::Done => reads_back(get(index, text, key), map, buttons, axes),
+        SaveAnswer::Refused(_) => same_map(map, Mapping::new()),
+        SaveAnswer::UnsavedName => same_map(map, Mapping::new()),
+        SaveAnswer::Unsound => same_map(map, Mapping::new()),
+        SaveAnswer::NoRoom => same_map(map, Mapping::new()),
+    }
+}
+
+// Saves, and compares the answer, the map and the line that is then held.
+fn run_save(
+    index: &mut [u8],
+    text: &mut [u8],
+    args: &[u8],
+    buttons: &[u32],
+    axes: &[u32],
+    name: &[u8],
+) -> bool {
+    let more = rest(args);
+    let key = uuid(word(more));
+    let data = slots_of(word(rest(more)));
+    let saved = save(index, text, data, buttons, axes, name, key);
+    let answer = saved.answer;
+    if !is(answer, word(args)) {
+        return false;
+    }
+    is_right(index, text, saved, key, buttons, axes)
+}
+
+fn run_lists(index: &mut [u8], text: &mut [u8], args: &[u8], list: &[u32], name: &[u8]) -> bool {
+    let lists = rest(rest(rest(args)));
+    let buttons = first_codes(list, number(word(lists)));
+    let axes = first_codes(list, number(word(rest(lists))));
+    run_save(index, text, args, buttons, axes, name)
+}
+
+// `save ANSWER UUID SLOTS BUTTONS AXES NAME`: the lists are the codes from 1 on, so many each.
+pub fn save_case(index: &mut [u8], text: &mut [u8], args: &[u8]) -> bool {
+    let name = spelled(rest(rest(rest(rest(rest(args))))));
+    let bytes = name.bytes;
+    let len = name.len;
+    let list = numbered();
+    run_lists(index, text, args, &list, first(&bytes, len))
+}
