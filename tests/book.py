@@ -1,0 +1,232 @@
+"""Works the answers of samples_store's cases out from document 01, apart from the library, and compares them with
+those that data/ expects. A store is its two buffers; a call takes the list that they encode, goes by the book, and
+writes the encoding of the list that results. The last line is 'N passed, M failed'."""
+import re
+import sys
+
+BUTTONS = [None, "a", "b", "c", "y", "x", "z", "leftshoulder", "rightshoulder", "lefttrigger", "righttrigger", "back",
+           "start", "guide", "leftstick", "rightstick", "dpup", "dpdown", "dpleft", "dpright"]
+AXES = [None, "leftx", "lefty", "leftz", "rightx", "righty", "rightz"]
+BUFFER_MAX, LINE_MAX, NAME_MAX, LIST_MAX = 65535, 4096, 2048, 1024
+
+
+# ---- text
+def valid_run(s):
+    try:
+        s.decode("utf-8")
+        return len(s)
+    except UnicodeDecodeError as e:
+        return e.start
+
+
+def hyphened(s):
+    parts = s.split(b"-")
+    return b"".join(parts) if [len(p) for p in parts] == [8, 4, 4, 4, 12] else b""
+
+
+def uuid_of(field):
+    """32 digits, the form with hyphens, that in braces, or that after `urn:uuid:`; else None."""
+    if field.startswith(b"{") and field.endswith(b"}"):
+        digits = hyphened(field[1:-1])
+    elif field.startswith(b"urn:uuid:"):
+        digits = hyphened(field[9:])
+    else:
+        digits = field if len(field) == 32 else hyphened(field)
+    return int(digits, 16) if re.fullmatch(rb"[0-9a-fA-F]{32}", digits) else None
+
+
+# ---- the list of lines that two buffers encode
+def encode(held):
+    index, text = b"", b""
+    for uuid, line in held:
+        index += b"\1" + uuid.to_bytes(16, "big") + len(text).to_bytes(2, "big") + len(line).to_bytes(2, "big")
+        text += line
+    return index, text
+
+
+def padded(s, n):
+    return s + bytes(n - len(s))
+
+
+def decode(index, text):
+    """The list, or None where the store is not sound."""
+    if max(len(index), len(text)) > BUFFER_MAX:
+        return None
+    held, used = [], 0
+    while index[21 * len(held):21 * len(held) + 1] == b"\1":
+        record = index[21 * len(held):21 * len(held) + 21]
+        n = int.from_bytes(record[19:21], "big")
+        held.append((int.from_bytes(record[1:17], "big"), text[used:used + n]))
+        used += n
+    i, t = encode(held) if used <= len(text) else (b"", b"\1")
+    fits = len(i) <= len(index) and padded(i, len(index)) == index and padded(t, len(text)) == text
+    unlike = len({uuid for uuid, _ in held}) == len(held)
+    return held if fits and unlike and all(1 <= len(line) <= LINE_MAX for _, line in held) else None
+
+
+# ---- the book
+def lines_of(text):
+    pieces = text.split(b"\n")
+    whole = [p[:-1] if p.endswith(b"\r") else p for p in pieces[:-1]]
+    return whole + ([pieces[-1]] if pieces[-1] else [])
+
+
+def wanted(line):
+    """The UUID of a wanted line, or None."""
+    at = line.find(b"platform:")
+    if at >= 0 and line[at + 9:].split(b",")[0] != b"Linux":
+        return None
+    return uuid_of(line.split(b",")[0])
+
+
+def no_room(held, uuid, line, index_len, text_len):
+    others = [h for h in held if h[0] != uuid]
+    return 21 * (len(others) + 1) > index_len or sum(len(h[1]) for h in others) + len(line) > text_len
+
+
+def filed(held, uuid, line):
+    return [h for h in held if h[0] != uuid] + [(uuid, line)]
+
+
+def insert(held, text, index_len, text_len):
+    run = valid_run(text)
+    if run < len(text):
+        return "10@%d" % run, 0, held
+    for count, line in enumerate(lines_of(text)):
+        uuid = wanted(line)
+        if uuid is None:
+            continue
+        if len(line) > LINE_MAX:
+            return "20", count, held
+        if no_room(held, uuid, line, index_len, text_len):
+            return "21", count, held
+        held = filed(held, uuid, line)
+    return "0", len(lines_of(text)), held
+
+
+def build(uuid, slots, buttons, axes, name):
+    """Build's checks without 18, and its line; the lists are the codes from 1 on."""
+    if valid_run(name) < len(name):
+        return "10@%d" % valid_run(name), None
+    for met, number in ((len(name) > NAME_MAX, "17"), (max(buttons, axes) > LIST_MAX, "12"), (b"," in name, "13")):
+        if met:
+            return number, None
+    for letter, last, listed in (("b", 19, buttons), ("a", 8, axes)):
+        if (letter, 0) in slots:
+            return "14", None
+        for n in range(1, last + 1):
+            code = slots.get((letter, n), 1)
+            if (letter, n) in slots and not 1 <= code <= listed:
+                return "15@%d" % code, None
+    if ("a", 7) in slots or ("a", 8) in slots:
+        return "16", None
+    pairs = ["%s:b%d," % (BUTTONS[n], slots["b", n] - 1) for n in range(1, 20) if ("b", n) in slots]
+    pairs += ["%s:a%d," % (AXES[n], slots["a", n] - 1) for n in range(1, 7) if ("a", n) in slots]
+    return "0", b"%032x,%s,%s" % (uuid, name, "".join(pairs).encode())
+
+
+def save(held, uuid, slots, buttons, axes, name, index_len, text_len):
+    answer, line = build(uuid, slots, buttons, axes, name)
+    if answer != "0":
+        return answer, held
+    if b"\n" in name or b"platform:" in name:
+        return "22", held
+    if held is None:
+        return "19", held
+    if no_room(held, uuid, line, index_len, text_len):
+        return "21", held
+    return "0", filed(held, uuid, line)
+
+
+# ---- the cases
+def uuid_word(word):
+    return int(word, 16) if len(word) == 32 else int(word)
+
+
+def spelled(s):
+    out = b""
+    for part in s.split("|"):
+        if part[:1] == "@":
+            out += b"%032x" % uuid_word(part[1:])
+        elif part[:1] == "\\":
+            out += bytes.fromhex(part[1:])
+        elif part[:1] == "*":
+            out += part[-1:].encode() * int(part[1:-1])
+        else:
+            out += part.encode()
+    return out
+
+
+def slots_of(word):
+    slots = {}
+    for slot in word.split(",") if word != "-" else []:
+        element, code = slot.split("=")
+        slots[element[0], int(element[1:])] = int(code)
+    return slots
+
+
+class Store:
+    def __init__(self, index_len, text_len):
+        self.index, self.text = bytes(index_len), bytes(text_len)
+
+    def hold(self, held):
+        index, text = encode(held)
+        self.index, self.text = padded(index, len(self.index)), padded(text, len(self.text))
+
+    def poked(self, buffer, at, value):
+        return buffer[:at] + value + buffer[at + len(value):] if at + len(value) <= len(buffer) else buffer
+
+    def right(self, kind, words):
+        """Whether a case expects what document 01 says; the store is changed as it says."""
+        held = decode(self.index, self.text)
+        sizes = len(self.index), len(self.text)
+        if kind == "clear":
+            if max(sizes) > BUFFER_MAX:
+                return words[0] == "23"
+            self.hold([])
+            return words[0] == "0"
+        if kind == "insert":
+            text = spelled(" ".join(words[2:]))
+            answer, count, after = ("19", 0, None) if held is None else insert(held, text, *sizes)
+            if after is not None:
+                self.hold(after)
+            return words[:2] == [answer, str(count)]
+        if kind == "save":
+            uuid, slots, name = uuid_word(words[1]), slots_of(words[2]), spelled(" ".join(words[5:]))
+            answer, after = save(held, uuid, slots, int(words[3]), int(words[4]), name, *sizes)
+            if after is not None:
+                self.hold(after)
+            return words[0] == answer
+        if kind == "find":
+            line = None if held is None else dict(held).get(uuid_word(words[1]))
+            says = "19" if held is None else "0" if line is None else "1"
+            return words[0] == says and spelled(" ".join(words[2:])) == (line or b"")
+        buffer = self.index if kind == "index" else self.text
+        expected = spelled(" ".join(words))
+        return kind in ("index", "text") and len(expected) <= len(buffer) and padded(expected, len(buffer)) == buffer
+
+
+def main(files):
+    passed, failed, store = 0, 0, Store(0, 0)
+    for file in files:
+        for line in open(file, encoding="utf-8").read().split("\n"):
+            kind, *words = line.split(" ")
+            if line == "" or line[0] in "#=":
+                continue
+            if kind == "new":
+                store = Store(int(words[0]), int(words[1]))
+            elif kind == "poke-index":
+                store.index = store.poked(store.index, int(words[0]), bytes.fromhex(words[1]))
+            elif kind == "poke-text":
+                store.text = store.poked(store.text, int(words[0]), bytes.fromhex(words[1]))
+            elif store.right(kind, words):
+                passed += 1
+            else:
+                failed += 1
+                print("%s: %s" % (file, line))
+    print("%d passed, %d failed" % (passed, failed))
+    return 1 if failed else 0
+
+
+if __name__ == "__main__":
+    sys.exit(main(sys.argv[1:]))
