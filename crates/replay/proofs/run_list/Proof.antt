@@ -12,7 +12,8 @@ use Rattle.replay.proofs.fields.field_at.Reads as field-at-reads
 use Rattle.replay.proofs.take_line.Reads as take-line-reads
 
 abbrev Inv-loop : tie.InvT-loop
-Inv-loop list index₀ text₀ totals₀ at₀ index text totals at = (length index ≡ length index₀) × (length text ≡ length text₀)
+Inv-loop list index₀ text₀ totals₀ at₀ index text totals at =
+    (length index ≡ length index₀) × (length text ≡ length text₀)
 
 abbrev μ-loop : tie.MeasureT-loop
 μ-loop list index₀ text₀ totals₀ at₀ index text totals at = length list - at
@@ -30,7 +31,12 @@ after-field-requires : tie.Need-after-field-requires Inv-loop μ-loop
 after-field-requires c κs = search needs
 
 loop-less : tie.Need-loop-less Inv-loop μ-loop
-loop-less c = omega (arith, c .after-field .ensures (c .before .before .before .before .before .before .before .before .before .loop-test .taken))
+loop-less c =
+    omega (
+      arith,
+      c .after-field .ensures
+          (c .before .before .before .before .before .before .before .before .before .loop-test .taken),
+    )
 
 loop-again : tie.Need-loop-again Inv-loop μ-loop
 loop-again c = search needs

@@ -28,7 +28,9 @@ say-requires : tie.Need-say-requires
 say-requires c κs = search needs
 
 slice-aggregate-say-2 : tie.Need-slice-aggregate-say-2
-slice-aggregate-say-2 c = sym (length-take-le _ (c .before .before .before .before .before .before .before .before .before .args .out .now) (omega arith))
+slice-aggregate-say-2 c =
+    sym (length-take-le _ (c .before .before .before .before .before .before .before .before .before .args .out .now)
+    (omega arith))
 
 say-requires-2 : tie.Need-say-requires-2
 say-requires-2 c κs = search needs

@@ -1,0 +1,179 @@
+/* The C boundary: layout of what crosses, and a handful of calls. Prints a line for each check that fails, and last
+ * 'N passed, M failed'. */
+#include <stdio.h>
+#include <string.h>
+
+#include "../raspteal.h"
+
+static int passed, failed;
+
+static void check(bool ok, const char *what) {
+    if (ok) {
+        passed++;
+        return;
+    }
+    failed++;
+    printf("failed: %s\n", what);
+}
+
+#define CHECK(test) check((test), #test)
+#define TEXT(s) (const uint8_t *)(s), sizeof(s) - 1
+#define LIST(a) (a), sizeof(a) / sizeof((a)[0])
+#define BUFFER(a) (a), sizeof(a)
+
+#define U "00000000000000000000000000000000"
+
+static const uint32_t buttons[] = {0x10130, 0x10131};
+static const uint32_t axes[] = {0x30000};
+static const raspteal_uuid one = {0, 1};
+
+static void layout(void) {
+    CHECK(sizeof(raspteal_refusal) == 24);
+    CHECK(offsetof(raspteal_refusal, place) == 8);
+    CHECK(offsetof(raspteal_refusal, code) == 20);
+    CHECK(sizeof(raspteal_written) == 16);
+    CHECK(sizeof(raspteal_uuid_parse) == 24);
+    CHECK(sizeof(raspteal_index_parse) == 4);
+    CHECK(sizeof(raspteal_element) == 4);
+    CHECK(sizeof(raspteal_mapped) == 6);
+    CHECK(sizeof(raspteal_code) == 8);
+    CHECK(sizeof(raspteal_ident) == 24);
+    CHECK(sizeof(raspteal_entry) == 8);
+    CHECK(offsetof(raspteal_mapping, name_start) == 8 + 256 * 8);
+    CHECK(offsetof(raspteal_mapping, hats_mapped) == 8 + 256 * 8 + 17);
+    CHECK(sizeof(raspteal_mapping) == 8 + 256 * 8 + 24);
+    CHECK(offsetof(raspteal_answer, map) == 24);
+    CHECK(sizeof(raspteal_pair) == 12);
+    CHECK(offsetof(raspteal_token, pair) == 64);
+    CHECK(sizeof(raspteal_token) == 80);
+    CHECK(offsetof(raspteal_step, state) == 88);
+    CHECK(sizeof(raspteal_data) == 29 * 8);
+    CHECK(offsetof(raspteal_changed, slots) == 8);
+    CHECK(offsetof(raspteal_built, len) == 24 + sizeof(raspteal_mapping));
+    CHECK(offsetof(raspteal_inserted, count) == 24);
+    CHECK(offsetof(raspteal_look, found) == 24);
+}
+
+static void text(void) {
+    uint8_t out[40];
+    memset(out, '.', sizeof out);
+    CHECK(raspteal_valid_up_to(TEXT("T\xc3\xa9\xff")) == 3);
+    CHECK(raspteal_is_utf8(TEXT("")));
+    CHECK(raspteal_find_byte(TEXT("a,b"), ',') == 1);
+    CHECK(raspteal_same_bytes(TEXT("ab"), TEXT("ab")));
+    CHECK(!raspteal_same_bytes(TEXT("ab"), TEXT("abc")));
+    raspteal_uuid_parse u = raspteal_uuid_parse_str(TEXT("urn:uuid:F81D4FAE-7DEC-11D0-A765-00A0C91E6BF6"));
+    CHECK(u.valid && u.id.high == 0xf81d4fae7dec11d0 && u.id.low == 0xa76500a0c91e6bf6);
+    CHECK(!raspteal_uuid_parse_str(TEXT("{" U "}")).valid);
+    raspteal_written w = raspteal_uuid_write_simple(u.id, BUFFER(out), 8);
+    CHECK(w.fits && w.next == 40 && memcmp(out, "........f81d4fae7dec11d0a76500a0c91e6bf6", 40) == 0);
+    w = raspteal_uuid_write_simple(u.id, BUFFER(out), 9);
+    CHECK(!w.fits && w.next == 0);
+    CHECK(raspteal_parse_u16(TEXT("+065535")).number == 65535);
+    CHECK(!raspteal_parse_u16(TEXT("65536")).valid);
+    w = raspteal_write_index(BUFFER(out), 0, 1023);
+    CHECK(w.fits && w.next == 4 && raspteal_index_len(1023) == 4 && memcmp(out, "1023....", 8) == 0);
+    w = raspteal_write_bytes(BUFFER(out), 38, TEXT("xyz"));
+    CHECK(!w.fits && out[38] == 'f');
+}
+
+static void elements(void) {
+    raspteal_element stick = {true, 1};
+    CHECK(raspteal_button_to_nec(1).code == 0x10130 && raspteal_button_to_nec(19).code == 0x10223);
+    CHECK(!raspteal_button_to_nec(0).found && !raspteal_button_to_nec(20).found);
+    CHECK(raspteal_button_is_stick(14) && raspteal_button_is_dpad(16) && raspteal_axis_is_stick(5));
+    CHECK(raspteal_axis_second_axis(7).number == 8 && !raspteal_axis_second_axis(3).found);
+    CHECK(!raspteal_element_is_button(stick) && raspteal_element_eq(stick, stick));
+    raspteal_mapped m = raspteal_find_element(TEXT("leftx"));
+    CHECK(m.found && raspteal_element_eq(m.element, stick));
+    CHECK(!raspteal_find_element(TEXT("left")).found);
+    raspteal_ident i = raspteal_ident_of(stick);
+    CHECK(i.len == 5 && memcmp(i.name, "leftx", 5) == 0);
+}
+
+static void lines(void) {
+    static const char line[] = U ",T,dpup:h0.1,";
+    uint8_t state = raspteal_parser_start(TEXT(line));
+    raspteal_step s = raspteal_parser_step(TEXT(line), 0, state);
+    CHECK(s.token.kind == RASPTEAL_UUID && s.pos == 33);
+    s = raspteal_parser_step(TEXT(line), s.pos, s.state);
+    CHECK(s.token.kind == RASPTEAL_NAME && s.token.start == 33 && s.token.len == 1);
+    s = raspteal_parser_step(TEXT(line), s.pos, s.state);
+    CHECK(s.token.kind == RASPTEAL_HAT && s.token.pair.direction == 1 && s.token.pair.to.number == 16);
+    s = raspteal_parser_step(TEXT(line), s.pos, s.state);
+    CHECK(s.token.kind == RASPTEAL_END);
+
+    raspteal_answer r = raspteal_parse_sdl_mapping(TEXT(line), LIST(buttons), LIST(axes));
+    CHECK(r.refusal.number == 0 && r.map.count == 2 && r.map.hats_mapped == 1);
+    CHECK(r.map.name_start == 33 && r.map.name_len == 1 && !r.map.is_default);
+    CHECK(r.map.entries[0].code == 0x10220 && r.map.entries[0].element.number == 16);
+    CHECK(r.map.entries[1].code == 0x30011 && r.map.entries[1].element.is_axis && r.map.entries[1].element.number == 8);
+    CHECK(raspteal_mapping_map(r.map, 0x10220).element.number == 16);
+    CHECK(raspteal_mapping_map_rev(r.map, (raspteal_element){true, 8}).code == 0x30011);
+    CHECK(!raspteal_mapping_map(r.map, 0).found);
+
+    raspteal_entry e = {7, {false, 3}};
+    raspteal_answer p = raspteal_mapping_put(raspteal_mapping_new(), e);
+    CHECK(p.refusal.number == 0 && p.map.count == 1 && p.map.entries[0].code == 7);
+
+    r = raspteal_parse_sdl_mapping(TEXT(U ",T,a:h0.q"), LIST(buttons), LIST(axes));
+    CHECK(r.refusal.number == 4 && r.refusal.has_place && r.refusal.place == 38 && r.map.count == 0);
+    r = raspteal_parse_sdl_mapping(TEXT("\xff"), LIST(buttons), LIST(axes));
+    CHECK(r.refusal.number == 10 && r.refusal.place == 0);
+}
+
+static void builds(void) {
+    uint8_t out[64];
+    memset(out, '.', sizeof out);
+    raspteal_changed c = raspteal_data_insert_btn(raspteal_data_new(), 0x10131, 1);
+    CHECK(!c.former.found && raspteal_data_button(c.slots, 1).code == 0x10131);
+    raspteal_built b = raspteal_from_data(c.slots, LIST(buttons), LIST(axes), TEXT("T"), (raspteal_uuid){0, 0}, BUFFER(out));
+    CHECK(b.refusal.number == 0 && b.len == 40 && memcmp(out, U ",T,a:b1,.", 41) == 0);
+    CHECK(b.map.count == 1 && b.map.entries[0].code == 0x10131 && b.map.entries[0].element.number == 1);
+    b = raspteal_from_data(c.slots, axes, 1, LIST(axes), TEXT("T"), one, BUFFER(out));
+    CHECK(b.refusal.number == 15 && b.refusal.has_code && b.refusal.code == 0x10131 && b.len == 0 && out[31] == '0');
+    b = raspteal_from_data(c.slots, LIST(buttons), LIST(axes), TEXT("T"), one, out, 39);
+    CHECK(b.refusal.number == 18);
+    c = raspteal_data_insert_axis(c.slots, 5, 8);
+    c = raspteal_data_remove_axis(c.slots, 8);
+    CHECK(c.former.found && c.former.code == 5 && !raspteal_data_axis(c.slots, 8).found);
+    c = raspteal_data_remove_button(c.slots, 20);
+    CHECK(!c.former.found && raspteal_data_button(c.slots, 1).found);
+    raspteal_answer d = raspteal_default(LIST(buttons), LIST(axes));
+    CHECK(d.refusal.number == 0 && d.map.is_default && d.map.count == 3);
+}
+
+static void stores(void) {
+    uint8_t index[42] = {0}, text[100] = {0}, out[100];
+    raspteal_inserted i = raspteal_store_insert(BUFFER(index), BUFFER(text), TEXT("# a pad\n" U ",T\n"));
+    CHECK(i.refusal.number == 0 && i.count == 2 && index[0] == 1 && memcmp(text, U ",T", 34) == 0);
+    raspteal_changed c = raspteal_data_insert_btn(raspteal_data_new(), 0x10130, 1);
+    raspteal_answer s =
+        raspteal_store_save(BUFFER(index), BUFFER(text), c.slots, LIST(buttons), LIST(axes), TEXT("Pad"), one);
+    CHECK(s.refusal.number == 0 && s.map.count == 1 && s.map.name_len == 3);
+    raspteal_look l = raspteal_store_found(BUFFER(index), BUFFER(text), one);
+    CHECK(l.refusal.number == 0 && l.found);
+    raspteal_written w = raspteal_store_get(BUFFER(index), BUFFER(text), one, BUFFER(out));
+    CHECK(w.fits && w.next == 42 && memcmp(out, "00000000000000000000000000000001,Pad,a:b0,", 42) == 0);
+    CHECK(!raspteal_store_get(BUFFER(index), BUFFER(text), one, out, 41).fits);
+    s = raspteal_store_save(BUFFER(index), BUFFER(text), c.slots, LIST(buttons), LIST(axes), TEXT("platform:"), one);
+    CHECK(s.refusal.number == 22 && s.map.count == 0);
+    i = raspteal_store_insert(BUFFER(index), BUFFER(text), TEXT("00000000000000000000000000000002,T"));
+    CHECK(i.refusal.number == 21 && i.count == 0);
+    index[0] = 9;
+    CHECK(raspteal_store_found(BUFFER(index), BUFFER(text), one).refusal.number == 19);
+    raspteal_refusal r = raspteal_store_clear(BUFFER(index), BUFFER(text));
+    CHECK(r.number == 0 && index[0] == 0 && text[0] == 0);
+    CHECK(!raspteal_store_found(BUFFER(index), BUFFER(text), one).found);
+}
+
+int main(void) {
+    layout();
+    text();
+    elements();
+    lines();
+    builds();
+    stores();
+    printf("%d passed, %d failed\n", passed, failed);
+    return failed != 0;
+}

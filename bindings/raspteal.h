@@ -1,0 +1,360 @@
+/* Raspteal for C: mapping lines, maps and the line store of the hub.
+ *
+ * Link with target/staticlib/libexports.a, which `rt staticlib exports` writes (x86-64 Linux). Each function is proved: it
+ * takes every input, ends, and answers what its definition says; no call keeps memory, and there is no state but the
+ * buffers that you lend.
+ *
+ * How to pass things
+ *   A slice is two arguments, a pointer and a number of elements (bytes, or 32-bit codes). The pointer is never NULL,
+ *   also where the number is 0. A slice that is written (no `const`) must not overlap any other slice of the call.
+ *   Structs go in and come back by value.
+ *   A flag (`bool`) is false or true; no other value may stand in its byte.
+ *
+ * What numbers mean
+ *   A code is an event code of the pad, 32 bits (10130 hexadecimal is the first gamepad button of Linux).
+ *   A button number is 0 to 19 and an axis number 0 to 8; 0 is unknown. An element is a button or an axis.
+ *   A refusal number is one of 1 to 23, listed at the end of this file; 0 means that nothing was refused.
+ *   Where a struct has a flag beside a value (`found`, `valid`, `has_place`), the value is 0 while the flag is false.
+ */
+#ifndef RASPTEAL_H
+#define RASPTEAL_H
+
+#include <stdbool.h>
+#include <stddef.h>
+#include <stdint.h>
+
+#ifdef __cplusplus
+extern "C" {
+#endif
+
+#define RASPTEAL_CODES_MAX 256    /* codes in a map */
+#define RASPTEAL_LIST_MAX 1024    /* codes in a list of buttons or axes */
+#define RASPTEAL_NAME_MAX 2048    /* bytes of a name */
+#define RASPTEAL_LINE_MAX 4096    /* bytes of a stored line */
+#define RASPTEAL_BUFFER_MAX 65535 /* bytes of an index or a text */
+#define RASPTEAL_BUTTONS 20       /* slots for buttons */
+#define RASPTEAL_AXES 9           /* slots for axes */
+#define RASPTEAL_IDENT_MAX 13     /* bytes of a key name */
+
+/* ---- What crosses ------------------------------------------------------------------------------------------------ */
+
+/* A refusal. The place is a byte's place in the line, name or text that was given; 15 carries the code it is about. */
+typedef struct {
+    uint8_t number; /* 0: not refused */
+    bool has_place;
+    size_t place;
+    bool has_code;
+    uint32_t code;
+} raspteal_refusal;
+
+/* Where a writer stopped: the place after its last byte. fits is false, and nothing was written, where it had no room. */
+typedef struct {
+    bool fits;
+    size_t next;
+} raspteal_written;
+
+/* A UUID: its first eight bytes and its last eight, high byte first. */
+typedef struct {
+    uint64_t high;
+    uint64_t low;
+} raspteal_uuid;
+
+typedef struct {
+    bool valid;
+    raspteal_uuid id;
+} raspteal_uuid_parse;
+
+typedef struct {
+    bool valid;
+    uint16_t number;
+} raspteal_index_parse;
+
+typedef struct {
+    bool is_axis; /* else a button */
+    uint16_t number;
+} raspteal_element;
+
+/* An element, if there is one. */
+typedef struct {
+    bool found;
+    raspteal_element element;
+} raspteal_mapped;
+
+/* A code, if there is one. */
+typedef struct {
+    bool found;
+    uint32_t code;
+} raspteal_code;
+
+/* An axis number, if there is one. */
+typedef struct {
+    bool found;
+    uint16_t number;
+} raspteal_axis;
+
+/* A key name: the first len bytes of name; len is 0 where the element has none. */
+typedef struct {
+    uint8_t name[RASPTEAL_IDENT_MAX];
+    size_t len;
+} raspteal_ident;
+
+typedef struct {
+    uint32_t code;
+    raspteal_element element;
+} raspteal_entry;
+
+/* A map from codes to elements: the first count entries, ascending by code, the others all 0. The name is name_len bytes
+ * at name_start of the line that the map was read from. hats_mapped has a bit for each direction of hat 0. */
+typedef struct {
+    size_t count;
+    raspteal_entry entries[RASPTEAL_CODES_MAX];
+    size_t name_start;
+    size_t name_len;
+    bool is_default;
+    uint8_t hats_mapped;
+} raspteal_mapping;
+
+/* A map, or a refusal with the empty map (a refused put has the map as it was). */
+typedef struct {
+    raspteal_refusal refusal;
+    raspteal_mapping map;
+} raspteal_answer;
+
+/* What a pair of a line says: from is the index, or the hat's number. input and output: 0 the lower half of an axis, 1
+ * the upper half, 2 all of it. */
+typedef struct {
+    uint16_t from;
+    uint16_t direction;
+    raspteal_element to;
+    uint8_t input;
+    uint8_t output;
+    bool inverted;
+} raspteal_pair;
+
+enum {
+    RASPTEAL_END = 0,      /* the line's end */
+    RASPTEAL_REFUSED = 1,  /* refusal */
+    RASPTEAL_UUID = 2,     /* id */
+    RASPTEAL_PLATFORM = 3, /* start, len */
+    RASPTEAL_NAME = 4,     /* start, len */
+    RASPTEAL_AXIS = 5,     /* pair: an axis value, a */
+    RASPTEAL_BUTTON = 6,   /* pair: a button value, b */
+    RASPTEAL_HAT = 7       /* pair: a hat value, h, with a direction */
+};
+
+/* An answer of the walker, by its kind. What the kind does not name is 0. */
+typedef struct {
+    uint8_t kind;
+    raspteal_refusal refusal;
+    raspteal_uuid id;
+    size_t start;
+    size_t len;
+    raspteal_pair pair;
+} raspteal_token;
+
+/* A step of the walker: its answer, and the position and state for the next step. */
+typedef struct {
+    raspteal_token token;
+    size_t pos;
+    uint8_t state;
+} raspteal_step;
+
+/* A slot: a code, if it is filled. */
+typedef struct {
+    bool filled;
+    uint32_t code;
+} raspteal_slot;
+
+/* The slots of all buttons and axes, by number. */
+typedef struct {
+    raspteal_slot buttons[RASPTEAL_BUTTONS];
+    raspteal_slot axes[RASPTEAL_AXES];
+} raspteal_data;
+
+/* The slots after a change, and the code that the slot held before. */
+typedef struct {
+    raspteal_code former;
+    raspteal_data slots;
+} raspteal_changed;
+
+/* A built line's map and length; on a refusal the empty map and 0. */
+typedef struct {
+    raspteal_refusal refusal;
+    raspteal_mapping map;
+    size_t len;
+} raspteal_built;
+
+/* What an insert did: the lines walked, all of them or those before the refused one. */
+typedef struct {
+    raspteal_refusal refusal;
+    size_t count;
+} raspteal_inserted;
+
+/* Whether a line is held; 19 where the store is not sound. */
+typedef struct {
+    raspteal_refusal refusal;
+    bool found;
+} raspteal_look;
+
+/* ---- Text -------------------------------------------------------------------------------------------------------- */
+
+/* Whether two byte strings are the same. */
+bool raspteal_same_bytes(const uint8_t *a, size_t a_len, const uint8_t *b, size_t b_len);
+
+/* The place of the first byte b, or s_len. */
+size_t raspteal_find_byte(const uint8_t *s, size_t s_len, uint8_t b);
+
+/* Writes v at place `at` of out. Where it does not fit, out is left as it is. */
+raspteal_written raspteal_write_bytes(uint8_t *out, size_t out_len, size_t at, const uint8_t *v, size_t v_len);
+
+/* The length of the longest run of whole UTF-8 characters from the first byte on; s_len where all of s is UTF-8. */
+size_t raspteal_valid_up_to(const uint8_t *s, size_t s_len);
+
+/* Whether all of s is UTF-8. */
+bool raspteal_is_utf8(const uint8_t *s, size_t s_len);
+
+/* The UUID that s spells: 32 hexadecimal digits, the form with hyphens, that form in braces, or after `urn:uuid:`. */
+raspteal_uuid_parse raspteal_uuid_parse_str(const uint8_t *s, size_t s_len);
+
+/* Writes the 32 lower-case digits of a UUID at place `at` of out. Where they do not fit, out is left as it is. */
+raspteal_written raspteal_uuid_write_simple(raspteal_uuid id, uint8_t *out, size_t out_len, size_t at);
+
+/* The number that s spells in base ten, one `+` allowed before it, at most 65535. */
+raspteal_index_parse raspteal_parse_u16(const uint8_t *s, size_t s_len);
+
+/* How many digits raspteal_write_index writes for n. */
+size_t raspteal_index_len(size_t n);
+
+/* Writes n in base ten at place `at` of out. Where it does not fit, out is left as it is. */
+raspteal_written raspteal_write_index(uint8_t *out, size_t out_len, size_t at, size_t n);
+
+/* ---- Elements: a number over 19, or 8 for an axis, counts as 0 ---------------------------------------------------- */
+
+/* The native code of a button. */
+raspteal_code raspteal_button_to_nec(uint16_t button);
+
+/* Whether a button is a stick's, pressed (14 and 15). */
+bool raspteal_button_is_stick(uint16_t button);
+
+/* Whether a button is one of the directional pad (16 to 19). */
+bool raspteal_button_is_dpad(uint16_t button);
+
+/* Whether an axis is one of a stick (1, 2, 4, 5). */
+bool raspteal_axis_is_stick(uint16_t axis);
+
+/* The other axis of the same stick, or of the directional pad. */
+raspteal_axis raspteal_axis_second_axis(uint16_t axis);
+
+/* Whether an element is a button. */
+bool raspteal_element_is_button(raspteal_element e);
+
+/* Whether two elements are the same, by their whole numbers. */
+bool raspteal_element_eq(raspteal_element a, raspteal_element b);
+
+/* The element that a key of a line names, as `leftx` or `a`. */
+raspteal_mapped raspteal_find_element(const uint8_t *key, size_t key_len);
+
+/* The key name of an element. */
+raspteal_ident raspteal_ident_of(raspteal_element e);
+
+/* ---- Maps -------------------------------------------------------------------------------------------------------- */
+
+/* The empty map: all 0. */
+raspteal_mapping raspteal_mapping_new(void);
+
+/* The map with one entry more, onto the one of its code if there is one. 11 where it would be the 257th code. */
+raspteal_answer raspteal_mapping_put(raspteal_mapping map, raspteal_entry e);
+
+/* The element of the first entry with that code. A count over 256 is read as 256. */
+raspteal_mapped raspteal_mapping_map(raspteal_mapping map, uint32_t code);
+
+/* The least code of an element. A count over 256 is read as 256. */
+raspteal_code raspteal_mapping_map_rev(raspteal_mapping map, raspteal_element e);
+
+/* ---- Lines ------------------------------------------------------------------------------------------------------- */
+
+/* The state of a walker over a line before its first step, whose position is 0. */
+uint8_t raspteal_parser_start(const uint8_t *line, size_t line_len);
+
+/* One step of the walker. Call it again with the position and the state of the step before, over the same line, until
+ * the kind is RASPTEAL_END. After refusals 1, 2 and 10 no end comes: the next steps say 9, or 10 again. */
+raspteal_step raspteal_parser_step(const uint8_t *line, size_t line_len, size_t pos, uint8_t state);
+
+/* The map of a line, by the lists of the pad's button and axis codes. Refusals: 10, 12, then 1 to 7 and 11 in the order
+ * of the line. */
+raspteal_answer raspteal_parse_sdl_mapping(const uint8_t *line, size_t line_len, const uint32_t *buttons,
+                                           size_t buttons_len, const uint32_t *axes, size_t axes_len);
+
+/* ---- Slots, build and default ------------------------------------------------------------------------------------- */
+
+/* No slot is filled. */
+raspteal_data raspteal_data_new(void);
+
+/* The code in a slot. A button over 19 and an axis over 8 have no slot. */
+raspteal_code raspteal_data_button(raspteal_data data, uint16_t button);
+raspteal_code raspteal_data_axis(raspteal_data data, uint16_t axis);
+
+/* Fills a slot, or empties it. A number that has no slot changes nothing. */
+raspteal_changed raspteal_data_insert_btn(raspteal_data data, uint32_t code, uint16_t button);
+raspteal_changed raspteal_data_insert_axis(raspteal_data data, uint32_t code, uint16_t axis);
+raspteal_changed raspteal_data_remove_button(raspteal_data data, uint16_t button);
+raspteal_changed raspteal_data_remove_axis(raspteal_data data, uint16_t axis);
+
+/* Builds the line of the filled slots and writes it at the start of out; later bytes of out stay as they are, and all of
+ * them do on a refusal: 10, 17, 12, 13, 14, 15, 16, 18. 2400 bytes hold every line. */
+raspteal_built raspteal_from_data(raspteal_data data, const uint32_t *buttons, size_t buttons_len,
+                                  const uint32_t *axes, size_t axes_len, const uint8_t *name, size_t name_len,
+                                  raspteal_uuid id, uint8_t *out, size_t out_len);
+
+/* The default map of a pad with these lists. Refusal: 12. */
+raspteal_answer raspteal_default(const uint32_t *buttons, size_t buttons_len, const uint32_t *axes, size_t axes_len);
+
+/* ---- The store: an index and a text, at most 65535 bytes each, all 0 when fresh --------------------------------------
+ * Each line takes 21 bytes of the index and its own length of the text. Lend the same two buffers, of the same lengths,
+ * to each call, and let nothing else write there. */
+
+/* Sets every byte of both buffers to 0. Refusal: 23, nothing changed. */
+raspteal_refusal raspteal_store_clear(uint8_t *index, size_t index_len, uint8_t *text, size_t text_len);
+
+/* Files the lines of a text that are for Linux and start with a UUID, each in place of the one under its UUID. Refusals:
+ * 19 and 10 with nothing changed; 20 and 21 stop at one line, and those before it are filed. */
+raspteal_inserted raspteal_store_insert(uint8_t *index, size_t index_len, uint8_t *text, size_t text_len,
+                                        const uint8_t *lines, size_t lines_len);
+
+/* Builds a line, as raspteal_from_data does, and files it. Refusals, with nothing changed: build's without 18, then 22, 19,
+ * 21. */
+raspteal_answer raspteal_store_save(uint8_t *index, size_t index_len, uint8_t *text, size_t text_len,
+                                    raspteal_data data, const uint32_t *buttons, size_t buttons_len,
+                                    const uint32_t *axes, size_t axes_len, const uint8_t *name, size_t name_len,
+                                    raspteal_uuid id);
+
+/* Whether a line is held under a UUID. Refusal: 19. */
+raspteal_look raspteal_store_found(const uint8_t *index, size_t index_len, const uint8_t *text, size_t text_len,
+                                   raspteal_uuid id);
+
+/* Copies the line held under a UUID to the start of out; next is its length, 0 where none is held or the store is not
+ * sound. fits is false, and out is left as it is, where out is shorter than the line. */
+raspteal_written raspteal_store_get(const uint8_t *index, size_t index_len, const uint8_t *text, size_t text_len,
+                                    raspteal_uuid id, uint8_t *out, size_t out_len);
+
+/* ---- Refusals by number -------------------------------------------------------------------------------------------
+ *  1 the first field is no UUID                 13 comma in the name
+ *  2 no comma after the UUID                    14 the slot of an unknown element is filled
+ *  3 not exactly one colon in a pair            15 the code of a slot is not in its list; carries the code
+ *  4 a pair's value                             16 axis slot 7 or 8 is filled
+ *  5 a pair's key, before an axis value         17 a name over 2048 bytes
+ *  6 a pair's key, before another value         18 an output shorter than the line
+ *  7 the direction of hat 0                     19 the store is not sound, or a buffer is over 65535 bytes
+ *  8 an empty value (walker only)               20 a line over 4096 bytes
+ *  9 a step after 1 or 2 (walker only)          21 no room
+ * 10 not UTF-8                                  22 a saved name with LF or `platform:`
+ * 11 a 257th code in a map                      23 clear: a buffer over 65535 bytes
+ * 12 a list over 1024 codes
+ * Places: 1, 2, 7 and 9 at 0; 3, 5, 6, 8 and 11 at the pair's start; 4 there or, for a hat, further on; 10 at the end of
+ * the longest run of whole characters. The others have none. */
+
+#ifdef __cplusplus
+}
+#endif
+
+#endif

@@ -1,0 +1,19 @@
+use borrow.Author.Needs.{needs}
+use Rattle.exports.proofs.build_calls.flat_built.Statement.{statement}
+use Rattle.exports.proofs.build_calls.flat_built.Tie as tie
+use Rattle.exports.proofs.build_calls.flat_built.Reads as reads
+use Rattle.exports.proofs.build_calls.flat_built.Lts as lts
+use Rattle.exports.proofs.build_calls.flat_mapping_answer.Reads as flat-mapping-answer-reads
+use Rattle.exports.proofs.flat_mapping.flat_mapping.Reads as flat-mapping-reads
+
+flat-mapping-answer-requires : tie.Need-flat-mapping-answer-requires
+flat-mapping-answer-requires c κs = search needs
+
+flat-mapping-requires : tie.Need-flat-mapping-requires
+flat-mapping-requires c κs = search needs
+
+returns : tie.Need-returns
+returns c = simp (c .flat-mapping .ensures, c .before .flat-mapping-answer .ensures)
+
+pub flat-built-spec : {M : Type 1} → statement M
+flat-built-spec = tie.close (tie.spec flat-mapping-answer-requires flat-mapping-requires returns)

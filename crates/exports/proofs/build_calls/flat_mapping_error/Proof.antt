@@ -1,0 +1,104 @@
+use borrow.Author.Needs.{needs}
+use Rattle.exports.proofs.build_calls.flat_mapping_error.Statement.{statement}
+use Rattle.exports.proofs.build_calls.flat_mapping_error.Tie as tie
+use Rattle.exports.proofs.build_calls.flat_mapping_error.Reads as reads
+use Rattle.exports.proofs.build_calls.flat_mapping_error.Lts as lts
+use Rattle.exports.proofs.flat.flat_refusal.Reads as flat-refusal-reads
+use Rattle.exports.proofs.flat.flat_refusal_at.Reads as flat-refusal-at-reads
+
+enum-known-e : tie.Need-enum-known-e
+enum-known-e c = search needs
+
+enum-told : tie.Need-enum-told
+enum-told c = search needs
+
+flat-refusal-requires : tie.Need-flat-refusal-requires
+flat-refusal-requires c κs = search needs
+
+enum-told-2 : tie.Need-enum-told-2
+enum-told-2 c = search needs
+
+flat-refusal-requires-2 : tie.Need-flat-refusal-requires-2
+flat-refusal-requires-2 c κs = search needs
+
+enum-told-3 : tie.Need-enum-told-3
+enum-told-3 c = search needs
+
+flat-refusal-requires-3 : tie.Need-flat-refusal-requires-3
+flat-refusal-requires-3 c κs = search needs
+
+enum-known-e-2 : tie.Need-enum-known-e-2
+enum-known-e-2 c = search needs
+
+flat-refusal-at-requires : tie.Need-flat-refusal-at-requires
+flat-refusal-at-requires c κs = search needs
+
+enum-told-4 : tie.Need-enum-told-4
+enum-told-4 c = search needs
+
+flat-refusal-requires-4 : tie.Need-flat-refusal-requires-4
+flat-refusal-requires-4 c κs = search needs
+
+enum-told-5 : tie.Need-enum-told-5
+enum-told-5 c = search needs
+
+flat-refusal-requires-5 : tie.Need-flat-refusal-requires-5
+flat-refusal-requires-5 c κs = search needs
+
+enum-told-6 : tie.Need-enum-told-6
+enum-told-6 c = search needs
+
+flat-refusal-requires-6 : tie.Need-flat-refusal-requires-6
+flat-refusal-requires-6 c κs = search needs
+
+returns : tie.Need-returns
+returns c = simp (c .before .e .given .1)
+
+returns-2 : tie.Need-returns-2
+returns-2 c = simp (c .before .enum-told .given .1, c .flat-refusal .ensures)
+
+returns-3 : tie.Need-returns-3
+returns-3 c = simp (c .before .enum-told2 .given .1, c .flat-refusal2 .ensures)
+
+returns-4 : tie.Need-returns-4
+returns-4 c = simp (c .before .enum-told3 .given .1, c .flat-refusal3 .ensures)
+
+returns-5 : tie.Need-returns-5
+returns-5 c = simp (c .before .before .e2 .given .1, c .flat-refusal-at .ensures)
+
+returns-6 : tie.Need-returns-6
+returns-6 c = simp (c .before .enum-told4 .given .1, c .flat-refusal4 .ensures)
+
+returns-7 : tie.Need-returns-7
+returns-7 c = simp (c .before .enum-told5 .given .1, c .flat-refusal5 .ensures)
+
+returns-8 : tie.Need-returns-8
+returns-8 c = simp (c .before .enum-told6 .given .1, c .flat-refusal6 .ensures)
+
+pub flat-mapping-error-spec : {M : Type 1} → statement M
+flat-mapping-error-spec =
+    tie.close
+    (tie.spec
+    enum-known-e
+    enum-told
+    flat-refusal-requires
+    enum-told-2
+    flat-refusal-requires-2
+    enum-told-3
+    flat-refusal-requires-3
+    enum-known-e-2
+    flat-refusal-at-requires
+    enum-told-4
+    flat-refusal-requires-4
+    enum-told-5
+    flat-refusal-requires-5
+    enum-told-6
+    flat-refusal-requires-6
+    returns
+    returns-2
+    returns-3
+    returns-4
+    returns-5
+    returns-6
+    returns-7
+    returns-8)

@@ -1,0 +1,30 @@
+use borrow.Author.Needs.{needs}
+use Rattle.exports.proofs.build_calls.raspteal_default.Statement.{statement}
+use Rattle.exports.proofs.build_calls.raspteal_default.Tie as tie
+use Rattle.exports.proofs.build_calls.raspteal_default.Reads as reads
+use Rattle.exports.proofs.build_calls.raspteal_default.Lts as lts
+use Rattle.exports.proofs.build_calls.flat_mapping_answer.Reads as flat-mapping-answer-reads
+use Rattle.exports.proofs.flat_mapping.flat_mapping.Reads as flat-mapping-reads
+use Rattle.map.proofs.default.default.Reads as default-reads
+
+default-requires : tie.Need-default-requires
+default-requires c κs = search needs
+
+flat-mapping-answer-requires : tie.Need-flat-mapping-answer-requires
+flat-mapping-answer-requires c κs = search needs
+
+flat-mapping-requires : tie.Need-flat-mapping-requires
+flat-mapping-requires c κs = search needs
+
+returns : tie.Need-returns
+returns c =
+    simp (
+      c .flat-mapping .ensures,
+      c .before .flat-mapping-answer .ensures,
+      c .before .before .before .default .ensures,
+    )
+
+pub raspteal-default-spec : {M : Type 1} → statement M
+raspteal-default-spec =
+    tie.close
+    (tie.spec default-requires flat-mapping-answer-requires flat-mapping-requires returns)

@@ -1,0 +1,50 @@
+use borrow.Author.Needs.{needs}
+use Rattle.exports.proofs.build_calls.raspteal_from_data.Statement.{statement}
+use Rattle.exports.proofs.build_calls.raspteal_from_data.Tie as tie
+use Rattle.exports.proofs.build_calls.raspteal_from_data.Reads as reads
+use Rattle.exports.proofs.build_calls.raspteal_from_data.Lts as lts
+use Rattle.exports.proofs.build_calls.flat_built.Reads as flat-built-reads
+use Rattle.exports.proofs.flat.uuid_of.Reads as uuid-of-reads
+use Rattle.exports.proofs.flat_data.data_of.Reads as data-of-reads
+use Rattle.map.proofs.from_data.from_data.Reads as from-data-reads
+
+data-of-requires : tie.Need-data-of-requires
+data-of-requires c κs = search needs
+
+uuid-of-requires : tie.Need-uuid-of-requires
+uuid-of-requires c κs = search needs
+
+from-data-requires : tie.Need-from-data-requires
+from-data-requires c κs = search needs
+
+flat-built-requires : tie.Need-flat-built-requires
+flat-built-requires c κs = search needs
+
+same-length : tie.Need-same-length
+same-length c = search needs
+
+returns : tie.Need-returns
+returns c = (
+  simp (
+    c .flat-built .ensures,
+    c .before .before .before .from-data .ensures .0,
+    c .before .before .before .before .before .uuid-of .ensures,
+    c .before .before .before .before .before .before .data-of .ensures,
+  ),
+  simp (
+    c .before .before .before .from-data .ensures .1,
+    c .before .before .before .before .before .uuid-of .ensures,
+    c .before .before .before .before .before .before .data-of .ensures,
+  ),
+)
+
+pub raspteal-from-data-spec : {M : Type 1} → statement M
+raspteal-from-data-spec =
+    tie.close
+    (tie.spec
+    data-of-requires
+    uuid-of-requires
+    from-data-requires
+    flat-built-requires
+    same-length
+    returns)

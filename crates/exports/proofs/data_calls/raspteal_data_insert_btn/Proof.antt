@@ -1,0 +1,24 @@
+use borrow.Author.Needs.{needs}
+use Rattle.exports.proofs.data_calls.raspteal_data_insert_btn.Statement.{statement}
+use Rattle.exports.proofs.data_calls.raspteal_data_insert_btn.Tie as tie
+use Rattle.exports.proofs.data_calls.raspteal_data_insert_btn.Reads as reads
+use Rattle.exports.proofs.data_calls.raspteal_data_insert_btn.Lts as lts
+use Rattle.exports.proofs.data_calls.flat_changed.Reads as flat-changed-reads
+use Rattle.exports.proofs.flat_data.data_of.Reads as data-of-reads
+use Rattle.map.proofs.mapping_data.MappingData.insert_btn.Reads as insert-btn-reads
+
+data-of-requires : tie.Need-data-of-requires
+data-of-requires c κs = search needs
+
+insert-btn-requires : tie.Need-insert-btn-requires
+insert-btn-requires c κs = search needs
+
+flat-changed-requires : tie.Need-flat-changed-requires
+flat-changed-requires c κs = search needs
+
+returns : tie.Need-returns
+returns c = simp (c .flat-changed .ensures, c .before .insert-btn .ensures, c .before .before .data-of .ensures)
+
+pub raspteal-data-insert-btn-spec : {M : Type 1} → statement M
+raspteal-data-insert-btn-spec =
+    tie.close (tie.spec data-of-requires insert-btn-requires flat-changed-requires returns)

@@ -1,0 +1,13 @@
+use Rattle.exports.proofs.flat.element_of.Statement.{statement}
+use Rattle.exports.proofs.flat.element_of.Tie as tie
+use Rattle.exports.proofs.flat.element_of.Reads as reads
+use Rattle.exports.proofs.flat.element_of.Lts as lts
+
+returns : tie.Need-returns
+returns c = simp (c .if1 .taken)
+
+returns-2 : tie.Need-returns-2
+returns-2 c = simp (c .if1 .left)
+
+pub element-of-spec : {M : Type 1} → statement M
+element-of-spec = tie.close (tie.spec returns returns-2)

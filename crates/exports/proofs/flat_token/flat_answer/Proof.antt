@@ -1,0 +1,53 @@
+use borrow.Author.Needs.{needs}
+use Rattle.exports.proofs.flat_token.flat_answer.Statement.{statement}
+use Rattle.exports.proofs.flat_token.flat_answer.Tie as tie
+use Rattle.exports.proofs.flat_token.flat_answer.Reads as reads
+use Rattle.exports.proofs.flat_token.flat_answer.Lts as lts
+use Rattle.exports.proofs.flat_token.bare_token.Reads as bare-token-reads
+use Rattle.exports.proofs.flat_token.flat_error.Reads as flat-error-reads
+use Rattle.exports.proofs.flat_token.flat_token.Reads as flat-token-reads
+
+enum-known-a : tie.Need-enum-known-a
+enum-known-a c = search needs
+
+flat-token-requires : tie.Need-flat-token-requires
+flat-token-requires c κs = search needs
+
+enum-known-a-2 : tie.Need-enum-known-a-2
+enum-known-a-2 c = search needs
+
+bare-token-requires : tie.Need-bare-token-requires
+bare-token-requires c κs = search needs
+
+flat-error-requires : tie.Need-flat-error-requires
+flat-error-requires c κs = search needs
+
+enum-told : tie.Need-enum-told
+enum-told c = search needs
+
+bare-token-requires-2 : tie.Need-bare-token-requires-2
+bare-token-requires-2 c κs = search needs
+
+returns : tie.Need-returns
+returns c = simp (c .before .before .a .given .1, c .flat-token .ensures)
+
+returns-2 : tie.Need-returns-2
+returns-2 c = simp (c .before .before .before .a2 .given .1, c .flat-error .ensures, c .before .bare-token .ensures)
+
+returns-3 : tie.Need-returns-3
+returns-3 c = simp (c .before .enum-told .given .1, c .bare-token2 .ensures)
+
+pub flat-answer-spec : {M : Type 1} → statement M
+flat-answer-spec =
+    tie.close
+    (tie.spec
+    enum-known-a
+    flat-token-requires
+    enum-known-a-2
+    bare-token-requires
+    flat-error-requires
+    enum-told
+    bare-token-requires-2
+    returns
+    returns-2
+    returns-3)

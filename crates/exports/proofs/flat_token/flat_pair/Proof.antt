@@ -1,0 +1,24 @@
+use borrow.Author.Needs.{needs}
+use Rattle.exports.proofs.flat_token.flat_pair.Statement.{statement}
+use Rattle.exports.proofs.flat_token.flat_pair.Tie as tie
+use Rattle.exports.proofs.flat_token.flat_pair.Reads as reads
+use Rattle.exports.proofs.flat_token.flat_pair.Lts as lts
+use Rattle.exports.proofs.flat.flat_element.Reads as flat-element-reads
+use Rattle.exports.proofs.flat_token.range_number.Reads as range-number-reads
+
+flat-element-requires : tie.Need-flat-element-requires
+flat-element-requires c κs = search needs
+
+range-number-requires : tie.Need-range-number-requires
+range-number-requires c κs = search needs
+
+range-number-requires-2 : tie.Need-range-number-requires-2
+range-number-requires-2 c κs = search needs
+
+returns : tie.Need-returns
+returns c = simp (c .range-number2 .ensures, c .before .range-number .ensures, c .before .before .flat-element .ensures)
+
+pub flat-pair-spec : {M : Type 1} → statement M
+flat-pair-spec =
+    tie.close
+    (tie.spec flat-element-requires range-number-requires range-number-requires-2 returns)

@@ -1,0 +1,20 @@
+use borrow.Author.Needs.{needs}
+use Rattle.exports.proofs.line_calls.raspteal_axis_second_axis.Statement.{statement}
+use Rattle.exports.proofs.line_calls.raspteal_axis_second_axis.Tie as tie
+use Rattle.exports.proofs.line_calls.raspteal_axis_second_axis.Reads as reads
+use Rattle.exports.proofs.line_calls.raspteal_axis_second_axis.Lts as lts
+use Rattle.exports.proofs.line_calls.flat_second_axis.Reads as flat-second-axis-reads
+use Rattle.line.proofs.ev.Axis.second_axis.Reads as second-axis-reads
+
+second-axis-requires : tie.Need-second-axis-requires
+second-axis-requires c κs = search needs
+
+flat-second-axis-requires : tie.Need-flat-second-axis-requires
+flat-second-axis-requires c κs = search needs
+
+returns : tie.Need-returns
+returns c = simp (c .flat-second-axis .ensures, c .before .second-axis .ensures)
+
+pub raspteal-axis-second-axis-spec : {M : Type 1} → statement M
+raspteal-axis-second-axis-spec =
+    tie.close (tie.spec second-axis-requires flat-second-axis-requires returns)

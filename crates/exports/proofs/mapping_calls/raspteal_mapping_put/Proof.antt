@@ -1,0 +1,46 @@
+use borrow.Author.Needs.{needs}
+use Rattle.exports.proofs.mapping_calls.raspteal_mapping_put.Statement.{statement}
+use Rattle.exports.proofs.mapping_calls.raspteal_mapping_put.Tie as tie
+use Rattle.exports.proofs.mapping_calls.raspteal_mapping_put.Reads as reads
+use Rattle.exports.proofs.mapping_calls.raspteal_mapping_put.Lts as lts
+use Rattle.exports.proofs.flat_mapping.entry_of.Reads as entry-of-reads
+use Rattle.exports.proofs.flat_mapping.flat_mapping.Reads as flat-mapping-reads
+use Rattle.exports.proofs.flat_mapping.mapping_of.Reads as mapping-of-reads
+use Rattle.exports.proofs.mapping_calls.flat_put_result.Reads as flat-put-result-reads
+use Rattle.line.proofs.mapping.Mapping.put.Reads as put-reads
+
+mapping-of-requires : tie.Need-mapping-of-requires
+mapping-of-requires c κs = search needs
+
+entry-of-requires : tie.Need-entry-of-requires
+entry-of-requires c κs = search needs
+
+put-requires : tie.Need-put-requires
+put-requires c κs = search needs
+
+flat-put-result-requires : tie.Need-flat-put-result-requires
+flat-put-result-requires c κs = search needs
+
+flat-mapping-requires : tie.Need-flat-mapping-requires
+flat-mapping-requires c κs = search needs
+
+returns : tie.Need-returns
+returns c =
+    simp (
+      c .flat-mapping .ensures,
+      c .before .flat-put-result .ensures,
+      c .before .before .before .put .ensures,
+      c .before .before .before .before .entry-of .ensures,
+      c .before .before .before .before .before .mapping-of .ensures,
+    )
+
+pub raspteal-mapping-put-spec : {M : Type 1} → statement M
+raspteal-mapping-put-spec =
+    tie.close
+    (tie.spec
+    mapping-of-requires
+    entry-of-requires
+    put-requires
+    flat-put-result-requires
+    flat-mapping-requires
+    returns)

@@ -1,0 +1,20 @@
+use borrow.Author.Needs.{needs}
+use Rattle.exports.proofs.parser_calls.raspteal_parser_start.Statement.{statement}
+use Rattle.exports.proofs.parser_calls.raspteal_parser_start.Tie as tie
+use Rattle.exports.proofs.parser_calls.raspteal_parser_start.Reads as reads
+use Rattle.exports.proofs.parser_calls.raspteal_parser_start.Lts as lts
+use Rattle.exports.proofs.flat_token.state_number.Reads as state-number-reads
+use Rattle.line.proofs.parser.start_state.Reads as start-state-reads
+
+start-state-requires : tie.Need-start-state-requires
+start-state-requires c κs = search needs
+
+state-number-requires : tie.Need-state-number-requires
+state-number-requires c κs = search needs
+
+returns : tie.Need-returns
+returns c = simp (c .state-number .ensures, c .before .start-state .ensures)
+
+pub raspteal-parser-start-spec : {M : Type 1} → statement M
+raspteal-parser-start-spec =
+    tie.close (tie.spec start-state-requires state-number-requires returns)

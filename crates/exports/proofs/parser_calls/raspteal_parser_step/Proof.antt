@@ -1,0 +1,35 @@
+use borrow.Author.Needs.{needs}
+use Rattle.exports.proofs.parser_calls.raspteal_parser_step.Statement.{statement}
+use Rattle.exports.proofs.parser_calls.raspteal_parser_step.Tie as tie
+use Rattle.exports.proofs.parser_calls.raspteal_parser_step.Reads as reads
+use Rattle.exports.proofs.parser_calls.raspteal_parser_step.Lts as lts
+use Rattle.exports.proofs.flat_token.flat_answer.Reads as flat-answer-reads
+use Rattle.exports.proofs.flat_token.state_number.Reads as state-number-reads
+use Rattle.exports.proofs.flat_token.state_of.Reads as state-of-reads
+use Rattle.line.proofs.parser.step.Reads as step-reads
+
+state-of-requires : tie.Need-state-of-requires
+state-of-requires c κs = search needs
+
+step-requires : tie.Need-step-requires
+step-requires c κs = search needs
+
+flat-answer-requires : tie.Need-flat-answer-requires
+flat-answer-requires c κs = search needs
+
+state-number-requires : tie.Need-state-number-requires
+state-number-requires c κs = search needs
+
+returns : tie.Need-returns
+returns c =
+    simp (
+      c .state-number .ensures,
+      c .before .flat-answer .ensures,
+      c .before .before .step .ensures,
+      c .before .before .before .state-of .ensures,
+    )
+
+pub raspteal-parser-step-spec : {M : Type 1} → statement M
+raspteal-parser-step-spec =
+    tie.close
+    (tie.spec state-of-requires step-requires flat-answer-requires state-number-requires returns)

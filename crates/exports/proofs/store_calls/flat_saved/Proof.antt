@@ -1,0 +1,19 @@
+use borrow.Author.Needs.{needs}
+use Rattle.exports.proofs.store_calls.flat_saved.Statement.{statement}
+use Rattle.exports.proofs.store_calls.flat_saved.Tie as tie
+use Rattle.exports.proofs.store_calls.flat_saved.Reads as reads
+use Rattle.exports.proofs.store_calls.flat_saved.Lts as lts
+use Rattle.exports.proofs.flat_mapping.flat_mapping.Reads as flat-mapping-reads
+use Rattle.exports.proofs.store_calls.flat_save_answer.Reads as flat-save-answer-reads
+
+flat-save-answer-requires : tie.Need-flat-save-answer-requires
+flat-save-answer-requires c κs = search needs
+
+flat-mapping-requires : tie.Need-flat-mapping-requires
+flat-mapping-requires c κs = search needs
+
+returns : tie.Need-returns
+returns c = simp (c .flat-mapping .ensures, c .before .flat-save-answer .ensures)
+
+pub flat-saved-spec : {M : Type 1} → statement M
+flat-saved-spec = tie.close (tie.spec flat-save-answer-requires flat-mapping-requires returns)

@@ -1,0 +1,35 @@
+use mathlib.Core.Path.{ap, _∙_}
+use Rattle.store.specs.declared.calls.Answer.{Answer}
+use Rattle.store.specs.Store.{Done}
+use Rattle.exports.specs.FlatStore.{flatStoreAnswer}
+use borrow.Author.Needs.{needs}
+use Rattle.exports.proofs.store_calls.raspteal_store_clear.Statement.{statement}
+use Rattle.exports.proofs.store_calls.raspteal_store_clear.Tie as tie
+use Rattle.exports.proofs.store_calls.raspteal_store_clear.Reads as reads
+use Rattle.exports.proofs.store_calls.raspteal_store_clear.Lts as lts
+use Rattle.exports.proofs.store_calls.flat_store_answer.Reads as flat-store-answer-reads
+use Rattle.store.proofs.calls.clear.Reads as clear-reads
+
+clear-requires : tie.Need-clear-requires
+clear-requires c κs = search needs
+
+flat-store-answer-requires : tie.Need-flat-store-answer-requires
+flat-store-answer-requires c κs = search needs
+
+same-length : tie.Need-same-length
+same-length c = search needs
+
+same-length-2 : tie.Need-same-length-2
+same-length-2 c = search needs
+
+returns : tie.Need-returns
+returns c =
+    let e = c .before .before .before .before .before .clear .ensures in (
+      c .flat-store-answer .ensures ∙ ap (λ (d : Done Answer). flatStoreAnswer (d .answer)) e,
+      (ap (λ (d : Done Answer). d .index) e, ap (λ (d : Done Answer). d .text) e),
+    )
+
+pub raspteal-store-clear-spec : {M : Type 1} → statement M
+raspteal-store-clear-spec =
+    tie.close
+    (tie.spec clear-requires flat-store-answer-requires same-length same-length-2 returns)

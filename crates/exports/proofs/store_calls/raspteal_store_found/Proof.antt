@@ -1,0 +1,24 @@
+use borrow.Author.Needs.{needs}
+use Rattle.exports.proofs.store_calls.raspteal_store_found.Statement.{statement}
+use Rattle.exports.proofs.store_calls.raspteal_store_found.Tie as tie
+use Rattle.exports.proofs.store_calls.raspteal_store_found.Reads as reads
+use Rattle.exports.proofs.store_calls.raspteal_store_found.Lts as lts
+use Rattle.exports.proofs.flat.uuid_of.Reads as uuid-of-reads
+use Rattle.exports.proofs.store_calls.flat_look.Reads as flat-look-reads
+use Rattle.store.proofs.calls.found.Reads as found-reads
+
+uuid-of-requires : tie.Need-uuid-of-requires
+uuid-of-requires c κs = search needs
+
+found-requires : tie.Need-found-requires
+found-requires c κs = search needs
+
+flat-look-requires : tie.Need-flat-look-requires
+flat-look-requires c κs = search needs
+
+returns : tie.Need-returns
+returns c = simp (c .flat-look .ensures, c .before .found .ensures, c .before .before .uuid-of .ensures)
+
+pub raspteal-store-found-spec : {M : Type 1} → statement M
+raspteal-store-found-spec =
+    tie.close (tie.spec uuid-of-requires found-requires flat-look-requires returns)

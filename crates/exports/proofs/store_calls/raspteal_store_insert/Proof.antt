@@ -1,0 +1,34 @@
+use mathlib.Core.Path.{ap, _∙_}
+use Rattle.store.specs.declared.calls.Inserted.{Inserted}
+use Rattle.store.specs.Store.{Done}
+use Rattle.exports.specs.FlatStore.{flatInserted}
+use borrow.Author.Needs.{needs}
+use Rattle.exports.proofs.store_calls.raspteal_store_insert.Statement.{statement}
+use Rattle.exports.proofs.store_calls.raspteal_store_insert.Tie as tie
+use Rattle.exports.proofs.store_calls.raspteal_store_insert.Reads as reads
+use Rattle.exports.proofs.store_calls.raspteal_store_insert.Lts as lts
+use Rattle.exports.proofs.store_calls.flat_inserted.Reads as flat-inserted-reads
+use Rattle.store.proofs.calls.insert.Reads as insert-reads
+
+insert-requires : tie.Need-insert-requires
+insert-requires c κs = search needs
+
+flat-inserted-requires : tie.Need-flat-inserted-requires
+flat-inserted-requires c κs = search needs
+
+same-length : tie.Need-same-length
+same-length c = search needs
+
+same-length-2 : tie.Need-same-length-2
+same-length-2 c = search needs
+
+returns : tie.Need-returns
+returns c =
+    let e = c .before .before .before .before .before .insert .ensures in (
+      c .flat-inserted .ensures ∙ ap (λ (d : Done Inserted). flatInserted (d .answer)) e,
+      (ap (λ (d : Done Inserted). d .index) e, ap (λ (d : Done Inserted). d .text) e),
+    )
+
+pub raspteal-store-insert-spec : {M : Type 1} → statement M
+raspteal-store-insert-spec =
+    tie.close (tie.spec insert-requires flat-inserted-requires same-length same-length-2 returns)

@@ -1,0 +1,25 @@
+use borrow.Author.Needs.{needs}
+use Rattle.exports.proofs.text_calls.flat_uuid_parse.Statement.{statement}
+use Rattle.exports.proofs.text_calls.flat_uuid_parse.Tie as tie
+use Rattle.exports.proofs.text_calls.flat_uuid_parse.Reads as reads
+use Rattle.exports.proofs.text_calls.flat_uuid_parse.Lts as lts
+use Rattle.exports.proofs.flat.flat_uuid.Reads as flat-uuid-reads
+
+enum-known-p : tie.Need-enum-known-p
+enum-known-p c = search needs
+
+flat-uuid-requires : tie.Need-flat-uuid-requires
+flat-uuid-requires c κs = search needs
+
+enum-told : tie.Need-enum-told
+enum-told c = search needs
+
+returns : tie.Need-returns
+returns c = simp (c .before .before .p .given .1, c .flat-uuid .ensures)
+
+returns-2 : tie.Need-returns-2
+returns-2 c = simp (c .enum-told .given .1)
+
+pub flat-uuid-parse-spec : {M : Type 1} → statement M
+flat-uuid-parse-spec =
+    tie.close (tie.spec enum-known-p flat-uuid-requires enum-told returns returns-2)

@@ -1,0 +1,79 @@
+-- Maps as numbers at the C boundary, and back. Assumes nothing.
+use Prim.Native.Nat.{ℕ}
+use mathlib.Core.Bool.{true, false}
+use mathlib.Core.List.{map}
+use Rattle.line.specs.declared.mapping.Entry.{Entry}
+use Rattle.line.specs.declared.mapping.Mapping.{Mapping}
+use Rattle.line.specs.declared.mapping.PutAnswer.{PutAnswer}
+use Rattle.line.specs.declared.mapping.Mapped.{Mapped}
+use Rattle.line.specs.declared.mapping.Mapped.the-variants as Mp
+use Rattle.line.specs.declared.mapping.Source.{Source}
+use Rattle.line.specs.declared.mapping.Source.the-variants as Sr
+use Rattle.line.specs.declared.tables.KeyElement.{KeyElement}
+use Rattle.line.specs.declared.tables.KeyElement.the-variants as Ke
+use Rattle.line.specs.declared.tables.Ident.{Ident}
+use Rattle.line.specs.declared.reading.SdlMapping.{SdlMapping}
+use Rattle.line.specs.Elements.{codeOf}
+use Rattle.line.specs.Refusals.{putOutcome, readingOutcome}
+use Rattle.exports.specs.declared.flat.FlatElement.{FlatElement}
+use Rattle.exports.specs.declared.flat_mapping.FlatEntry.{FlatEntry}
+use Rattle.exports.specs.declared.flat_mapping.FlatMapping.{FlatMapping}
+use Rattle.exports.specs.declared.mapping_calls.FlatPut.{FlatPut}
+use Rattle.exports.specs.declared.mapping_calls.FlatMapped.{FlatMapped}
+use Rattle.exports.specs.declared.mapping_calls.FlatIdent.{FlatIdent}
+use Rattle.exports.specs.declared.line_calls.FlatCode.{FlatCode}
+use Rattle.exports.specs.declared.parser_calls.FlatReading.{FlatReading}
+use Rattle.exports.specs.Flat.{flatElement, elementOf, flatOutcome}
+
+abbrev pub flatEntry : Entry → FlatEntry
+flatEntry e = record { code = e .code .0; element = flatElement (e .element) }
+
+abbrev pub entryIn : FlatEntry → Entry
+entryIn e = record { code = codeOf (e .code); element = elementOf (e .element) }
+
+unfoldable pub flatMapping : Mapping → FlatMapping
+flatMapping m =
+    record {
+      count = m .count;
+      entries = map flatEntry (m .entries);
+      «name_start» = m .«name_start»;
+      «name_len» = m .«name_len»;
+      «is_default» = m .«is_default»;
+      «hats_mapped» = m .«hats_mapped»;
+    }
+
+unfoldable pub mappingIn : FlatMapping → Mapping
+mappingIn m =
+    record {
+      count = m .count;
+      entries = map entryIn (m .entries);
+      «name_start» = m .«name_start»;
+      «name_len» = m .«name_len»;
+      «is_default» = m .«is_default»;
+      «hats_mapped» = m .«hats_mapped»;
+    }
+
+abbrev pub flatPut : PutAnswer → FlatPut
+flatPut a = record { refusal = flatOutcome (putOutcome (a .answer)); map = flatMapping (a .map) }
+
+abbrev pub flatReading : SdlMapping → FlatReading
+flatReading a = record { refusal = flatOutcome (readingOutcome (a .answer)); map = flatMapping (a .map) }
+
+-- an element that is not there
+abbrev pub noElement : FlatMapped
+noElement = record { found = false; element = record { «is_axis» = false; number = 0 } }
+
+abbrev pub flatMapped : Mapped → FlatMapped
+flatMapped (Mp.To e) = record { found = true; element = flatElement e }
+flatMapped Mp.Nothing = noElement
+
+abbrev pub flatKeyElement : KeyElement → FlatMapped
+flatKeyElement (Ke.Is e) = record { found = true; element = flatElement e }
+flatKeyElement Ke.Missing = noElement
+
+abbrev pub flatSource : Source → FlatCode
+flatSource (Sr.From c) = record { found = true; code = c .0 }
+flatSource Sr.Nowhere = record { found = false; code = 0 }
+
+abbrev pub flatIdent : Ident → FlatIdent
+flatIdent i = record { name = i .name; len = i .len }

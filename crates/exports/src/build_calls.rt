@@ -1,0 +1,108 @@
+// The calls of the map layer that make a map: the default, and build.
+use crate::flat::FlatRefusal;
+use crate::flat::FlatUuid;
+use crate::flat::flat_no_refusal;
+use crate::flat::flat_refusal;
+use crate::flat::flat_refusal_at;
+use crate::flat::uuid_of;
+use crate::flat_data::FlatData;
+use crate::flat_data::data_of;
+use crate::flat_mapping::FlatMapping;
+use crate::flat_mapping::flat_mapping;
+use map::error::MappingAnswer;
+use map::error::MappingError;
+use map::from_data::Built;
+ghost use mathlib.Core.Path.{_≡_};
+ghost use Rattle.map.specs.Default.{defaultOf};
+ghost use Rattle.line.specs.Refusals.{Refuses};
+ghost use Rattle.map.specs.Build.{buildOf, outputOf};
+ghost use Rattle.map.specs.Refusals.{mappingRefusal};
+ghost use lib.ListN.{length};
+ghost use Rattle.exports.specs.Flat.{flatOutcome, uuidIn};
+ghost use Rattle.exports.specs.FlatSlots.{dataIn, flatAnswer, flatDefault, flatBuilt};
+
+// A refused one has the empty map.
+#[repr(C)]
+pub struct FlatDefault {
+    pub refusal: FlatRefusal,
+    pub map: FlatMapping,
+}
+
+// A refused build has the empty map and length 0.
+#[repr(C)]
+pub struct FlatBuilt {
+    pub refusal: FlatRefusal,
+    pub map: FlatMapping,
+    pub len: usize,
+}
+
+pub fn flat_mapping_error(e: MappingError) -> FlatRefusal
+    ensures { λ r. ⌜ r ≡ flatOutcome (Refuses (mappingRefusal e)) ⌝ }
+{
+    match e {
+        MappingError::InvalidCode(c) => FlatRefusal {
+            number: 15,
+            has_place: false,
+            place: 0,
+            has_code: true,
+            code: c.0,
+        },
+        MappingError::InvalidName => flat_refusal(13),
+        MappingError::UnknownElement => flat_refusal(14),
+        MappingError::NotSdl2Compatible => flat_refusal(16),
+        MappingError::NotUtf8(place) => flat_refusal_at(10, place),
+        MappingError::NameTooLong => flat_refusal(17),
+        MappingError::ListTooLong => flat_refusal(12),
+        MappingError::OutputTooShort => flat_refusal(18),
+    }
+}
+
+fn flat_mapping_answer(a: MappingAnswer) -> FlatRefusal
+    ensures { λ r. ⌜ r ≡ flatAnswer a ⌝ }
+{
+    match a {
+        MappingAnswer::Accepted => flat_no_refusal(),
+        MappingAnswer::Refused(e) => flat_mapping_error(e),
+    }
+}
+
+#[no_mangle]
+pub extern "C" fn raspteal_default(buttons: &[u32], axes: &[u32]) -> FlatDefault
+    ensures { λ r. ⌜ r ≡ flatDefault (defaultOf (now (buttons .entry)) (now (axes .entry))) ⌝ }
+{
+    let d = map::default::default(buttons, axes);
+    let answer = d.answer;
+    let map = d.map;
+    FlatDefault {
+        refusal: flat_mapping_answer(answer),
+        map: flat_mapping(map),
+    }
+}
+
+fn flat_built(b: Built) -> FlatBuilt
+    ensures { λ r. ⌜ r ≡ flatBuilt b ⌝ }
+{
+    let answer = b.answer;
+    let map = b.map;
+    FlatBuilt {
+        refusal: flat_mapping_answer(answer),
+        map: flat_mapping(map),
+        len: b.len,
+    }
+}
+
+#[no_mangle]
+pub extern "C" fn raspteal_from_data(
+    data: FlatData,
+    buttons: &[u32],
+    axes: &[u32],
+    name: &[u8],
+    id: FlatUuid,
+    out: &mut [u8],
+) -> FlatBuilt
+    ensures { λ r. ⌜ r ≡ flatBuilt (buildOf (dataIn «data») (now (buttons .entry)) (now (axes .entry)) (now (name .entry)) (uuidIn id) (length (now (out .entry)))) ⌝ }
+    ensures { λ _. ⌜ now (out .exit) ≡ outputOf (dataIn «data») (now (buttons .entry)) (now (axes .entry)) (now (name .entry)) (uuidIn id) (now (out .entry)) ⌝ }
+{
+    let d = data_of(data);
+    flat_built(map::from_data::from_data(d, buttons, axes, name, uuid_of(id), out))
+}

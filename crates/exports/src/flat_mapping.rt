@@ -1,0 +1,109 @@
+// Maps as numbers, both ways.
+use crate::flat::FlatElement;
+use crate::flat::element_of;
+use crate::flat::flat_element;
+use line::ev::Code;
+use line::mapping::CODES_MAX;
+use line::mapping::Entry;
+use line::mapping::Mapping;
+ghost use mathlib.Core.Path.{_≡_};
+ghost use mathlib.Core.List.{map};
+ghost use Rattle.exports.specs.FlatMaps.{flatEntry, entryIn, flatMapping, mappingIn};
+
+#[repr(C)]
+pub struct FlatEntry {
+    pub code: u32,
+    pub element: FlatElement,
+}
+
+#[repr(C)]
+pub struct FlatMapping {
+    pub count: usize,
+    pub entries: [FlatEntry; CODES_MAX],
+    pub name_start: usize,
+    pub name_len: usize,
+    pub is_default: bool,
+    pub hats_mapped: u8,
+}
+
+impl FlatEntry {
+    const UNUSED: FlatEntry = FlatEntry {
+        code: 0,
+        element: FlatElement {
+            is_axis: false,
+            number: 0,
+        },
+    };
+}
+
+fn flat_entry(e: Entry) -> FlatEntry
+    ensures { λ r. ⌜ r ≡ flatEntry e ⌝ }
+{
+    let element = e.element;
+    FlatEntry {
+        code: e.code.0,
+        element: flat_element(element),
+    }
+}
+
+fn flat_entries(entries: [Entry; CODES_MAX]) -> [FlatEntry; CODES_MAX]
+    ensures { λ r. ⌜ r ≡ map flatEntry entries ⌝ }
+{
+    let mut out = [FlatEntry::UNUSED; CODES_MAX];
+    let mut i: usize = 0;
+    while i < CODES_MAX {
+        out[i] = flat_entry(entries[i]);
+        i += 1;
+    }
+    out
+}
+
+pub fn flat_mapping(m: Mapping) -> FlatMapping
+    ensures { λ r. ⌜ r ≡ flatMapping m ⌝ }
+{
+    let entries = m.entries;
+    FlatMapping {
+        count: m.count,
+        entries: flat_entries(entries),
+        name_start: m.name_start,
+        name_len: m.name_len,
+        is_default: m.is_default,
+        hats_mapped: m.hats_mapped,
+    }
+}
+
+pub fn entry_of(e: FlatEntry) -> Entry
+    ensures { λ r. ⌜ r ≡ entryIn e ⌝ }
+{
+    let element = e.element;
+    Entry {
+        code: Code(e.code),
+        element: element_of(element),
+    }
+}
+
+fn entries_of(entries: [FlatEntry; CODES_MAX]) -> [Entry; CODES_MAX]
+    ensures { λ r. ⌜ r ≡ map entryIn entries ⌝ }
+{
+    let mut out = [Entry::UNUSED; CODES_MAX];
+    let mut i: usize = 0;
+    while i < CODES_MAX {
+        out[i] = entry_of(entries[i]);
+        i += 1;
+    }
+    out
+}
+
+pub fn mapping_of(m: FlatMapping) -> Mapping
+    ensures { λ r. ⌜ r ≡ mappingIn m ⌝ }
+{
+    let entries = m.entries;
+    Mapping {
+        count: m.count,
+        entries: entries_of(entries),
+        name_start: m.name_start,
+        name_len: m.name_len,
+        is_default: m.is_default,
+        hats_mapped: m.hats_mapped,
+    }
+}

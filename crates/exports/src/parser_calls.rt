@@ -1,0 +1,95 @@
+// The calls of the line layer on lines: the walker, and the reading.
+use crate::flat::FlatRefusal;
+use crate::flat::flat_no_refusal;
+use crate::flat::flat_refusal;
+use crate::flat::flat_refusal_at;
+use crate::flat_mapping::FlatMapping;
+use crate::flat_mapping::flat_mapping;
+use crate::flat_token::FlatToken;
+use crate::flat_token::flat_answer;
+use crate::flat_token::flat_error;
+use crate::flat_token::state_number;
+use crate::flat_token::state_of;
+use line::reading::ParseSdlMappingError;
+use line::reading::SdlAnswer;
+ghost use mathlib.Core.Path.{_≡_};
+ghost use Rattle.line.specs.Walker.{startOf, stepOf};
+ghost use Rattle.line.specs.Reading.{readingOf};
+ghost use Rattle.line.specs.Refusals.{readingOutcome, readingRefusal};
+ghost use Rattle.line.specs.Refusals as Refusals;
+ghost use Rattle.exports.specs.Flat.{flatOutcome};
+ghost use Rattle.exports.specs.FlatTokens.{stateNumber, stateIn, flatStep};
+ghost use Rattle.exports.specs.FlatMaps.{flatReading};
+
+// A step of the walker: its answer, and where it goes on.
+#[repr(C)]
+pub struct FlatStep {
+    pub token: FlatToken,
+    pub pos: usize,
+    pub state: u8,
+}
+
+// A refused reading has the empty map.
+#[repr(C)]
+pub struct FlatReading {
+    pub refusal: FlatRefusal,
+    pub map: FlatMapping,
+}
+
+#[no_mangle]
+pub extern "C" fn raspteal_parser_start(line: &[u8]) -> u8
+    ensures { λ r. ⌜ r ≡ stateNumber (startOf (now (line .entry))) ⌝ }
+{
+    state_number(line::parser::start_state(line))
+}
+
+#[no_mangle]
+pub extern "C" fn raspteal_parser_step(line: &[u8], pos: usize, state: u8) -> FlatStep
+    ensures { λ r. ⌜ r ≡ flatStep (stepOf (now (line .entry)) pos (stateIn state)) ⌝ }
+{
+    let next = line::parser::step(line, pos, state_of(state));
+    let answer = next.answer;
+    let after = next.state;
+    FlatStep {
+        token: flat_answer(answer),
+        pos: next.pos,
+        state: state_number(after),
+    }
+}
+
+#[no_mangle]
+pub extern "C" fn raspteal_parse_sdl_mapping(
+    line: &[u8],
+    buttons: &[u32],
+    axes: &[u32],
+) -> FlatReading
+    ensures { λ r. ⌜ r ≡ flatReading (readingOf (now (line .entry)) (now (buttons .entry)) (now (axes .entry))) ⌝ }
+{
+    let read = line::reading::parse_sdl_mapping(line, buttons, axes);
+    let answer = read.answer;
+    let map = read.map;
+    FlatReading {
+        refusal: flat_sdl_answer(answer),
+        map: flat_mapping(map),
+    }
+}
+
+fn flat_sdl_answer(a: SdlAnswer) -> FlatRefusal
+    ensures { λ r. ⌜ r ≡ flatOutcome (readingOutcome a) ⌝ }
+{
+    match a {
+        SdlAnswer::Accepted => flat_no_refusal(),
+        SdlAnswer::Refused(e) => flat_sdl_error(e),
+    }
+}
+
+fn flat_sdl_error(e: ParseSdlMappingError) -> FlatRefusal
+    ensures { λ r. ⌜ r ≡ flatOutcome (Refusals.Refuses (readingRefusal e)) ⌝ }
+{
+    match e {
+        ParseSdlMappingError::ParseError(e) => flat_error(e),
+        ParseSdlMappingError::UnknownHatDirection => flat_refusal_at(7, 0),
+        ParseSdlMappingError::TooManyCodes { position } => flat_refusal_at(11, position),
+        ParseSdlMappingError::ListTooLong => flat_refusal(12),
+    }
+}

@@ -1,0 +1,138 @@
+//! Document 01's store and book in plain Rust.
+use crate::doc01;
+use crate::plain::{refusal, refusal_at, Map, Refusal, Slots, Uuid};
+
+pub const BUFFER_MAX: usize = 65535;
+pub const LINE_MAX: usize = 4096;
+pub const RECORD: usize = 21;
+
+/// The lines of a text: cut at LF, one CR before it dropped, nothing after a final LF.
+pub fn lines(text: &[u8]) -> Vec<&[u8]> {
+    let mut pieces: Vec<&[u8]> = text.split(|b| *b == b'\n').collect();
+    let last = pieces.pop().unwrap();
+    let mut out: Vec<&[u8]> = pieces.iter().map(|l| l.strip_suffix(b"\r").unwrap_or(l)).collect();
+    if !last.is_empty() {
+        out.push(last);
+    }
+    out
+}
+
+/// The UUID under which a line is filed, if it is wanted.
+pub fn wanted(line: &[u8]) -> Option<Uuid> {
+    let field = |s: &[u8]| s.split(|b| *b == b',').next().unwrap().to_vec();
+    if let Some(i) = line.windows(9).position(|w| w == b"platform:") {
+        if field(&line[i + 9..]) != b"Linux" {
+            return None;
+        }
+    }
+    doc01::uuid(&field(line))
+}
+
+/// The book, told the lengths of index and text.
+#[derive(Clone, Debug)]
+pub struct Book {
+    pub index: usize,
+    pub text: usize,
+    pub lines: Vec<(Uuid, Vec<u8>)>,
+}
+
+impl Book {
+    pub fn new(index: usize, text: usize) -> Self {
+        Book { index, text, lines: Vec::new() }
+    }
+
+    pub fn clear(&mut self) {
+        self.lines.clear();
+    }
+
+    /// False: no room.
+    fn file(&mut self, u: Uuid, line: &[u8]) -> bool {
+        let held: Vec<_> = self.lines.iter().filter(|l| l.0 != u).collect();
+        let bytes: usize = held.iter().map(|l| l.1.len()).sum();
+        if RECORD * (held.len() + 1) > self.index || bytes + line.len() > self.text {
+            return false;
+        }
+        self.lines.retain(|l| l.0 != u);
+        self.lines.push((u, line.to_vec()));
+        true
+    }
+
+    /// A refusal, if any, and the number of lines walked.
+    pub fn insert(&mut self, text: &[u8]) -> (Option<Refusal>, usize) {
+        if let Err(e) = std::str::from_utf8(text) {
+            return (Some(refusal_at(10, e.valid_up_to())), 0);
+        }
+        let mut n = 0;
+        for line in lines(text) {
+            if let Some(u) = wanted(line) {
+                if line.len() > LINE_MAX {
+                    return (Some(refusal(20)), n);
+                }
+                if !self.file(u, line) {
+                    return (Some(refusal(21)), n);
+                }
+            }
+            n += 1;
+        }
+        (None, n)
+    }
+
+    /// Build's answer, or 22 or 21; the line is filed where nothing is refused.
+    pub fn save(
+        &mut self, slots: &Slots, buttons: &[u32], axes: &[u32], name: &[u8], uuid: Uuid,
+    ) -> Result<Map, Refusal> {
+        let (m, line) = doc01::build(slots, buttons, axes, name, uuid)?;
+        if unsaved(name) {
+            return Err(refusal(22));
+        }
+        if !self.file(uuid, &line) {
+            return Err(refusal(21));
+        }
+        Ok(m)
+    }
+
+    pub fn get(&self, u: Uuid) -> Option<Vec<u8>> {
+        self.lines.iter().find(|l| l.0 == u).map(|l| l.1.clone())
+    }
+
+    /// The two buffers that encode the list.
+    pub fn buffers(&self) -> (Vec<u8>, Vec<u8>) {
+        let (mut index, mut text) = (Vec::with_capacity(self.index), Vec::with_capacity(self.text));
+        for (u, l) in &self.lines {
+            index.push(1);
+            index.extend_from_slice(u);
+            index.extend_from_slice(&(text.len() as u16).to_be_bytes());
+            index.extend_from_slice(&(l.len() as u16).to_be_bytes());
+            text.extend_from_slice(l);
+        }
+        index.resize(self.index, 0);
+        text.resize(self.text, 0);
+        (index, text)
+    }
+
+    /// The list that two buffers encode, or None where the store is not sound.
+    pub fn of(index: &[u8], text: &[u8]) -> Option<Book> {
+        if index.len() > BUFFER_MAX || text.len() > BUFFER_MAX {
+            return None;
+        }
+        let mut b = Book::new(index.len(), text.len());
+        let (mut at, mut used) = (0, 0);
+        while at + RECORD <= index.len() && index[at] == 1 {
+            let u: Uuid = index[at + 1..at + 17].try_into().unwrap();
+            let n = u16::from_be_bytes([index[at + 19], index[at + 20]]) as usize;
+            if n == 0 || n > LINE_MAX || used + n > text.len() || b.get(u).is_some() {
+                return None;
+            }
+            b.lines.push((u, text[used..used + n].to_vec()));
+            used += n;
+            at += RECORD;
+        }
+        // the encoding is unique: every other byte, offsets too, must be as `buffers` writes it
+        (b.buffers() == (index.to_vec(), text.to_vec())).then_some(b)
+    }
+}
+
+/// Whether a saved name has LF or `platform:`.
+pub fn unsaved(name: &[u8]) -> bool {
+    name.contains(&b'\n') || name.windows(9).any(|w| w == b"platform:")
+}

@@ -1,0 +1,240 @@
+//! The functions of bindings/raspteal.h. Nothing checks these declarations against it: keep the two side by side.
+//! A slice is a pointer and a length; a struct passes by value.
+
+pub const CODES_MAX: usize = 256;
+pub const BUTTONS: usize = 20;
+pub const AXES: usize = 9;
+pub const IDENT_MAX: usize = 13;
+
+#[repr(C)]
+#[derive(Clone, Copy, Debug)]
+pub struct Written {
+    pub fits: bool,
+    pub next: usize,
+}
+
+#[repr(C)]
+#[derive(Clone, Copy, Debug)]
+pub struct Uuid {
+    pub high: u64,
+    pub low: u64,
+}
+
+#[repr(C)]
+#[derive(Clone, Copy, Debug)]
+pub struct UuidParse {
+    pub valid: bool,
+    pub id: Uuid,
+}
+
+#[repr(C)]
+#[derive(Clone, Copy, Debug)]
+pub struct IndexParse {
+    pub valid: bool,
+    pub number: u16,
+}
+
+#[repr(C)]
+#[derive(Clone, Copy, Debug)]
+pub struct Element {
+    pub is_axis: bool,
+    pub number: u16,
+}
+
+#[repr(C)]
+#[derive(Clone, Copy, Debug)]
+pub struct Refusal {
+    pub number: u8,
+    pub has_place: bool,
+    pub place: usize,
+    pub has_code: bool,
+    pub code: u32,
+}
+
+#[repr(C)]
+#[derive(Clone, Copy, Debug)]
+pub struct Code {
+    pub found: bool,
+    pub code: u32,
+}
+
+#[repr(C)]
+#[derive(Clone, Copy, Debug)]
+pub struct AxisNumber {
+    pub found: bool,
+    pub number: u16,
+}
+
+#[repr(C)]
+#[derive(Clone, Copy, Debug)]
+pub struct Mapped {
+    pub found: bool,
+    pub element: Element,
+}
+
+#[repr(C)]
+#[derive(Clone, Copy, Debug)]
+pub struct Ident {
+    pub name: [u8; IDENT_MAX],
+    pub len: usize,
+}
+
+#[repr(C)]
+#[derive(Clone, Copy, Debug)]
+pub struct Entry {
+    pub code: u32,
+    pub element: Element,
+}
+
+#[repr(C)]
+#[derive(Clone, Copy)]
+pub struct Mapping {
+    pub count: usize,
+    pub entries: [Entry; CODES_MAX],
+    pub name_start: usize,
+    pub name_len: usize,
+    pub is_default: bool,
+    pub hats_mapped: u8,
+}
+
+/// The answer of a put, a reading, a default and a save: on a refusal the map is empty (a put's as it was).
+#[repr(C)]
+#[derive(Clone, Copy)]
+pub struct Answer {
+    pub refusal: Refusal,
+    pub map: Mapping,
+}
+
+#[repr(C)]
+#[derive(Clone, Copy, Debug)]
+pub struct Pair {
+    pub from: u16,
+    pub direction: u16,
+    pub to: Element,
+    pub input: u8,
+    pub output: u8,
+    pub inverted: bool,
+}
+
+#[repr(C)]
+#[derive(Clone, Copy, Debug)]
+pub struct Token {
+    pub kind: u8,
+    pub refusal: Refusal,
+    pub id: Uuid,
+    pub start: usize,
+    pub len: usize,
+    pub pair: Pair,
+}
+
+#[repr(C)]
+#[derive(Clone, Copy, Debug)]
+pub struct Step {
+    pub token: Token,
+    pub pos: usize,
+    pub state: u8,
+}
+
+#[repr(C)]
+#[derive(Clone, Copy, Debug)]
+pub struct Slot {
+    pub filled: bool,
+    pub code: u32,
+}
+
+#[repr(C)]
+#[derive(Clone, Copy, Debug)]
+pub struct MappingData {
+    pub buttons: [Slot; BUTTONS],
+    pub axes: [Slot; AXES],
+}
+
+#[repr(C)]
+#[derive(Clone, Copy, Debug)]
+pub struct Changed {
+    pub former: Code,
+    pub slots: MappingData,
+}
+
+#[repr(C)]
+#[derive(Clone, Copy)]
+pub struct Built {
+    pub refusal: Refusal,
+    pub map: Mapping,
+    pub len: usize,
+}
+
+#[repr(C)]
+#[derive(Clone, Copy, Debug)]
+pub struct Inserted {
+    pub refusal: Refusal,
+    pub count: usize,
+}
+
+#[repr(C)]
+#[derive(Clone, Copy, Debug)]
+pub struct Look {
+    pub refusal: Refusal,
+    pub found: bool,
+}
+
+extern "C" {
+    pub fn raspteal_same_bytes(a: *const u8, a_len: usize, b: *const u8, b_len: usize) -> bool;
+    pub fn raspteal_find_byte(s: *const u8, s_len: usize, b: u8) -> usize;
+    pub fn raspteal_write_bytes(out: *mut u8, out_len: usize, at: usize, v: *const u8, v_len: usize) -> Written;
+    pub fn raspteal_valid_up_to(s: *const u8, s_len: usize) -> usize;
+    pub fn raspteal_is_utf8(s: *const u8, s_len: usize) -> bool;
+    pub fn raspteal_uuid_parse_str(s: *const u8, s_len: usize) -> UuidParse;
+    pub fn raspteal_uuid_write_simple(id: Uuid, out: *mut u8, out_len: usize, at: usize) -> Written;
+    pub fn raspteal_parse_u16(s: *const u8, s_len: usize) -> IndexParse;
+    pub fn raspteal_index_len(n: usize) -> usize;
+    pub fn raspteal_write_index(out: *mut u8, out_len: usize, at: usize, n: usize) -> Written;
+
+    pub fn raspteal_button_to_nec(button: u16) -> Code;
+    pub fn raspteal_button_is_stick(button: u16) -> bool;
+    pub fn raspteal_button_is_dpad(button: u16) -> bool;
+    pub fn raspteal_axis_is_stick(axis: u16) -> bool;
+    pub fn raspteal_axis_second_axis(axis: u16) -> AxisNumber;
+    pub fn raspteal_element_is_button(e: Element) -> bool;
+    pub fn raspteal_element_eq(a: Element, b: Element) -> bool;
+    pub fn raspteal_find_element(key: *const u8, key_len: usize) -> Mapped;
+    pub fn raspteal_ident_of(e: Element) -> Ident;
+
+    pub fn raspteal_mapping_new() -> Mapping;
+    pub fn raspteal_mapping_put(map: Mapping, e: Entry) -> Answer;
+    pub fn raspteal_mapping_map(map: Mapping, code: u32) -> Mapped;
+    pub fn raspteal_mapping_map_rev(map: Mapping, e: Element) -> Code;
+    pub fn raspteal_parser_start(line: *const u8, line_len: usize) -> u8;
+    pub fn raspteal_parser_step(line: *const u8, line_len: usize, pos: usize, state: u8) -> Step;
+    pub fn raspteal_parse_sdl_mapping(
+        line: *const u8, line_len: usize, buttons: *const u32, buttons_len: usize, axes: *const u32, axes_len: usize,
+    ) -> Answer;
+
+    pub fn raspteal_data_new() -> MappingData;
+    pub fn raspteal_data_button(data: MappingData, button: u16) -> Code;
+    pub fn raspteal_data_axis(data: MappingData, axis: u16) -> Code;
+    pub fn raspteal_data_insert_btn(data: MappingData, code: u32, button: u16) -> Changed;
+    pub fn raspteal_data_insert_axis(data: MappingData, code: u32, axis: u16) -> Changed;
+    pub fn raspteal_data_remove_button(data: MappingData, button: u16) -> Changed;
+    pub fn raspteal_data_remove_axis(data: MappingData, axis: u16) -> Changed;
+    pub fn raspteal_from_data(
+        data: MappingData, buttons: *const u32, buttons_len: usize, axes: *const u32, axes_len: usize, name: *const u8,
+        name_len: usize, id: Uuid, out: *mut u8, out_len: usize,
+    ) -> Built;
+    pub fn raspteal_default(buttons: *const u32, buttons_len: usize, axes: *const u32, axes_len: usize) -> Answer;
+
+    pub fn raspteal_store_clear(index: *mut u8, index_len: usize, text: *mut u8, text_len: usize) -> Refusal;
+    pub fn raspteal_store_insert(
+        index: *mut u8, index_len: usize, text: *mut u8, text_len: usize, lines: *const u8, lines_len: usize,
+    ) -> Inserted;
+    pub fn raspteal_store_save(
+        index: *mut u8, index_len: usize, text: *mut u8, text_len: usize, data: MappingData, buttons: *const u32,
+        buttons_len: usize, axes: *const u32, axes_len: usize, name: *const u8, name_len: usize, id: Uuid,
+    ) -> Answer;
+    pub fn raspteal_store_found(
+        index: *const u8, index_len: usize, text: *const u8, text_len: usize, id: Uuid,
+    ) -> Look;
+    pub fn raspteal_store_get(
+        index: *const u8, index_len: usize, text: *const u8, text_len: usize, id: Uuid, out: *mut u8, out_len: usize,
+    ) -> Written;
+}

@@ -1,0 +1,10 @@
+//! Shared by the programs of the comparison.
+pub mod book;
+pub mod check;
+pub mod compare;
+pub mod doc01;
+pub mod ffi;
+pub mod gen;
+pub mod plain;
+pub mod port;
+pub mod stores;

@@ -1,0 +1,363 @@
+//! The proved library on plain data, through bindings/raspteal.h.
+use crate::ffi;
+use crate::plain::{Map, Refusal, Slots, Tok, Uuid, AXIS};
+
+fn element(e: u16) -> ffi::Element {
+    ffi::Element { is_axis: e >= AXIS, number: e % AXIS }
+}
+
+fn number(e: ffi::Element) -> u16 {
+    e.number + if e.is_axis { AXIS } else { 0 }
+}
+
+fn id(u: Uuid) -> ffi::Uuid {
+    let n = u128::from_be_bytes(u);
+    ffi::Uuid { high: (n >> 64) as u64, low: n as u64 }
+}
+
+fn bytes(u: ffi::Uuid) -> Uuid {
+    (((u.high as u128) << 64) | u.low as u128).to_be_bytes()
+}
+
+/// None: not refused. What a refusal lacks has to be 0.
+fn refused(r: ffi::Refusal) -> Option<Refusal> {
+    assert!((r.has_place || r.place == 0) && (r.has_code || r.code == 0), "{r:?}");
+    assert!(r.number != 0 || !(r.has_place || r.has_code), "{r:?}");
+    (r.number != 0).then_some(Refusal {
+        number: r.number,
+        place: r.has_place.then_some(r.place),
+        code: r.has_code.then_some(r.code),
+    })
+}
+
+fn plain(m: &ffi::Mapping) -> Map {
+    assert!(m.count <= ffi::CODES_MAX);
+    let unused = |e: &ffi::Entry| e.code == 0 && number(e.element) == 0;
+    assert!(m.entries[m.count..].iter().all(unused), "an unused entry is not empty");
+    Map {
+        entries: m.entries[..m.count].iter().map(|e| (e.code, number(e.element))).collect(),
+        name_start: m.name_start,
+        name_len: m.name_len,
+        default: m.is_default,
+        hats: m.hats_mapped,
+    }
+}
+
+/// A refused call has the empty map.
+fn answer(a: &ffi::Answer) -> Result<Map, Refusal> {
+    let map = plain(&a.map);
+    match refused(a.refusal) {
+        None => Ok(map),
+        Some(r) => {
+            assert_eq!(map, Map::default(), "a refusal with a map");
+            Err(r)
+        }
+    }
+}
+
+pub fn valid_up_to(s: &[u8]) -> usize {
+    unsafe { ffi::raspteal_valid_up_to(s.as_ptr(), s.len()) }
+}
+
+pub fn is_utf8(s: &[u8]) -> bool {
+    unsafe { ffi::raspteal_is_utf8(s.as_ptr(), s.len()) }
+}
+
+pub fn parse_uuid(s: &[u8]) -> Option<Uuid> {
+    let r = unsafe { ffi::raspteal_uuid_parse_str(s.as_ptr(), s.len()) };
+    r.valid.then_some(bytes(r.id))
+}
+
+pub fn parse_u16(s: &[u8]) -> Option<u16> {
+    let r = unsafe { ffi::raspteal_parse_u16(s.as_ptr(), s.len()) };
+    r.valid.then_some(r.number)
+}
+
+/// A writer's answer: where it stopped, if the text fitted.
+fn written(w: ffi::Written) -> Option<usize> {
+    assert!(w.fits || w.next == 0);
+    w.fits.then_some(w.next)
+}
+
+pub fn write_uuid(u: Uuid, out: &mut [u8], at: usize) -> Option<usize> {
+    written(unsafe { ffi::raspteal_uuid_write_simple(id(u), out.as_mut_ptr(), out.len(), at) })
+}
+
+pub fn write_index(n: usize, out: &mut [u8], at: usize) -> Option<usize> {
+    let w = written(unsafe { ffi::raspteal_write_index(out.as_mut_ptr(), out.len(), at, n) });
+    assert!(w.map_or(true, |end| end - at == unsafe { ffi::raspteal_index_len(n) }));
+    w
+}
+
+pub fn write_bytes(v: &[u8], out: &mut [u8], at: usize) -> Option<usize> {
+    written(unsafe { ffi::raspteal_write_bytes(out.as_mut_ptr(), out.len(), at, v.as_ptr(), v.len()) })
+}
+
+pub fn find_byte(s: &[u8], b: u8) -> usize {
+    unsafe { ffi::raspteal_find_byte(s.as_ptr(), s.len(), b) }
+}
+
+pub fn same_bytes(a: &[u8], b: &[u8]) -> bool {
+    unsafe { ffi::raspteal_same_bytes(a.as_ptr(), a.len(), b.as_ptr(), b.len()) }
+}
+
+/// The answers of the element calls for the button and the axis of that number.
+pub type ElementCalls = (Option<u32>, bool, bool, bool, Option<u16>, bool, bool);
+
+pub fn element_calls(n: u16) -> ElementCalls {
+    unsafe {
+        let nec = ffi::raspteal_button_to_nec(n);
+        let second = ffi::raspteal_axis_second_axis(n);
+        (
+            nec.found.then_some(nec.code),
+            ffi::raspteal_button_is_stick(n),
+            ffi::raspteal_button_is_dpad(n),
+            ffi::raspteal_axis_is_stick(n),
+            second.found.then_some(second.number),
+            ffi::raspteal_element_is_button(ffi::Element { is_axis: false, number: n }),
+            ffi::raspteal_element_is_button(ffi::Element { is_axis: true, number: n }),
+        )
+    }
+}
+
+pub fn same_element(a: u16, b: u16) -> bool {
+    unsafe { ffi::raspteal_element_eq(element(a), element(b)) }
+}
+
+pub fn find_element(key: &[u8]) -> Option<u16> {
+    let m = unsafe { ffi::raspteal_find_element(key.as_ptr(), key.len()) };
+    m.found.then_some(number(m.element))
+}
+
+pub fn ident(e: u16) -> Vec<u8> {
+    let i = unsafe { ffi::raspteal_ident_of(element(e)) };
+    i.name[..i.len].to_vec()
+}
+
+fn token(t: &ffi::Token) -> Tok {
+    let p = t.pair;
+    let to = number(p.to);
+    match t.kind {
+        0 => Tok::End,
+        1 => Tok::Refused(refused(t.refusal).expect("a refusal without a number")),
+        2 => Tok::Uuid(bytes(t.id)),
+        3 => Tok::Platform { start: t.start, len: t.len },
+        4 => Tok::Name { start: t.start, len: t.len },
+        5 => Tok::Axis { from: p.from, to, input: p.input, output: p.output, inverted: p.inverted },
+        6 | 7 if p.input != 2 || p.inverted => panic!("a button or hat with an input range: {p:?}"),
+        6 => Tok::Button { from: p.from, to, output: p.output },
+        7 => Tok::Hat { hat: p.from, direction: p.direction, to, output: p.output },
+        k => panic!("a token of kind {k}"),
+    }
+}
+
+/// A walker over a line: position and state between the calls.
+pub struct Walker<'a> {
+    line: &'a [u8],
+    pos: usize,
+    state: u8,
+}
+
+impl<'a> Walker<'a> {
+    pub fn new(line: &'a [u8]) -> Self {
+        Walker { line, pos: 0, state: unsafe { ffi::raspteal_parser_start(line.as_ptr(), line.len()) } }
+    }
+    pub fn at(line: &'a [u8], pos: usize, state: u8) -> Self {
+        Walker { line, pos, state }
+    }
+    pub fn next_token(&mut self) -> Tok {
+        let s = unsafe { ffi::raspteal_parser_step(self.line.as_ptr(), self.line.len(), self.pos, self.state) };
+        self.pos = s.pos;
+        self.state = s.state;
+        token(&s.token)
+    }
+    pub fn place(&self) -> (usize, u8) {
+        (self.pos, self.state)
+    }
+}
+
+/// A reading's answer as the library gave it, so that `map` and `map_rev` can be asked.
+pub struct Reading(ffi::Answer);
+
+impl Reading {
+    pub fn of(line: &[u8], buttons: &[u32], axes: &[u32]) -> Self {
+        Reading(unsafe {
+            ffi::raspteal_parse_sdl_mapping(
+                line.as_ptr(), line.len(), buttons.as_ptr(), buttons.len(), axes.as_ptr(), axes.len(),
+            )
+        })
+    }
+    pub fn answer(&self) -> Result<Map, Refusal> {
+        answer(&self.0)
+    }
+    pub fn map(&self, code: u32) -> Option<u16> {
+        let m = unsafe { ffi::raspteal_mapping_map(self.0.map, code) };
+        m.found.then_some(number(m.element))
+    }
+    pub fn map_rev(&self, e: u16) -> Option<u32> {
+        let c = unsafe { ffi::raspteal_mapping_map_rev(self.0.map, element(e)) };
+        c.found.then_some(c.code)
+    }
+}
+
+/// A map of any content: entries unsorted or twice, a count over 256.
+pub struct AnyMap(ffi::Mapping);
+
+impl AnyMap {
+    pub fn new(count: usize, entries: &[(u32, u16)]) -> Self {
+        let mut m = unsafe { ffi::raspteal_mapping_new() };
+        m.count = count;
+        for (slot, (code, e)) in m.entries.iter_mut().zip(entries) {
+            *slot = ffi::Entry { code: *code, element: element(*e) };
+        }
+        AnyMap(m)
+    }
+    pub fn map(&self, code: u32) -> Option<u16> {
+        let m = unsafe { ffi::raspteal_mapping_map(self.0, code) };
+        m.found.then_some(number(m.element))
+    }
+    pub fn map_rev(&self, e: u16) -> Option<u32> {
+        let c = unsafe { ffi::raspteal_mapping_map_rev(self.0, element(e)) };
+        c.found.then_some(c.code)
+    }
+    pub fn put(&mut self, code: u32, e: u16) -> Option<Refusal> {
+        let a = unsafe { ffi::raspteal_mapping_put(self.0, ffi::Entry { code, element: element(e) }) };
+        self.0 = a.map;
+        refused(a.refusal)
+    }
+    pub fn entries(&self) -> Vec<(u32, u16)> {
+        plain(&self.0).entries
+    }
+}
+
+/// Slots: they go in and come back by value.
+#[derive(Clone, Copy)]
+pub struct Data(ffi::MappingData);
+
+fn code(c: ffi::Code) -> Option<u32> {
+    c.found.then_some(c.code)
+}
+
+impl Data {
+    pub fn new() -> Self {
+        Data(unsafe { ffi::raspteal_data_new() })
+    }
+    pub fn of(slots: &Slots) -> Self {
+        let mut d = Data::new();
+        for (e, c) in slots {
+            d.insert(*e, *c);
+        }
+        d
+    }
+    pub fn get(&self, e: u16) -> Option<u32> {
+        code(unsafe {
+            if e >= AXIS { ffi::raspteal_data_axis(self.0, e - AXIS) } else { ffi::raspteal_data_button(self.0, e) }
+        })
+    }
+    fn take(&mut self, c: ffi::Changed) -> Option<u32> {
+        self.0 = c.slots;
+        code(c.former)
+    }
+    pub fn insert(&mut self, e: u16, c: u32) -> Option<u32> {
+        let changed = unsafe {
+            if e >= AXIS {
+                ffi::raspteal_data_insert_axis(self.0, c, e - AXIS)
+            } else {
+                ffi::raspteal_data_insert_btn(self.0, c, e)
+            }
+        };
+        self.take(changed)
+    }
+    pub fn remove(&mut self, e: u16) -> Option<u32> {
+        let changed = unsafe {
+            if e >= AXIS {
+                ffi::raspteal_data_remove_axis(self.0, e - AXIS)
+            } else {
+                ffi::raspteal_data_remove_button(self.0, e)
+            }
+        };
+        self.take(changed)
+    }
+    /// Build: the map and the line's length; the line stands at the output's start.
+    pub fn build(
+        &self, buttons: &[u32], axes: &[u32], name: &[u8], uuid: Uuid, out: &mut [u8],
+    ) -> Result<(Map, usize), Refusal> {
+        let b = unsafe {
+            ffi::raspteal_from_data(
+                self.0, buttons.as_ptr(), buttons.len(), axes.as_ptr(), axes.len(), name.as_ptr(), name.len(),
+                id(uuid), out.as_mut_ptr(), out.len(),
+            )
+        };
+        let a = answer(&ffi::Answer { refusal: b.refusal, map: b.map });
+        assert!(a.is_ok() || b.len == 0, "a refused build with a length");
+        a.map(|m| (m, b.len))
+    }
+}
+
+pub fn default(buttons: &[u32], axes: &[u32]) -> Result<Map, Refusal> {
+    answer(&unsafe { ffi::raspteal_default(buttons.as_ptr(), buttons.len(), axes.as_ptr(), axes.len()) })
+}
+
+/// A store: the two lent buffers.
+#[derive(Clone)]
+pub struct Store {
+    pub index: Vec<u8>,
+    pub text: Vec<u8>,
+}
+
+impl Store {
+    pub fn fresh(index: usize, text: usize) -> Self {
+        Store { index: vec![0; index], text: vec![0; text] }
+    }
+    pub fn clear(&mut self) -> Option<Refusal> {
+        refused(unsafe {
+            ffi::raspteal_store_clear(self.index.as_mut_ptr(), self.index.len(), self.text.as_mut_ptr(), self.text.len())
+        })
+    }
+    /// A refusal, if any, and the lines walked.
+    pub fn insert(&mut self, lines: &[u8]) -> (Option<Refusal>, usize) {
+        let r = unsafe {
+            ffi::raspteal_store_insert(
+                self.index.as_mut_ptr(), self.index.len(), self.text.as_mut_ptr(), self.text.len(), lines.as_ptr(),
+                lines.len(),
+            )
+        };
+        (refused(r.refusal), r.count)
+    }
+    pub fn save(
+        &mut self, data: &Data, buttons: &[u32], axes: &[u32], name: &[u8], uuid: Uuid,
+    ) -> Result<Map, Refusal> {
+        answer(&unsafe {
+            ffi::raspteal_store_save(
+                self.index.as_mut_ptr(), self.index.len(), self.text.as_mut_ptr(), self.text.len(), data.0,
+                buttons.as_ptr(), buttons.len(), axes.as_ptr(), axes.len(), name.as_ptr(), name.len(), id(uuid),
+            )
+        })
+    }
+    /// The line under a UUID, by both calls.
+    pub fn look_up(&self, uuid: Uuid) -> Result<Option<Vec<u8>>, Refusal> {
+        let (i, t) = (&self.index, &self.text);
+        let mut out = [0xee; 4100];
+        let (look, line) = unsafe {
+            (
+                ffi::raspteal_store_found(i.as_ptr(), i.len(), t.as_ptr(), t.len(), id(uuid)),
+                ffi::raspteal_store_get(
+                    i.as_ptr(), i.len(), t.as_ptr(), t.len(), id(uuid), out.as_mut_ptr(), out.len(),
+                ),
+            )
+        };
+        let len = written(line).expect("a line over 4100 bytes");
+        assert!(out[len..].iter().all(|b| *b == 0xee), "bytes after the line changed");
+        match (refused(look.refusal), look.found) {
+            (Some(r), _) => {
+                assert!(!look.found && len == 0);
+                Err(r)
+            }
+            (None, true) => Ok(Some(out[..len].to_vec())),
+            (None, false) => {
+                assert_eq!(len, 0);
+                Ok(None)
+            }
+        }
+    }
+}
