@@ -11,6 +11,8 @@ pub mod ViewLaws
 pub mod CountLaws
 pub mod FieldLaws
 pub mod WalkLaws
+pub mod SliceLaws
+pub mod ParserLaws
 pub mod ReadingLaws
 pub mod RefusalLaws
 -- what a built line reads as

@@ -8,6 +8,7 @@ pub mod Fields
 pub mod Values
 pub mod Pairs
 pub mod Walker
+pub mod Parser
 pub mod Puts
 pub mod Reading
 pub mod Refusals

@@ -1,9 +1,11 @@
 // The walker over one mapping line: a step from a position and a state to a token or a refusal, the next position and
 // the next state.
+mod advance;
 mod pair;
 mod value;
 
 use crate::ev::AxisOrBtn;
+use crate::parser::advance::moved_to;
 use crate::parser::pair::read_pair;
 use text::bytes::find_byte;
 use text::bytes::same_bytes;
@@ -17,6 +19,7 @@ ghost use lib.ListN.{length};
 ghost use Rattle.line.specs.Walker.{guidOf, uuidStep, fieldStep, startOf, stepOf};
 ghost use Rattle.line.specs.Walker as specs;
 ghost use Rattle.line.specs.Pairs.{refuse};
+ghost use Rattle.line.specs.Parser.{parserOf, stepFrom, moved};
 
 pub enum State {
     Uuid,
@@ -97,6 +100,61 @@ pub struct Stepped {
     pub answer: Answer,
     pub pos: usize,
     pub state: State,
+}
+
+// Where a step leads.
+pub struct Moved {
+    pub pos: usize,
+    pub state: State,
+}
+
+// The walker: the line, a position and a state.
+pub struct Parser<'a> {
+    pub data: &'a [u8],
+    pub pos: usize,
+    pub state: State,
+}
+
+impl<'a> Parser<'a> {
+    pub fn new(mapping: &'a [u8]) -> Parser<'a>
+        ensures { λ r. ⌜ r ≡ parserOf (mapping .entry) ⌝ }
+    {
+        let state = start_state(mapping);
+        Parser {
+            data: mapping,
+            pos: 0,
+            state,
+        }
+    }
+
+    // One step: where it leads is stored before its answer is made, so that the answer is the result at once.
+    pub fn next_token(&mut self) -> Answer
+        ensures { λ r. ⌜ (r ≡ stepFrom (now (self .entry)) .answer) × (now (self .exit) ≡ moved (now (self .entry))) ⌝ }
+    {
+        let data = self.data;
+        let pos = self.pos;
+        let state = self.state;
+        let to = moved_to(data, pos, state);
+        self.pos = to.pos;
+        self.state = to.state;
+        answer_at(data, pos, state)
+    }
+}
+
+// The first answer of a walker that is made over a line.
+pub fn first_token(line: &[u8]) -> Answer
+    ensures { λ r. ⌜ r ≡ stepFrom (parserOf (line .entry)) .answer ⌝ }
+{
+    let mut p = Parser::new(line);
+    p.next_token()
+}
+
+// What a step answers.
+fn answer_at(line: &[u8], pos: usize, state: State) -> Answer
+    ensures { λ r. ⌜ r ≡ stepOf (now (line .entry)) pos state .answer ⌝ }
+{
+    let next = step(line, pos, state);
+    next.answer
 }
 
 // The state of a walker that is made over a line.
