@@ -87,12 +87,12 @@ impl Tally {
         }
         s.differences += 1;
         if s.differences <= SHOWN {
-            println!("DIFFERENCE in {} at {}", GROUPS[g as usize].0, input());
+            println!("DIFFERENCE in {} at {}", GROUPS[g as usize].0, cut(input()));
             match rust {
-                Some(r) => println!("  the Rust     {r:x?}"),
+                Some(r) => println!("  the Rust     {}", cut(format!("{r:x?}"))),
                 None => println!("  the Rust     no answer, or outside its domain"),
             }
-            println!("  document 01  {doc:x?}\n  here         {port:x?}");
+            println!("  document 01  {}\n  here         {}", cut(format!("{doc:x?}")), cut(format!("{port:x?}")));
         }
     }
 
@@ -135,6 +135,14 @@ impl Tally {
             let seen: Vec<String> = seen.map(|(k, n)| format!("{k}: {n}")).collect();
             println!("{name:<9} {:>10} {:>10} {:>6}  {}", s.cases, s.rust, s.differences, seen.join(", "));
         }
+    }
+}
+
+/// A report's text, of which the first 2000 characters are enough.
+fn cut(s: String) -> String {
+    match s.char_indices().nth(2000) {
+        Some((i, _)) => format!("{}.. ({} bytes)", &s[..i], s.len()),
+        None => s,
     }
 }
 

@@ -292,6 +292,11 @@ impl AllSlots {
         t.case(Group::Slots, 0, rust.as_ref(), &doc, &self.here.remove(e), &|| format!("remove {e}"));
     }
 
+    /// Whether a slot is filled that makes the Rust's build panic.
+    pub fn dpad(&self) -> bool {
+        self.doc.iter().any(|s| s.0 >= AXIS + 7)
+    }
+
     /// Every slot, read.
     pub fn read(&self, t: &mut Tally) {
         for e in (0..22).chain(AXIS..AXIS + 11) {
@@ -309,8 +314,7 @@ pub fn build(t: &mut Tally, s: &AllSlots, b: &[u32], a: &[u32], name: &[u8], id:
     };
     let mut doc = doc01::build(&s.doc, b, a, name, id);
     // slot 7 or 8 makes the Rust panic: there it is not asked
-    let dpad = s.doc.iter().any(|x| x.0 >= AXIS + 7);
-    let domain = !dpad && (number(&doc) == 0 || (13..=15).contains(&number(&doc)));
+    let domain = !s.dpad() && (number(&doc) == 0 || (13..=15).contains(&number(&doc)));
     let mut rust = None;
     if let (true, Ok(name)) = (domain, std::str::from_utf8(name)) {
         match self::rust(|| oracle::build(&s.rust, b, a, name, id)) {

@@ -1,8 +1,8 @@
 //! Histories of a store: each call's answer, both buffers after it, and the look-ups.
-use crate::book::{unsaved, Book, BUFFER_MAX};
+use crate::book::{Book, BUFFER_MAX};
 use crate::check::{shown, Group, Tally};
 use crate::compare::{number, rust, AllSlots};
-use crate::plain::{refusal, Refusal, Uuid};
+use crate::plain::{placed, refusal, Map, Refusal, Uuid};
 use crate::port;
 
 /// The three sides of one store. gilrs's database goes along while no call was refused that it would have taken.
@@ -75,27 +75,35 @@ impl Sides {
     pub fn save(&mut self, t: &mut Tally, s: &AllSlots, b: &[u32], a: &[u32], name: &[u8], id: Uuid) {
         self.history +=
             &format!("; save {:x?}, buttons {b:x?}, axes {a:x?}, name {}, uuid {id:02x?}", s.doc, shown(name));
-        let sized = self.sized();
-        let doc = match self.book.save(&s.doc, b, a, name, id) {
-            Ok(_) | Err(Refusal { number: 21, .. }) if !sized => Err(refusal(19)),
-            r => r,
+        // an over-long buffer is 19, after build's checks and 22: nothing is filed
+        let doc = if self.sized() {
+            self.book.save(&s.doc, b, a, name, id)
+        } else {
+            Book::new(usize::MAX, usize::MAX).save(&s.doc, b, a, name, id).and(Err(refusal(19)))
         };
-        if doc.is_ok() {
-            if let (Some(db), Ok(name)) = (&mut self.db, std::str::from_utf8(name)) {
-                let line = rust(|| {
-                    let line = oracle::build(&s.rust, b, a, name, id).unwrap().1;
-                    db.insert(&line);
-                });
-                if line.is_none() {
-                    t.panic(&|| self.history.clone());
-                }
-            }
-        }
-        debug_assert!(doc.is_err() || !unsaved(name));
+        let rust = self.built(t, s, b, a, name, id, &doc);
         self.ids.push(id);
         let here = self.store.save(&s.here, b, a, name, id);
-        t.case(Group::Save, number(&doc), None, &doc, &here, &|| self.input());
+        t.case(Group::Save, number(&doc), rust.as_ref(), &doc, &here, &|| self.input());
         self.buffers(t);
+    }
+
+    /// What the Rust answers to a save, on its domain: its build, whose line its database then takes.
+    fn built(
+        &mut self, t: &mut Tally, s: &AllSlots, b: &[u32], a: &[u32], name: &[u8], id: Uuid, doc: &Result<Map, Refusal>,
+    ) -> Option<Result<Map, Refusal>> {
+        let name = std::str::from_utf8(name).ok()?;
+        if s.dpad() || !(doc.is_ok() || (13..=15).contains(&number(doc))) {
+            return None;
+        }
+        let Some(built) = rust(|| oracle::build(&s.rust, b, a, name, id)) else {
+            t.panic(&|| self.history.clone());
+            return None;
+        };
+        if let (Ok((_, line)), Some(db)) = (&built, &mut self.db) {
+            db.insert(line);
+        }
+        Some(built.map(|(m, line)| placed(m, line.as_bytes())).map_err(Refusal::from))
     }
 
     /// Each UUID that was named, and one that was not.
@@ -135,8 +143,7 @@ impl Sides {
         let here = self.store.insert(lines);
         t.case(Group::Insert, 19, None, &(Some(refusal(19)), 0), &here, &input);
         // save makes build's checks and 22 first
-        let mut open = Book::new(1 << 20, 1 << 20);
-        let doc = open.save(&s.doc, &[1, 2], &[3], b"T", [7; 16]).and(Err(refusal(19)));
+        let doc = Book::new(usize::MAX, usize::MAX).save(&s.doc, &[1, 2], &[3], b"T", [7; 16]).and(Err(refusal(19)));
         let here = self.store.save(&s.here, &[1, 2], &[3], b"T", [7; 16]);
         t.case(Group::Save, number(&doc), None, &doc, &here, &input);
         let same = before.index == self.store.index && before.text == self.store.text;

@@ -24,7 +24,6 @@ missing-requires c κs = c .filled-axes .ensures .most
 enum-known-code : tie.Need-enum-known-code
 enum-known-code c = search needs
 
--- /tmp/wk/map-repo/target/rlib/line.rlib/interface/lang/src/ev.rt:41:26
 enum-told : tie.Need-enum-told
 enum-told c = search needs
 
