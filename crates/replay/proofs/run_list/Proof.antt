@@ -1,3 +1,5 @@
+-- Each turn passes a line, so the place rises; the buffers keep their lengths.
+-- Assumes nothing.
 use lib.ListN.{length}
 use mathlib.Core.Path.{_≡_, refl}
 use Prim.Native.Nat.{_-_}
@@ -5,11 +7,6 @@ use native.Mathlib.Omega.{arith}
 use borrow.Author.Needs.{needs}
 use Rattle.replay.proofs.run_list.Statement.{statement}
 use Rattle.replay.proofs.run_list.Tie as tie
-use Rattle.replay.proofs.run_list.Reads as reads
-use Rattle.replay.proofs.run_list.Lts as lts
-use Rattle.replay.proofs.fields.after_field.Reads as after-field-reads
-use Rattle.replay.proofs.fields.field_at.Reads as field-at-reads
-use Rattle.replay.proofs.take_line.Reads as take-line-reads
 
 abbrev Inv-loop : tie.InvT-loop
 Inv-loop list index₀ text₀ totals₀ at₀ index text totals at =

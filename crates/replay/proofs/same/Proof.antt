@@ -1,13 +1,11 @@
+-- A part that ends within the text is as long as its end says.
+-- Assumes nothing.
 use lib.Seq.{length-take-le}
 use native.Mathlib.Omega.{arith}
 use mathlib.Core.Path.{sym}
 use borrow.Author.Needs.{needs}
 use Rattle.replay.proofs.same.Statement.{statement}
 use Rattle.replay.proofs.same.Tie as tie
-use Rattle.replay.proofs.same.Reads as reads
-use Rattle.replay.proofs.same.Lts as lts
-use Rattle.replay.proofs.say.Reads as say-reads
-use Rattle.text.proofs.bytes.same_bytes.Reads as same-bytes-reads
 
 returns : tie.Need-returns
 returns c = search needs

@@ -1,10 +1,8 @@
+-- The contracts of the calls give the result.
+-- Assumes nothing.
 use borrow.Author.Needs.{needs}
 use Rattle.exports.proofs.build_calls.flat_built.Statement.{statement}
 use Rattle.exports.proofs.build_calls.flat_built.Tie as tie
-use Rattle.exports.proofs.build_calls.flat_built.Reads as reads
-use Rattle.exports.proofs.build_calls.flat_built.Lts as lts
-use Rattle.exports.proofs.build_calls.flat_mapping_answer.Reads as flat-mapping-answer-reads
-use Rattle.exports.proofs.flat_mapping.flat_mapping.Reads as flat-mapping-reads
 
 flat-mapping-answer-requires : tie.Need-flat-mapping-answer-requires
 flat-mapping-answer-requires c κs = search needs

@@ -1,10 +1,8 @@
+-- Each variant by its own arm.
+-- Assumes nothing.
 use borrow.Author.Needs.{needs}
 use Rattle.exports.proofs.build_calls.flat_mapping_answer.Statement.{statement}
 use Rattle.exports.proofs.build_calls.flat_mapping_answer.Tie as tie
-use Rattle.exports.proofs.build_calls.flat_mapping_answer.Reads as reads
-use Rattle.exports.proofs.build_calls.flat_mapping_answer.Lts as lts
-use Rattle.exports.proofs.build_calls.flat_mapping_error.Reads as flat-mapping-error-reads
-use Rattle.exports.proofs.flat.flat_no_refusal.Reads as flat-no-refusal-reads
 
 enum-told : tie.Need-enum-told
 enum-told c = search needs

@@ -1,10 +1,8 @@
+-- Each variant by its own arm.
+-- Assumes nothing.
 use borrow.Author.Needs.{needs}
 use Rattle.exports.proofs.build_calls.flat_mapping_error.Statement.{statement}
 use Rattle.exports.proofs.build_calls.flat_mapping_error.Tie as tie
-use Rattle.exports.proofs.build_calls.flat_mapping_error.Reads as reads
-use Rattle.exports.proofs.build_calls.flat_mapping_error.Lts as lts
-use Rattle.exports.proofs.flat.flat_refusal.Reads as flat-refusal-reads
-use Rattle.exports.proofs.flat.flat_refusal_at.Reads as flat-refusal-at-reads
 
 enum-known-e : tie.Need-enum-known-e
 enum-known-e c = search needs

@@ -1,11 +1,8 @@
+-- The contract of the call, and that of the layout, give the result.
+-- Assumes nothing.
 use borrow.Author.Needs.{needs}
 use Rattle.exports.proofs.build_calls.raspteal_default.Statement.{statement}
 use Rattle.exports.proofs.build_calls.raspteal_default.Tie as tie
-use Rattle.exports.proofs.build_calls.raspteal_default.Reads as reads
-use Rattle.exports.proofs.build_calls.raspteal_default.Lts as lts
-use Rattle.exports.proofs.build_calls.flat_mapping_answer.Reads as flat-mapping-answer-reads
-use Rattle.exports.proofs.flat_mapping.flat_mapping.Reads as flat-mapping-reads
-use Rattle.map.proofs.default.default.Reads as default-reads
 
 default-requires : tie.Need-default-requires
 default-requires c κs = search needs

@@ -1,12 +1,8 @@
+-- The contract of the call, and that of the layout, give the result.
+-- Assumes nothing.
 use borrow.Author.Needs.{needs}
 use Rattle.exports.proofs.build_calls.raspteal_from_data.Statement.{statement}
 use Rattle.exports.proofs.build_calls.raspteal_from_data.Tie as tie
-use Rattle.exports.proofs.build_calls.raspteal_from_data.Reads as reads
-use Rattle.exports.proofs.build_calls.raspteal_from_data.Lts as lts
-use Rattle.exports.proofs.build_calls.flat_built.Reads as flat-built-reads
-use Rattle.exports.proofs.flat.uuid_of.Reads as uuid-of-reads
-use Rattle.exports.proofs.flat_data.data_of.Reads as data-of-reads
-use Rattle.map.proofs.from_data.from_data.Reads as from-data-reads
 
 data-of-requires : tie.Need-data-of-requires
 data-of-requires c κs = search needs

@@ -1,10 +1,8 @@
+-- The contracts of the calls give the result.
+-- Assumes nothing.
 use borrow.Author.Needs.{needs}
 use Rattle.exports.proofs.data_calls.flat_changed.Statement.{statement}
 use Rattle.exports.proofs.data_calls.flat_changed.Tie as tie
-use Rattle.exports.proofs.data_calls.flat_changed.Reads as reads
-use Rattle.exports.proofs.data_calls.flat_changed.Lts as lts
-use Rattle.exports.proofs.data_calls.flat_slot_code.Reads as flat-slot-code-reads
-use Rattle.exports.proofs.flat_data.flat_data.Reads as flat-data-reads
 
 flat-slot-code-requires : tie.Need-flat-slot-code-requires
 flat-slot-code-requires c κs = search needs

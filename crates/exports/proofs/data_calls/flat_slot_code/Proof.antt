@@ -1,8 +1,8 @@
+-- Each variant by its own arm.
+-- Assumes nothing.
 use borrow.Author.Needs.{needs}
 use Rattle.exports.proofs.data_calls.flat_slot_code.Statement.{statement}
 use Rattle.exports.proofs.data_calls.flat_slot_code.Tie as tie
-use Rattle.exports.proofs.data_calls.flat_slot_code.Reads as reads
-use Rattle.exports.proofs.data_calls.flat_slot_code.Lts as lts
 
 enum-known-c : tie.Need-enum-known-c
 enum-known-c c = search needs

@@ -1,11 +1,8 @@
+-- The contract of the call, and that of the layout, give the result.
+-- Assumes nothing.
 use borrow.Author.Needs.{needs}
 use Rattle.exports.proofs.data_calls.raspteal_data_axis.Statement.{statement}
 use Rattle.exports.proofs.data_calls.raspteal_data_axis.Tie as tie
-use Rattle.exports.proofs.data_calls.raspteal_data_axis.Reads as reads
-use Rattle.exports.proofs.data_calls.raspteal_data_axis.Lts as lts
-use Rattle.exports.proofs.data_calls.flat_slot_code.Reads as flat-slot-code-reads
-use Rattle.exports.proofs.flat_data.data_of.Reads as data-of-reads
-use Rattle.map.proofs.mapping_data.MappingData.axis.Reads as axis-reads
 
 data-of-requires : tie.Need-data-of-requires
 data-of-requires c κs = search needs

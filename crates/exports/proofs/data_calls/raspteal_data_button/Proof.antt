@@ -1,11 +1,8 @@
+-- The contract of the call, and that of the layout, give the result.
+-- Assumes nothing.
 use borrow.Author.Needs.{needs}
 use Rattle.exports.proofs.data_calls.raspteal_data_button.Statement.{statement}
 use Rattle.exports.proofs.data_calls.raspteal_data_button.Tie as tie
-use Rattle.exports.proofs.data_calls.raspteal_data_button.Reads as reads
-use Rattle.exports.proofs.data_calls.raspteal_data_button.Lts as lts
-use Rattle.exports.proofs.data_calls.flat_slot_code.Reads as flat-slot-code-reads
-use Rattle.exports.proofs.flat_data.data_of.Reads as data-of-reads
-use Rattle.map.proofs.mapping_data.MappingData.button.Reads as button-reads
 
 data-of-requires : tie.Need-data-of-requires
 data-of-requires c κs = search needs

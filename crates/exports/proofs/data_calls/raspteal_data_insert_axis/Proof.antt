@@ -1,11 +1,8 @@
+-- The contract of the call, and that of the layout, give the result.
+-- Assumes nothing.
 use borrow.Author.Needs.{needs}
 use Rattle.exports.proofs.data_calls.raspteal_data_insert_axis.Statement.{statement}
 use Rattle.exports.proofs.data_calls.raspteal_data_insert_axis.Tie as tie
-use Rattle.exports.proofs.data_calls.raspteal_data_insert_axis.Reads as reads
-use Rattle.exports.proofs.data_calls.raspteal_data_insert_axis.Lts as lts
-use Rattle.exports.proofs.data_calls.flat_changed.Reads as flat-changed-reads
-use Rattle.exports.proofs.flat_data.data_of.Reads as data-of-reads
-use Rattle.map.proofs.mapping_data.MappingData.insert_axis.Reads as insert-axis-reads
 
 data-of-requires : tie.Need-data-of-requires
 data-of-requires c κs = search needs

@@ -1,10 +1,8 @@
+-- The contract of the call, and that of the layout, give the result.
+-- Assumes nothing.
 use borrow.Author.Needs.{needs}
 use Rattle.exports.proofs.data_calls.raspteal_data_new.Statement.{statement}
 use Rattle.exports.proofs.data_calls.raspteal_data_new.Tie as tie
-use Rattle.exports.proofs.data_calls.raspteal_data_new.Reads as reads
-use Rattle.exports.proofs.data_calls.raspteal_data_new.Lts as lts
-use Rattle.exports.proofs.flat_data.flat_data.Reads as flat-data-reads
-use Rattle.map.proofs.mapping_data.MappingData.new.Reads as new-reads
 
 new-requires : tie.Need-new-requires
 new-requires c κs = search needs

@@ -1,7 +1,7 @@
+-- By the tests, in order.
+-- Assumes nothing.
 use Rattle.exports.proofs.flat.element_of.Statement.{statement}
 use Rattle.exports.proofs.flat.element_of.Tie as tie
-use Rattle.exports.proofs.flat.element_of.Reads as reads
-use Rattle.exports.proofs.flat.element_of.Lts as lts
 
 returns : tie.Need-returns
 returns c = simp (c .if1 .taken)

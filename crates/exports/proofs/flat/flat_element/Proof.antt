@@ -1,8 +1,8 @@
+-- Each variant by its own arm.
+-- Assumes nothing.
 use borrow.Author.Needs.{needs}
 use Rattle.exports.proofs.flat.flat_element.Statement.{statement}
 use Rattle.exports.proofs.flat.flat_element.Tie as tie
-use Rattle.exports.proofs.flat.flat_element.Reads as reads
-use Rattle.exports.proofs.flat.flat_element.Lts as lts
 
 enum-known-e : tie.Need-enum-known-e
 enum-known-e c = search needs

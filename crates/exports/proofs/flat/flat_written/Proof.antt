@@ -1,8 +1,8 @@
+-- Each variant by its own arm.
+-- Assumes nothing.
 use borrow.Author.Needs.{needs}
 use Rattle.exports.proofs.flat.flat_written.Statement.{statement}
 use Rattle.exports.proofs.flat.flat_written.Tie as tie
-use Rattle.exports.proofs.flat.flat_written.Reads as reads
-use Rattle.exports.proofs.flat.flat_written.Lts as lts
 
 enum-known-w : tie.Need-enum-known-w
 enum-known-w c = search needs

@@ -1,3 +1,5 @@
+-- The slots before the place are laid out, the others are as they were.
+-- Assumes nothing.
 use Prim.Native.Nat.{_≤_, _-_}
 use mathlib.Core.Path.{_≡_, refl, _∙_}
 use mathlib.Core.List.{_++_, map}
@@ -9,9 +11,6 @@ use Rattle.exports.specs.FlatSlots.{slotIn}
 use Rattle.exports.proofs.FlatLaws.{flatEmpty, laid-more, laid-all}
 use Rattle.exports.proofs.flat_data.axes_of.Statement.{statement}
 use Rattle.exports.proofs.flat_data.axes_of.Tie as tie
-use Rattle.exports.proofs.flat_data.axes_of.Reads as reads
-use Rattle.exports.proofs.flat_data.axes_of.Lts as lts
-use Rattle.exports.proofs.flat_data.slot_of.Reads as slot-of-reads
 
 abbrev Inv-loop : tie.InvT-loop
 Inv-loop slots out₀ i₀ out i = (i ≤ 9) × (out ≡ map slotIn (take i slots) ++ drop i out₀)

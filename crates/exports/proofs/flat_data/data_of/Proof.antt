@@ -1,11 +1,9 @@
+-- The contracts of the calls give the result.
+-- Assumes nothing.
 use Rattle.exports.specs.FlatSlots.{dataIn}
 use borrow.Author.Needs.{needs}
 use Rattle.exports.proofs.flat_data.data_of.Statement.{statement}
 use Rattle.exports.proofs.flat_data.data_of.Tie as tie
-use Rattle.exports.proofs.flat_data.data_of.Reads as reads
-use Rattle.exports.proofs.flat_data.data_of.Lts as lts
-use Rattle.exports.proofs.flat_data.axes_of.Reads as axes-of-reads
-use Rattle.exports.proofs.flat_data.buttons_of.Reads as buttons-of-reads
 
 buttons-of-requires : tie.Need-buttons-of-requires
 buttons-of-requires c κs = search needs

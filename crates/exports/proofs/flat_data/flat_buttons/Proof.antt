@@ -1,3 +1,5 @@
+-- The slots before the place are laid out, the others are as they were.
+-- Assumes nothing.
 use Prim.Native.Nat.{_≤_, _-_}
 use mathlib.Core.Path.{_≡_, refl, _∙_}
 use mathlib.Core.List.{_++_, map}
@@ -9,9 +11,6 @@ use Rattle.exports.specs.FlatSlots.{flatSlot}
 use Rattle.exports.proofs.FlatLaws.{flatEmpty, laid-more, laid-all}
 use Rattle.exports.proofs.flat_data.flat_buttons.Statement.{statement}
 use Rattle.exports.proofs.flat_data.flat_buttons.Tie as tie
-use Rattle.exports.proofs.flat_data.flat_buttons.Reads as reads
-use Rattle.exports.proofs.flat_data.flat_buttons.Lts as lts
-use Rattle.exports.proofs.flat_data.flat_slot.Reads as flat-slot-reads
 
 abbrev Inv-loop : tie.InvT-loop
 Inv-loop slots out₀ i₀ out i = (i ≤ 20) × (out ≡ map flatSlot (take i slots) ++ drop i out₀)

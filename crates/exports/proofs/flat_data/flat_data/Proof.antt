@@ -1,11 +1,9 @@
+-- The contracts of the calls give the result.
+-- Assumes nothing.
 use Rattle.exports.specs.FlatSlots.{flatData}
 use borrow.Author.Needs.{needs}
 use Rattle.exports.proofs.flat_data.flat_data.Statement.{statement}
 use Rattle.exports.proofs.flat_data.flat_data.Tie as tie
-use Rattle.exports.proofs.flat_data.flat_data.Reads as reads
-use Rattle.exports.proofs.flat_data.flat_data.Lts as lts
-use Rattle.exports.proofs.flat_data.flat_axes.Reads as flat-axes-reads
-use Rattle.exports.proofs.flat_data.flat_buttons.Reads as flat-buttons-reads
 
 flat-buttons-requires : tie.Need-flat-buttons-requires
 flat-buttons-requires c κs = search needs

@@ -1,5 +1,6 @@
+-- The entries before the place are read, the others are as they were.
+-- Assumes nothing.
 use Rattle.line.specs.Maps.{unusedEntry}
-use Rattle.line.proofs.MapLaws.{past}
 use Rattle.exports.proofs.FlatLaws.{flatUnused, laid-more, laid-all}
 use Rattle.exports.specs.FlatMaps.{entryIn}
 use lib.ListN.{length, take, drop, replicate, length-replicate}
@@ -10,9 +11,6 @@ use native.Mathlib.Omega.{arith}
 use borrow.Author.Needs.{needs}
 use Rattle.exports.proofs.flat_mapping.entries_of.Statement.{statement}
 use Rattle.exports.proofs.flat_mapping.entries_of.Tie as tie
-use Rattle.exports.proofs.flat_mapping.entries_of.Reads as reads
-use Rattle.exports.proofs.flat_mapping.entries_of.Lts as lts
-use Rattle.exports.proofs.flat_mapping.entry_of.Reads as entry-of-reads
 
 abbrev Inv-loop : tie.InvT-loop
 Inv-loop entries out₀ i₀ out i = (i ≤ 256) × (out ≡ map entryIn (take i entries) ++ drop i out₀)

@@ -1,9 +1,8 @@
+-- The contracts of the calls give the result.
+-- Assumes nothing.
 use borrow.Author.Needs.{needs}
 use Rattle.exports.proofs.flat_mapping.entry_of.Statement.{statement}
 use Rattle.exports.proofs.flat_mapping.entry_of.Tie as tie
-use Rattle.exports.proofs.flat_mapping.entry_of.Reads as reads
-use Rattle.exports.proofs.flat_mapping.entry_of.Lts as lts
-use Rattle.exports.proofs.flat.element_of.Reads as element-of-reads
 
 element-of-requires : tie.Need-element-of-requires
 element-of-requires c κs = search needs

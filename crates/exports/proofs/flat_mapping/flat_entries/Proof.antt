@@ -1,4 +1,5 @@
-use Rattle.line.specs.Maps.{unusedEntry}
+-- The entries before the place are laid out, the others are as they were.
+-- Assumes nothing.
 use Rattle.line.proofs.MapLaws.{past}
 use Rattle.exports.proofs.FlatLaws.{flatUnused, laid-more, laid-all}
 use Rattle.exports.specs.FlatMaps.{flatEntry}
@@ -10,9 +11,6 @@ use native.Mathlib.Omega.{arith}
 use borrow.Author.Needs.{needs}
 use Rattle.exports.proofs.flat_mapping.flat_entries.Statement.{statement}
 use Rattle.exports.proofs.flat_mapping.flat_entries.Tie as tie
-use Rattle.exports.proofs.flat_mapping.flat_entries.Reads as reads
-use Rattle.exports.proofs.flat_mapping.flat_entries.Lts as lts
-use Rattle.exports.proofs.flat_mapping.flat_entry.Reads as flat-entry-reads
 
 abbrev Inv-loop : tie.InvT-loop
 Inv-loop entries out₀ i₀ out i = (i ≤ 256) × (out ≡ map flatEntry (take i entries) ++ drop i out₀)

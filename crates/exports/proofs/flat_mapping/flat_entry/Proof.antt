@@ -1,9 +1,8 @@
+-- The contracts of the calls give the result.
+-- Assumes nothing.
 use borrow.Author.Needs.{needs}
 use Rattle.exports.proofs.flat_mapping.flat_entry.Statement.{statement}
 use Rattle.exports.proofs.flat_mapping.flat_entry.Tie as tie
-use Rattle.exports.proofs.flat_mapping.flat_entry.Reads as reads
-use Rattle.exports.proofs.flat_mapping.flat_entry.Lts as lts
-use Rattle.exports.proofs.flat.flat_element.Reads as flat-element-reads
 
 flat-element-requires : tie.Need-flat-element-requires
 flat-element-requires c κs = search needs

@@ -1,10 +1,9 @@
+-- The contracts of the calls give the result.
+-- Assumes nothing.
 use Rattle.exports.specs.FlatMaps.{mappingIn}
 use borrow.Author.Needs.{needs}
 use Rattle.exports.proofs.flat_mapping.mapping_of.Statement.{statement}
 use Rattle.exports.proofs.flat_mapping.mapping_of.Tie as tie
-use Rattle.exports.proofs.flat_mapping.mapping_of.Reads as reads
-use Rattle.exports.proofs.flat_mapping.mapping_of.Lts as lts
-use Rattle.exports.proofs.flat_mapping.entries_of.Reads as entries-of-reads
 
 entries-of-requires : tie.Need-entries-of-requires
 entries-of-requires c κs = search needs

@@ -1,11 +1,8 @@
+-- Each variant by its own arm.
+-- Assumes nothing.
 use borrow.Author.Needs.{needs}
 use Rattle.exports.proofs.flat_token.flat_answer.Statement.{statement}
 use Rattle.exports.proofs.flat_token.flat_answer.Tie as tie
-use Rattle.exports.proofs.flat_token.flat_answer.Reads as reads
-use Rattle.exports.proofs.flat_token.flat_answer.Lts as lts
-use Rattle.exports.proofs.flat_token.bare_token.Reads as bare-token-reads
-use Rattle.exports.proofs.flat_token.flat_error.Reads as flat-error-reads
-use Rattle.exports.proofs.flat_token.flat_token.Reads as flat-token-reads
 
 enum-known-a : tie.Need-enum-known-a
 enum-known-a c = search needs

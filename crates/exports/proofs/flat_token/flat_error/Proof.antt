@@ -1,10 +1,8 @@
+-- The contracts of the calls give the result.
+-- Assumes nothing.
 use borrow.Author.Needs.{needs}
 use Rattle.exports.proofs.flat_token.flat_error.Statement.{statement}
 use Rattle.exports.proofs.flat_token.flat_error.Tie as tie
-use Rattle.exports.proofs.flat_token.flat_error.Reads as reads
-use Rattle.exports.proofs.flat_token.flat_error.Lts as lts
-use Rattle.exports.proofs.flat.flat_refusal_at.Reads as flat-refusal-at-reads
-use Rattle.exports.proofs.flat_token.kind_number.Reads as kind-number-reads
 
 kind-number-requires : tie.Need-kind-number-requires
 kind-number-requires c κs = search needs

@@ -1,10 +1,8 @@
+-- The contracts of the calls give the result.
+-- Assumes nothing.
 use borrow.Author.Needs.{needs}
 use Rattle.exports.proofs.flat_token.flat_pair.Statement.{statement}
 use Rattle.exports.proofs.flat_token.flat_pair.Tie as tie
-use Rattle.exports.proofs.flat_token.flat_pair.Reads as reads
-use Rattle.exports.proofs.flat_token.flat_pair.Lts as lts
-use Rattle.exports.proofs.flat.flat_element.Reads as flat-element-reads
-use Rattle.exports.proofs.flat_token.range_number.Reads as range-number-reads
 
 flat-element-requires : tie.Need-flat-element-requires
 flat-element-requires c κs = search needs

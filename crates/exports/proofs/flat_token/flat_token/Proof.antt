@@ -1,13 +1,8 @@
+-- Each variant by its own arm.
+-- Assumes nothing.
 use borrow.Author.Needs.{needs}
 use Rattle.exports.proofs.flat_token.flat_token.Statement.{statement}
 use Rattle.exports.proofs.flat_token.flat_token.Tie as tie
-use Rattle.exports.proofs.flat_token.flat_token.Reads as reads
-use Rattle.exports.proofs.flat_token.flat_token.Lts as lts
-use Rattle.exports.proofs.flat.flat_uuid.Reads as flat-uuid-reads
-use Rattle.exports.proofs.flat_token.bare_token.Reads as bare-token-reads
-use Rattle.exports.proofs.flat_token.flat_pair.Reads as flat-pair-reads
-use Rattle.exports.proofs.flat_token.pair_token.Reads as pair-token-reads
-use Rattle.exports.proofs.flat_token.text_token.Reads as text-token-reads
 
 enum-known-t : tie.Need-enum-known-t
 enum-known-t c = search needs

@@ -1,9 +1,9 @@
+-- By the tests, in order.
+-- Assumes nothing.
 use Rattle.exports.specs.FlatTokens.{stateIn}
 use borrow.Author.Tests.{eq-eqb, ne-eqb}
 use Rattle.exports.proofs.flat_token.state_of.Statement.{statement}
 use Rattle.exports.proofs.flat_token.state_of.Tie as tie
-use Rattle.exports.proofs.flat_token.state_of.Reads as reads
-use Rattle.exports.proofs.flat_token.state_of.Lts as lts
 
 returns : tie.Need-returns
 unfolding stateIn

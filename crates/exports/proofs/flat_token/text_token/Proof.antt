@@ -1,9 +1,8 @@
+-- The contracts of the calls give the result.
+-- Assumes nothing.
 use borrow.Author.Needs.{needs}
 use Rattle.exports.proofs.flat_token.text_token.Statement.{statement}
 use Rattle.exports.proofs.flat_token.text_token.Tie as tie
-use Rattle.exports.proofs.flat_token.text_token.Reads as reads
-use Rattle.exports.proofs.flat_token.text_token.Lts as lts
-use Rattle.exports.proofs.flat_token.bare_token.Reads as bare-token-reads
 
 bare-token-requires : tie.Need-bare-token-requires
 bare-token-requires c κs = search needs

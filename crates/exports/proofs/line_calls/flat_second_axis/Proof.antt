@@ -1,8 +1,8 @@
+-- Each variant by its own arm.
+-- Assumes nothing.
 use borrow.Author.Needs.{needs}
 use Rattle.exports.proofs.line_calls.flat_second_axis.Statement.{statement}
 use Rattle.exports.proofs.line_calls.flat_second_axis.Tie as tie
-use Rattle.exports.proofs.line_calls.flat_second_axis.Reads as reads
-use Rattle.exports.proofs.line_calls.flat_second_axis.Lts as lts
 
 enum-known-a : tie.Need-enum-known-a
 enum-known-a c = search needs

@@ -1,8 +1,8 @@
+-- Each variant by its own arm.
+-- Assumes nothing.
 use borrow.Author.Needs.{needs}
 use Rattle.exports.proofs.line_calls.flat_to_nec.Statement.{statement}
 use Rattle.exports.proofs.line_calls.flat_to_nec.Tie as tie
-use Rattle.exports.proofs.line_calls.flat_to_nec.Reads as reads
-use Rattle.exports.proofs.line_calls.flat_to_nec.Lts as lts
 
 enum-known-n : tie.Need-enum-known-n
 enum-known-n c = search needs

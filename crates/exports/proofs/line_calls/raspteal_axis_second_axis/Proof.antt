@@ -1,10 +1,8 @@
+-- The contract of the call, and that of the layout, give the result.
+-- Assumes nothing.
 use borrow.Author.Needs.{needs}
 use Rattle.exports.proofs.line_calls.raspteal_axis_second_axis.Statement.{statement}
 use Rattle.exports.proofs.line_calls.raspteal_axis_second_axis.Tie as tie
-use Rattle.exports.proofs.line_calls.raspteal_axis_second_axis.Reads as reads
-use Rattle.exports.proofs.line_calls.raspteal_axis_second_axis.Lts as lts
-use Rattle.exports.proofs.line_calls.flat_second_axis.Reads as flat-second-axis-reads
-use Rattle.line.proofs.ev.Axis.second_axis.Reads as second-axis-reads
 
 second-axis-requires : tie.Need-second-axis-requires
 second-axis-requires c κs = search needs

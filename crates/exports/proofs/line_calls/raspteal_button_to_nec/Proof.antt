@@ -1,10 +1,8 @@
+-- The contract of the call, and that of the layout, give the result.
+-- Assumes nothing.
 use borrow.Author.Needs.{needs}
 use Rattle.exports.proofs.line_calls.raspteal_button_to_nec.Statement.{statement}
 use Rattle.exports.proofs.line_calls.raspteal_button_to_nec.Tie as tie
-use Rattle.exports.proofs.line_calls.raspteal_button_to_nec.Reads as reads
-use Rattle.exports.proofs.line_calls.raspteal_button_to_nec.Lts as lts
-use Rattle.exports.proofs.line_calls.flat_to_nec.Reads as flat-to-nec-reads
-use Rattle.line.proofs.ev.Button.to_nec.Reads as to-nec-reads
 
 to-nec-requires : tie.Need-to-nec-requires
 to-nec-requires c κs = search needs

@@ -1,10 +1,8 @@
+-- The contract of the call, and that of the layout, give the result.
+-- Assumes nothing.
 use borrow.Author.Needs.{needs}
 use Rattle.exports.proofs.line_calls.raspteal_element_eq.Statement.{statement}
 use Rattle.exports.proofs.line_calls.raspteal_element_eq.Tie as tie
-use Rattle.exports.proofs.line_calls.raspteal_element_eq.Reads as reads
-use Rattle.exports.proofs.line_calls.raspteal_element_eq.Lts as lts
-use Rattle.exports.proofs.flat.element_of.Reads as element-of-reads
-use Rattle.line.proofs.ev.AxisOrBtn.eq.Reads as eq-reads
 
 element-of-requires : tie.Need-element-of-requires
 element-of-requires c κs = search needs

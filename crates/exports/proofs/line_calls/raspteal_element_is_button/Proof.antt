@@ -1,10 +1,8 @@
+-- The contract of the call, and that of the layout, give the result.
+-- Assumes nothing.
 use borrow.Author.Needs.{needs}
 use Rattle.exports.proofs.line_calls.raspteal_element_is_button.Statement.{statement}
 use Rattle.exports.proofs.line_calls.raspteal_element_is_button.Tie as tie
-use Rattle.exports.proofs.line_calls.raspteal_element_is_button.Reads as reads
-use Rattle.exports.proofs.line_calls.raspteal_element_is_button.Lts as lts
-use Rattle.exports.proofs.flat.element_of.Reads as element-of-reads
-use Rattle.line.proofs.ev.AxisOrBtn.is_button.Reads as is-button-reads
 
 element-of-requires : tie.Need-element-of-requires
 element-of-requires c κs = search needs

@@ -1,9 +1,8 @@
+-- Each variant by its own arm.
+-- Assumes nothing.
 use borrow.Author.Needs.{needs}
 use Rattle.exports.proofs.mapping_calls.flat_key_element.Statement.{statement}
 use Rattle.exports.proofs.mapping_calls.flat_key_element.Tie as tie
-use Rattle.exports.proofs.mapping_calls.flat_key_element.Reads as reads
-use Rattle.exports.proofs.mapping_calls.flat_key_element.Lts as lts
-use Rattle.exports.proofs.flat.flat_element.Reads as flat-element-reads
 
 enum-known-k : tie.Need-enum-known-k
 enum-known-k c = search needs

@@ -1,9 +1,8 @@
+-- Each variant by its own arm.
+-- Assumes nothing.
 use borrow.Author.Needs.{needs}
 use Rattle.exports.proofs.mapping_calls.flat_mapped.Statement.{statement}
 use Rattle.exports.proofs.mapping_calls.flat_mapped.Tie as tie
-use Rattle.exports.proofs.mapping_calls.flat_mapped.Reads as reads
-use Rattle.exports.proofs.mapping_calls.flat_mapped.Lts as lts
-use Rattle.exports.proofs.flat.flat_element.Reads as flat-element-reads
 
 enum-known-m : tie.Need-enum-known-m
 enum-known-m c = search needs

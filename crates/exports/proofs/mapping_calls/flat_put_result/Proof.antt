@@ -1,10 +1,8 @@
+-- Each variant by its own arm.
+-- Assumes nothing.
 use borrow.Author.Needs.{needs}
 use Rattle.exports.proofs.mapping_calls.flat_put_result.Statement.{statement}
 use Rattle.exports.proofs.mapping_calls.flat_put_result.Tie as tie
-use Rattle.exports.proofs.mapping_calls.flat_put_result.Reads as reads
-use Rattle.exports.proofs.mapping_calls.flat_put_result.Lts as lts
-use Rattle.exports.proofs.flat.flat_no_refusal.Reads as flat-no-refusal-reads
-use Rattle.exports.proofs.flat.flat_refusal.Reads as flat-refusal-reads
 
 enum-told : tie.Need-enum-told
 enum-told c = search needs

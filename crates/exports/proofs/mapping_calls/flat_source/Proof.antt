@@ -1,8 +1,8 @@
+-- Each variant by its own arm.
+-- Assumes nothing.
 use borrow.Author.Needs.{needs}
 use Rattle.exports.proofs.mapping_calls.flat_source.Statement.{statement}
 use Rattle.exports.proofs.mapping_calls.flat_source.Tie as tie
-use Rattle.exports.proofs.mapping_calls.flat_source.Reads as reads
-use Rattle.exports.proofs.mapping_calls.flat_source.Lts as lts
 
 enum-known-s : tie.Need-enum-known-s
 enum-known-s c = search needs

@@ -1,10 +1,8 @@
+-- The contract of the call, and that of the layout, give the result.
+-- Assumes nothing.
 use borrow.Author.Needs.{needs}
 use Rattle.exports.proofs.mapping_calls.raspteal_find_element.Statement.{statement}
 use Rattle.exports.proofs.mapping_calls.raspteal_find_element.Tie as tie
-use Rattle.exports.proofs.mapping_calls.raspteal_find_element.Reads as reads
-use Rattle.exports.proofs.mapping_calls.raspteal_find_element.Lts as lts
-use Rattle.exports.proofs.mapping_calls.flat_key_element.Reads as flat-key-element-reads
-use Rattle.line.proofs.tables.find_element.Reads as find-element-reads
 
 find-element-requires : tie.Need-find-element-requires
 find-element-requires c κs = search needs

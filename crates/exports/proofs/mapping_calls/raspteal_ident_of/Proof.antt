@@ -1,10 +1,8 @@
+-- The contract of the call, and that of the layout, give the result.
+-- Assumes nothing.
 use borrow.Author.Needs.{needs}
 use Rattle.exports.proofs.mapping_calls.raspteal_ident_of.Statement.{statement}
 use Rattle.exports.proofs.mapping_calls.raspteal_ident_of.Tie as tie
-use Rattle.exports.proofs.mapping_calls.raspteal_ident_of.Reads as reads
-use Rattle.exports.proofs.mapping_calls.raspteal_ident_of.Lts as lts
-use Rattle.exports.proofs.flat.element_of.Reads as element-of-reads
-use Rattle.line.proofs.tables.ident_of.Reads as ident-of-reads
 
 element-of-requires : tie.Need-element-of-requires
 element-of-requires c κs = search needs

@@ -1,11 +1,8 @@
+-- The contract of the call, and that of the layout, give the result.
+-- Assumes nothing.
 use borrow.Author.Needs.{needs}
 use Rattle.exports.proofs.mapping_calls.raspteal_mapping_map.Statement.{statement}
 use Rattle.exports.proofs.mapping_calls.raspteal_mapping_map.Tie as tie
-use Rattle.exports.proofs.mapping_calls.raspteal_mapping_map.Reads as reads
-use Rattle.exports.proofs.mapping_calls.raspteal_mapping_map.Lts as lts
-use Rattle.exports.proofs.flat_mapping.mapping_of.Reads as mapping-of-reads
-use Rattle.exports.proofs.mapping_calls.flat_mapped.Reads as flat-mapped-reads
-use Rattle.line.proofs.mapping.Mapping.map.Reads as map-reads
 
 mapping-of-requires : tie.Need-mapping-of-requires
 mapping-of-requires c κs = search needs

@@ -1,12 +1,8 @@
+-- The contract of the call, and that of the layout, give the result.
+-- Assumes nothing.
 use borrow.Author.Needs.{needs}
 use Rattle.exports.proofs.mapping_calls.raspteal_mapping_map_rev.Statement.{statement}
 use Rattle.exports.proofs.mapping_calls.raspteal_mapping_map_rev.Tie as tie
-use Rattle.exports.proofs.mapping_calls.raspteal_mapping_map_rev.Reads as reads
-use Rattle.exports.proofs.mapping_calls.raspteal_mapping_map_rev.Lts as lts
-use Rattle.exports.proofs.flat.element_of.Reads as element-of-reads
-use Rattle.exports.proofs.flat_mapping.mapping_of.Reads as mapping-of-reads
-use Rattle.exports.proofs.mapping_calls.flat_source.Reads as flat-source-reads
-use Rattle.line.proofs.mapping.Mapping.map_rev.Reads as map-rev-reads
 
 mapping-of-requires : tie.Need-mapping-of-requires
 mapping-of-requires c κs = search needs

@@ -1,10 +1,8 @@
+-- The contract of the call, and that of the layout, give the result.
+-- Assumes nothing.
 use borrow.Author.Needs.{needs}
 use Rattle.exports.proofs.mapping_calls.raspteal_mapping_new.Statement.{statement}
 use Rattle.exports.proofs.mapping_calls.raspteal_mapping_new.Tie as tie
-use Rattle.exports.proofs.mapping_calls.raspteal_mapping_new.Reads as reads
-use Rattle.exports.proofs.mapping_calls.raspteal_mapping_new.Lts as lts
-use Rattle.exports.proofs.flat_mapping.flat_mapping.Reads as flat-mapping-reads
-use Rattle.line.proofs.mapping.Mapping.new.Reads as new-reads
 
 new-requires : tie.Need-new-requires
 new-requires c κs = search needs

@@ -1,13 +1,8 @@
+-- The contract of the call, and that of the layout, give the result.
+-- Assumes nothing.
 use borrow.Author.Needs.{needs}
 use Rattle.exports.proofs.mapping_calls.raspteal_mapping_put.Statement.{statement}
 use Rattle.exports.proofs.mapping_calls.raspteal_mapping_put.Tie as tie
-use Rattle.exports.proofs.mapping_calls.raspteal_mapping_put.Reads as reads
-use Rattle.exports.proofs.mapping_calls.raspteal_mapping_put.Lts as lts
-use Rattle.exports.proofs.flat_mapping.entry_of.Reads as entry-of-reads
-use Rattle.exports.proofs.flat_mapping.flat_mapping.Reads as flat-mapping-reads
-use Rattle.exports.proofs.flat_mapping.mapping_of.Reads as mapping-of-reads
-use Rattle.exports.proofs.mapping_calls.flat_put_result.Reads as flat-put-result-reads
-use Rattle.line.proofs.mapping.Mapping.put.Reads as put-reads
 
 mapping-of-requires : tie.Need-mapping-of-requires
 mapping-of-requires c κs = search needs

@@ -1,10 +1,8 @@
+-- Each variant by its own arm.
+-- Assumes nothing.
 use borrow.Author.Needs.{needs}
 use Rattle.exports.proofs.parser_calls.flat_sdl_answer.Statement.{statement}
 use Rattle.exports.proofs.parser_calls.flat_sdl_answer.Tie as tie
-use Rattle.exports.proofs.parser_calls.flat_sdl_answer.Reads as reads
-use Rattle.exports.proofs.parser_calls.flat_sdl_answer.Lts as lts
-use Rattle.exports.proofs.flat.flat_no_refusal.Reads as flat-no-refusal-reads
-use Rattle.exports.proofs.parser_calls.flat_sdl_error.Reads as flat-sdl-error-reads
 
 enum-told : tie.Need-enum-told
 enum-told c = search needs

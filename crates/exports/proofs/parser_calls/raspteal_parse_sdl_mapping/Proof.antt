@@ -1,11 +1,8 @@
+-- The contract of the call, and that of the layout, give the result.
+-- Assumes nothing.
 use borrow.Author.Needs.{needs}
 use Rattle.exports.proofs.parser_calls.raspteal_parse_sdl_mapping.Statement.{statement}
 use Rattle.exports.proofs.parser_calls.raspteal_parse_sdl_mapping.Tie as tie
-use Rattle.exports.proofs.parser_calls.raspteal_parse_sdl_mapping.Reads as reads
-use Rattle.exports.proofs.parser_calls.raspteal_parse_sdl_mapping.Lts as lts
-use Rattle.exports.proofs.flat_mapping.flat_mapping.Reads as flat-mapping-reads
-use Rattle.exports.proofs.parser_calls.flat_sdl_answer.Reads as flat-sdl-answer-reads
-use Rattle.line.proofs.reading.parse_sdl_mapping.Reads as parse-sdl-mapping-reads
 
 parse-sdl-mapping-requires : tie.Need-parse-sdl-mapping-requires
 parse-sdl-mapping-requires c κs = search needs

@@ -1,10 +1,8 @@
+-- The contract of the call, and that of the layout, give the result.
+-- Assumes nothing.
 use borrow.Author.Needs.{needs}
 use Rattle.exports.proofs.parser_calls.raspteal_parser_start.Statement.{statement}
 use Rattle.exports.proofs.parser_calls.raspteal_parser_start.Tie as tie
-use Rattle.exports.proofs.parser_calls.raspteal_parser_start.Reads as reads
-use Rattle.exports.proofs.parser_calls.raspteal_parser_start.Lts as lts
-use Rattle.exports.proofs.flat_token.state_number.Reads as state-number-reads
-use Rattle.line.proofs.parser.start_state.Reads as start-state-reads
 
 start-state-requires : tie.Need-start-state-requires
 start-state-requires c κs = search needs

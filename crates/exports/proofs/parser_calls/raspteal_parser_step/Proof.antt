@@ -1,12 +1,8 @@
+-- The contract of the call, and that of the layout, give the result.
+-- Assumes nothing.
 use borrow.Author.Needs.{needs}
 use Rattle.exports.proofs.parser_calls.raspteal_parser_step.Statement.{statement}
 use Rattle.exports.proofs.parser_calls.raspteal_parser_step.Tie as tie
-use Rattle.exports.proofs.parser_calls.raspteal_parser_step.Reads as reads
-use Rattle.exports.proofs.parser_calls.raspteal_parser_step.Lts as lts
-use Rattle.exports.proofs.flat_token.flat_answer.Reads as flat-answer-reads
-use Rattle.exports.proofs.flat_token.state_number.Reads as state-number-reads
-use Rattle.exports.proofs.flat_token.state_of.Reads as state-of-reads
-use Rattle.line.proofs.parser.step.Reads as step-reads
 
 state-of-requires : tie.Need-state-of-requires
 state-of-requires c κs = search needs

@@ -1,10 +1,8 @@
+-- The contracts of the calls give the result.
+-- Assumes nothing.
 use borrow.Author.Needs.{needs}
 use Rattle.exports.proofs.store_calls.flat_saved.Statement.{statement}
 use Rattle.exports.proofs.store_calls.flat_saved.Tie as tie
-use Rattle.exports.proofs.store_calls.flat_saved.Reads as reads
-use Rattle.exports.proofs.store_calls.flat_saved.Lts as lts
-use Rattle.exports.proofs.flat_mapping.flat_mapping.Reads as flat-mapping-reads
-use Rattle.exports.proofs.store_calls.flat_save_answer.Reads as flat-save-answer-reads
 
 flat-save-answer-requires : tie.Need-flat-save-answer-requires
 flat-save-answer-requires c κs = search needs

@@ -1,11 +1,8 @@
+-- Each variant by its own arm.
+-- Assumes nothing.
 use borrow.Author.Needs.{needs}
 use Rattle.exports.proofs.store_calls.flat_store_answer.Statement.{statement}
 use Rattle.exports.proofs.store_calls.flat_store_answer.Tie as tie
-use Rattle.exports.proofs.store_calls.flat_store_answer.Reads as reads
-use Rattle.exports.proofs.store_calls.flat_store_answer.Lts as lts
-use Rattle.exports.proofs.flat.flat_no_refusal.Reads as flat-no-refusal-reads
-use Rattle.exports.proofs.flat.flat_refusal.Reads as flat-refusal-reads
-use Rattle.exports.proofs.flat.flat_refusal_at.Reads as flat-refusal-at-reads
 
 enum-told : tie.Need-enum-told
 enum-told c = search needs

@@ -1,3 +1,5 @@
+-- The contract of the call, and that of the layout, give the result.
+-- Assumes nothing.
 use mathlib.Core.Path.{ap, _∙_}
 use Rattle.store.specs.declared.calls.Answer.{Answer}
 use Rattle.store.specs.Store.{Done}
@@ -5,10 +7,6 @@ use Rattle.exports.specs.FlatStore.{flatStoreAnswer}
 use borrow.Author.Needs.{needs}
 use Rattle.exports.proofs.store_calls.raspteal_store_clear.Statement.{statement}
 use Rattle.exports.proofs.store_calls.raspteal_store_clear.Tie as tie
-use Rattle.exports.proofs.store_calls.raspteal_store_clear.Reads as reads
-use Rattle.exports.proofs.store_calls.raspteal_store_clear.Lts as lts
-use Rattle.exports.proofs.store_calls.flat_store_answer.Reads as flat-store-answer-reads
-use Rattle.store.proofs.calls.clear.Reads as clear-reads
 
 clear-requires : tie.Need-clear-requires
 clear-requires c κs = search needs

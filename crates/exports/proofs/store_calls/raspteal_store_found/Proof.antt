@@ -1,11 +1,8 @@
+-- The contract of the call, and that of the layout, give the result.
+-- Assumes nothing.
 use borrow.Author.Needs.{needs}
 use Rattle.exports.proofs.store_calls.raspteal_store_found.Statement.{statement}
 use Rattle.exports.proofs.store_calls.raspteal_store_found.Tie as tie
-use Rattle.exports.proofs.store_calls.raspteal_store_found.Reads as reads
-use Rattle.exports.proofs.store_calls.raspteal_store_found.Lts as lts
-use Rattle.exports.proofs.flat.uuid_of.Reads as uuid-of-reads
-use Rattle.exports.proofs.store_calls.flat_look.Reads as flat-look-reads
-use Rattle.store.proofs.calls.found.Reads as found-reads
 
 uuid-of-requires : tie.Need-uuid-of-requires
 uuid-of-requires c κs = search needs

@@ -1,12 +1,8 @@
+-- The contract of the call, and that of the layout, give the result.
+-- Assumes nothing.
 use borrow.Author.Needs.{needs}
 use Rattle.exports.proofs.store_calls.raspteal_store_get.Statement.{statement}
 use Rattle.exports.proofs.store_calls.raspteal_store_get.Tie as tie
-use Rattle.exports.proofs.store_calls.raspteal_store_get.Reads as reads
-use Rattle.exports.proofs.store_calls.raspteal_store_get.Lts as lts
-use Rattle.exports.proofs.flat.flat_written.Reads as flat-written-reads
-use Rattle.exports.proofs.flat.uuid_of.Reads as uuid-of-reads
-use Rattle.store.proofs.calls.get.Reads as get-reads
-use Rattle.text.proofs.bytes.write_bytes.Reads as write-bytes-reads
 
 uuid-of-requires : tie.Need-uuid-of-requires
 uuid-of-requires c κs = search needs

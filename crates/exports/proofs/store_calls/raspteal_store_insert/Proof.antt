@@ -1,3 +1,5 @@
+-- The contract of the call, and that of the layout, give the result.
+-- Assumes nothing.
 use mathlib.Core.Path.{ap, _∙_}
 use Rattle.store.specs.declared.calls.Inserted.{Inserted}
 use Rattle.store.specs.Store.{Done}
@@ -5,10 +7,6 @@ use Rattle.exports.specs.FlatStore.{flatInserted}
 use borrow.Author.Needs.{needs}
 use Rattle.exports.proofs.store_calls.raspteal_store_insert.Statement.{statement}
 use Rattle.exports.proofs.store_calls.raspteal_store_insert.Tie as tie
-use Rattle.exports.proofs.store_calls.raspteal_store_insert.Reads as reads
-use Rattle.exports.proofs.store_calls.raspteal_store_insert.Lts as lts
-use Rattle.exports.proofs.store_calls.flat_inserted.Reads as flat-inserted-reads
-use Rattle.store.proofs.calls.insert.Reads as insert-reads
 
 insert-requires : tie.Need-insert-requires
 insert-requires c κs = search needs

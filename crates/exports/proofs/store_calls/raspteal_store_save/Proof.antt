@@ -1,3 +1,5 @@
+-- The contract of the call, and that of the layout, give the result.
+-- Assumes nothing.
 use mathlib.Core.Path.{ap, _∙_}
 use Rattle.store.specs.declared.calls.Saved.{Saved}
 use Rattle.store.specs.Store.{Done}
@@ -5,12 +7,6 @@ use Rattle.exports.specs.FlatStore.{flatSaved}
 use borrow.Author.Needs.{needs}
 use Rattle.exports.proofs.store_calls.raspteal_store_save.Statement.{statement}
 use Rattle.exports.proofs.store_calls.raspteal_store_save.Tie as tie
-use Rattle.exports.proofs.store_calls.raspteal_store_save.Reads as reads
-use Rattle.exports.proofs.store_calls.raspteal_store_save.Lts as lts
-use Rattle.exports.proofs.flat.uuid_of.Reads as uuid-of-reads
-use Rattle.exports.proofs.flat_data.data_of.Reads as data-of-reads
-use Rattle.exports.proofs.store_calls.flat_saved.Reads as flat-saved-reads
-use Rattle.store.proofs.calls.save.Reads as save-reads
 
 data-of-requires : tie.Need-data-of-requires
 data-of-requires c κs = search needs

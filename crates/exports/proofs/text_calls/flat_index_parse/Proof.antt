@@ -1,8 +1,8 @@
+-- Each variant by its own arm.
+-- Assumes nothing.
 use borrow.Author.Needs.{needs}
 use Rattle.exports.proofs.text_calls.flat_index_parse.Statement.{statement}
 use Rattle.exports.proofs.text_calls.flat_index_parse.Tie as tie
-use Rattle.exports.proofs.text_calls.flat_index_parse.Reads as reads
-use Rattle.exports.proofs.text_calls.flat_index_parse.Lts as lts
 
 enum-known-p : tie.Need-enum-known-p
 enum-known-p c = search needs

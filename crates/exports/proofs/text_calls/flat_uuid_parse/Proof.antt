@@ -1,9 +1,8 @@
+-- Each variant by its own arm.
+-- Assumes nothing.
 use borrow.Author.Needs.{needs}
 use Rattle.exports.proofs.text_calls.flat_uuid_parse.Statement.{statement}
 use Rattle.exports.proofs.text_calls.flat_uuid_parse.Tie as tie
-use Rattle.exports.proofs.text_calls.flat_uuid_parse.Reads as reads
-use Rattle.exports.proofs.text_calls.flat_uuid_parse.Lts as lts
-use Rattle.exports.proofs.flat.flat_uuid.Reads as flat-uuid-reads
 
 enum-known-p : tie.Need-enum-known-p
 enum-known-p c = search needs

@@ -1,10 +1,8 @@
+-- The contract of the call, and that of the layout, give the result.
+-- Assumes nothing.
 use borrow.Author.Needs.{needs}
 use Rattle.exports.proofs.text_calls.raspteal_parse_u16.Statement.{statement}
 use Rattle.exports.proofs.text_calls.raspteal_parse_u16.Tie as tie
-use Rattle.exports.proofs.text_calls.raspteal_parse_u16.Reads as reads
-use Rattle.exports.proofs.text_calls.raspteal_parse_u16.Lts as lts
-use Rattle.exports.proofs.text_calls.flat_index_parse.Reads as flat-index-parse-reads
-use Rattle.text.proofs.decimal.parse_u16.Reads as parse-u16-reads
 
 parse-u16-requires : tie.Need-parse-u16-requires
 parse-u16-requires c κs = search needs

@@ -1,10 +1,8 @@
+-- The contract of the call, and that of the layout, give the result.
+-- Assumes nothing.
 use borrow.Author.Needs.{needs}
 use Rattle.exports.proofs.text_calls.raspteal_uuid_parse_str.Statement.{statement}
 use Rattle.exports.proofs.text_calls.raspteal_uuid_parse_str.Tie as tie
-use Rattle.exports.proofs.text_calls.raspteal_uuid_parse_str.Reads as reads
-use Rattle.exports.proofs.text_calls.raspteal_uuid_parse_str.Lts as lts
-use Rattle.exports.proofs.text_calls.flat_uuid_parse.Reads as flat-uuid-parse-reads
-use Rattle.text.proofs.uuid.Uuid.parse_str.Reads as parse-str-reads
 
 parse-str-requires : tie.Need-parse-str-requires
 parse-str-requires c κs = search needs

@@ -1,10 +1,8 @@
+-- The contract of the call, and that of the layout, give the result.
+-- Assumes nothing.
 use borrow.Author.Needs.{needs}
 use Rattle.exports.proofs.text_calls.raspteal_uuid_write_simple.Statement.{statement}
 use Rattle.exports.proofs.text_calls.raspteal_uuid_write_simple.Tie as tie
-use Rattle.exports.proofs.text_calls.raspteal_uuid_write_simple.Reads as reads
-use Rattle.exports.proofs.text_calls.raspteal_uuid_write_simple.Lts as lts
-use Rattle.exports.proofs.flat.flat_written.Reads as flat-written-reads
-use Rattle.text.proofs.uuid.Uuid.write_simple.Reads as write-simple-reads
 
 write-simple-requires : tie.Need-write-simple-requires
 write-simple-requires c κs = search needs

@@ -1,10 +1,8 @@
+-- The contract of the call, and that of the layout, give the result.
+-- Assumes nothing.
 use borrow.Author.Needs.{needs}
 use Rattle.exports.proofs.text_calls.raspteal_write_bytes.Statement.{statement}
 use Rattle.exports.proofs.text_calls.raspteal_write_bytes.Tie as tie
-use Rattle.exports.proofs.text_calls.raspteal_write_bytes.Reads as reads
-use Rattle.exports.proofs.text_calls.raspteal_write_bytes.Lts as lts
-use Rattle.exports.proofs.flat.flat_written.Reads as flat-written-reads
-use Rattle.text.proofs.bytes.write_bytes.Reads as write-bytes-reads
 
 write-bytes-requires : tie.Need-write-bytes-requires
 write-bytes-requires c κs = search needs

@@ -1,10 +1,8 @@
+-- The contract of the call, and that of the layout, give the result.
+-- Assumes nothing.
 use borrow.Author.Needs.{needs}
 use Rattle.exports.proofs.text_calls.raspteal_write_index.Statement.{statement}
 use Rattle.exports.proofs.text_calls.raspteal_write_index.Tie as tie
-use Rattle.exports.proofs.text_calls.raspteal_write_index.Reads as reads
-use Rattle.exports.proofs.text_calls.raspteal_write_index.Lts as lts
-use Rattle.exports.proofs.flat.flat_written.Reads as flat-written-reads
-use Rattle.text.proofs.decimal.write_index.Reads as write-index-reads
 
 write-index-requires : tie.Need-write-index-requires
 write-index-requires c κs = search needs

@@ -1,3 +1,5 @@
+-- At most as many turns as a map has entries; the output keeps its length.
+-- Assumes nothing.
 use lib.ListN.{length}
 use mathlib.Core.Path.{_≡_, refl}
 use Prim.Native.Nat.{_≤_, _-_}
@@ -5,10 +7,6 @@ use native.Mathlib.Omega.{arith}
 use borrow.Author.Needs.{needs}
 use Rattle.replay.proofs.answers.put_entries.Statement.{statement}
 use Rattle.replay.proofs.answers.put_entries.Tie as tie
-use Rattle.replay.proofs.answers.put_entries.Reads as reads
-use Rattle.replay.proofs.answers.put_entries.Lts as lts
-use Rattle.replay.proofs.answers.held.Reads as held-reads
-use Rattle.replay.proofs.answers.put_entry.Reads as put-entry-reads
 
 abbrev Inv-loop : tie.InvT-loop
 Inv-loop out₀ at map n next₀ i₀ out next i = (length out ≡ length out₀) × (n ≤ 256)

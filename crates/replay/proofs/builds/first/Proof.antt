@@ -1,11 +1,11 @@
+-- A part that ends within the text is as long as its end says.
+-- Assumes nothing.
 use lib.Seq.{length-take-le}
 use native.Mathlib.Omega.{arith}
 use mathlib.Core.Path.{sym}
 use borrow.Author.Needs.{needs}
 use Rattle.replay.proofs.builds.first.Statement.{statement}
 use Rattle.replay.proofs.builds.first.Tie as tie
-use Rattle.replay.proofs.builds.first.Reads as reads
-use Rattle.replay.proofs.builds.first.Lts as lts
 
 slice-aggregate-result : tie.Need-slice-aggregate-result
 slice-aggregate-result c = sym (length-take-le _ (c .before .before .args .s .now) (omega arith))

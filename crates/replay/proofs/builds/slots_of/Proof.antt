@@ -1,16 +1,11 @@
+-- Each turn passes a field, so the place rises.
+-- Assumes nothing.
 use lib.ListN.{length}
-use mathlib.Core.Path.{_≡_, refl}
-use Prim.Native.Nat.{_≤_, _-_}
+use Prim.Native.Nat.{_-_}
 use native.Mathlib.Omega.{arith}
 use borrow.Author.Needs.{needs}
 use Rattle.replay.proofs.builds.slots_of.Statement.{statement}
 use Rattle.replay.proofs.builds.slots_of.Tie as tie
-use Rattle.replay.proofs.builds.slots_of.Reads as reads
-use Rattle.replay.proofs.builds.slots_of.Lts as lts
-use Rattle.map.proofs.mapping_data.MappingData.new.Reads as new-reads
-use Rattle.replay.proofs.builds.with_slot.Reads as with-slot-reads
-use Rattle.replay.proofs.fields.after_field.Reads as after-field-reads
-use Rattle.replay.proofs.fields.field_at.Reads as field-at-reads
 
 abbrev Inv-loop : tie.InvT-loop
 Inv-loop s data₀ at₀ «data» at = Unit {0}

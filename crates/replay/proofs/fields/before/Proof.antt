@@ -1,12 +1,11 @@
+-- A part that ends within the text is as long as its end says.
+-- Assumes nothing.
 use lib.Seq.{length-take-le}
 use native.Mathlib.Omega.{arith}
 use mathlib.Core.Path.{sym}
 use borrow.Author.Needs.{needs}
 use Rattle.replay.proofs.fields.before.Statement.{statement}
 use Rattle.replay.proofs.fields.before.Tie as tie
-use Rattle.replay.proofs.fields.before.Reads as reads
-use Rattle.replay.proofs.fields.before.Lts as lts
-use Rattle.text.proofs.bytes.find_byte.Reads as find-byte-reads
 
 find-byte-requires : tie.Need-find-byte-requires
 find-byte-requires c κs = search needs

@@ -1,12 +1,11 @@
+-- A part that ends within the text is as long as its end says.
+-- Assumes nothing.
 use lib.Seq.{length-take-le}
 use native.Mathlib.Omega.{arith}
 use mathlib.Core.Path.{sym}
 use borrow.Author.Needs.{needs}
 use Rattle.replay.proofs.lines.default_of.Statement.{statement}
 use Rattle.replay.proofs.lines.default_of.Tie as tie
-use Rattle.replay.proofs.lines.default_of.Reads as reads
-use Rattle.replay.proofs.lines.default_of.Lts as lts
-use Rattle.map.proofs.default.default.Reads as default-reads
 
 array-share-prefix-default : tie.Need-array-share-prefix-default
 array-share-prefix-default c = search needs

@@ -1,16 +1,12 @@
+-- As many turns as steps were asked for; the output keeps its length.
+-- Assumes nothing.
 use lib.ListN.{length}
 use mathlib.Core.Path.{_≡_, refl}
-use Prim.Native.Nat.{_≤_, _-_}
+use Prim.Native.Nat.{_-_}
 use native.Mathlib.Omega.{arith}
 use borrow.Author.Needs.{needs}
 use Rattle.replay.proofs.lines.put_steps.Statement.{statement}
 use Rattle.replay.proofs.lines.put_steps.Tie as tie
-use Rattle.replay.proofs.lines.put_steps.Reads as reads
-use Rattle.replay.proofs.lines.put_steps.Lts as lts
-use Rattle.line.proofs.parser.start_state.Reads as start-state-reads
-use Rattle.line.proofs.parser.step.Reads as step-reads
-use Rattle.replay.proofs.answers.put.Reads as put-reads
-use Rattle.replay.proofs.lines.put_answer.Reads as put-answer-reads
 
 abbrev Inv-loop : tie.InvT-loop
 Inv-loop out₀ line steps at₀ pos₀ state₀ i₀ t11 out at pos state i = length out ≡ length out₀

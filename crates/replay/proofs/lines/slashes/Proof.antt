@@ -1,13 +1,11 @@
+-- The place rises up to the length.
+-- Assumes nothing.
 use lib.ListN.{length}
-use mathlib.Core.Path.{_≡_, refl}
-use Prim.Native.Nat.{_≤_, _-_}
+use Prim.Native.Nat.{_-_}
 use native.Mathlib.Omega.{arith}
 use borrow.Author.Needs.{needs}
 use Rattle.replay.proofs.lines.slashes.Statement.{statement}
 use Rattle.replay.proofs.lines.slashes.Tie as tie
-use Rattle.replay.proofs.lines.slashes.Reads as reads
-use Rattle.replay.proofs.lines.slashes.Lts as lts
-use Rattle.std.proofs.num.wrapping_add_usize.Reads as wrapping-add-usize-reads
 
 abbrev Inv-loop : tie.InvT-loop
 Inv-loop s n₀ i₀ n i = Unit {0}

@@ -1,14 +1,10 @@
+-- A part that ends within the text is as long as its end says.
+-- Assumes nothing.
 use lib.Seq.{length-take-le}
 use mathlib.Core.Path.{sym}
 use borrow.Author.Needs.{needs}
 use Rattle.replay.proofs.stores.insert_case.Statement.{statement}
 use Rattle.replay.proofs.stores.insert_case.Tie as tie
-use Rattle.replay.proofs.stores.insert_case.Reads as reads
-use Rattle.replay.proofs.stores.insert_case.Lts as lts
-use Rattle.replay.proofs.stores.is_done.Reads as is-done-reads
-use Rattle.replay.proofs.stores.with_lf.Reads as with-lf-reads
-use Rattle.store.proofs.calls.insert.Reads as insert-reads
-use Rattle.text.proofs.bytes.write_bytes.Reads as write-bytes-reads
 
 returns : tie.Need-returns
 returns c = search needs

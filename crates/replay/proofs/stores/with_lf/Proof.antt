@@ -1,13 +1,12 @@
+-- The place rises up to the length, which no store changes.
+-- Assumes nothing.
 use lib.ListN.{length}
 use mathlib.Core.Path.{_≡_, refl}
-use Prim.Native.Nat.{_≤_, _-_}
+use Prim.Native.Nat.{_-_}
 use native.Mathlib.Omega.{arith}
 use borrow.Author.Needs.{needs}
 use Rattle.replay.proofs.stores.with_lf.Statement.{statement}
 use Rattle.replay.proofs.stores.with_lf.Tie as tie
-use Rattle.replay.proofs.stores.with_lf.Reads as reads
-use Rattle.replay.proofs.stores.with_lf.Lts as lts
-use Rattle.replay.proofs.stores.spelled.Reads as spelled-reads
 
 abbrev Inv-loop : tie.InvT-loop
 Inv-loop s₀ i₀ s i = length s ≡ length s₀
