@@ -155,7 +155,7 @@ pub fn default(buttons: &[u32], axes: &[u32]) -> Map {
 
 /// Slots: 20 for buttons, 9 for axes, each a code or none.
 #[derive(Clone, Default)]
-pub struct Slots(MappingData);
+pub struct Slots(pub MappingData);
 
 impl Slots {
     pub fn new() -> Self {

@@ -1,0 +1,47 @@
+//! The yardsticks: plain passes over the bytes of a store, compiled with the options of everything else here.
+use crate::measure::Work;
+use harness::port::Store;
+use std::hint::black_box;
+
+/// The sum of the bytes, one after the other into 64 bits. The compiler may use vector instructions, and does.
+#[inline(never)]
+fn sum(bytes: &[u8]) -> u64 {
+    bytes.iter().map(|b| *b as u64).sum()
+}
+
+/// One summing pass over both buffers.
+pub struct SumPass(pub Store);
+
+impl Work for SumPass {
+    fn calls(&self) -> usize {
+        1
+    }
+    fn go(&mut self) {
+        let s = black_box(&self.0);
+        black_box(sum(&s.index) + sum(&s.text));
+    }
+}
+
+/// One copy of both buffers.
+pub struct CopyPass {
+    from: Store,
+    to: Store,
+}
+
+impl CopyPass {
+    pub fn of(from: Store) -> Self {
+        CopyPass { to: from.clone(), from }
+    }
+}
+
+impl Work for CopyPass {
+    fn calls(&self) -> usize {
+        1
+    }
+    fn go(&mut self) {
+        let from = black_box(&self.from);
+        self.to.index.copy_from_slice(&from.index);
+        self.to.text.copy_from_slice(&from.text);
+        black_box(&self.to);
+    }
+}

@@ -1,0 +1,221 @@
+//! The rows of the benchmark: what is measured against what, and the goal.
+use crate::here::{self, Call, Form, Pad};
+use crate::inputs::{self, List, BUFFER, RECORD};
+use crate::measure::{Case, Side, Work};
+use crate::passes::{CopyPass, SumPass};
+use crate::rust;
+use crate::uuids::{self, Family};
+use harness::gen::Rng;
+use harness::plain::{Uuid, AXIS};
+use harness::port::{Reading, Store};
+
+#[derive(Clone, Copy)]
+pub enum Goal {
+    /// At most so many times the cost of that side, in the worst case.
+    AtMost(f64, Side),
+    /// The cases of a family stand in order of size, each twice the one before: at most so many times its cost.
+    Growth(f64),
+    /// No goal: the figure is stated.
+    Stated,
+}
+
+pub struct Row {
+    pub name: &'static str,
+    pub title: &'static str,
+    pub goal: Goal,
+    pub cases: fn(&[List]) -> Vec<Case>,
+}
+
+const fn row(name: &'static str, title: &'static str, goal: Goal, cases: fn(&[List]) -> Vec<Case>) -> Row {
+    Row { name, title, goal, cases }
+}
+
+const HALF: Goal = Goal::AtMost(0.5, Side::Gilrs);
+const ORDINARY: Goal = Goal::AtMost(1.5, Side::Sum);
+const WORST: Goal = Goal::AtMost(15.0, Side::Sum);
+const LINEAR: Goal = Goal::Growth(2.2);
+
+pub const ROWS: [Row; 16] = [
+    row("read", "`parse_sdl_mapping`, 32 buttons and 16 axes", HALF, read),
+    row("build", "`from_data`, 25 slots", HALF, build),
+    row("insert", "`insert` of a list into a fresh store", Goal::AtMost(1.5, Side::Gilrs), insert),
+    row("insert-held", "`insert` of 64 lines, 56 of them held", LINEAR, insert_held),
+    row("insert-again", "`insert` of the whole list again, 1 in 16 new", LINEAR, insert_again),
+    row("found", "`found`, full store, ordinary UUIDs", ORDINARY, |_| full(Call::Found, &uuids::ORDINARY)),
+    row("get", "`get`, full store, ordinary UUIDs", ORDINARY, |_| full(Call::Get, &uuids::ORDINARY)),
+    row("found-worst", "`found`, full store, constructed UUIDs", WORST, |_| full(Call::Found, &uuids::CONSTRUCTED)),
+    row("get-worst", "`get`, full store, constructed UUIDs", WORST, |_| full(Call::Get, &uuids::CONSTRUCTED)),
+    row("found-growth", "`found`, ordinary UUIDs", LINEAR, |_| growing(Call::Found, &uuids::ORDINARY)),
+    row("get-growth", "`get`, ordinary UUIDs", LINEAR, |_| growing(Call::Get, &uuids::ORDINARY)),
+    row("found-worst-growth", "`found`, constructed UUIDs", LINEAR, |_| growing(Call::Found, &uuids::CONSTRUCTED)),
+    row("get-worst-growth", "`get`, constructed UUIDs", LINEAR, |_| growing(Call::Get, &uuids::CONSTRUCTED)),
+    row("save", "`save` replacing the first of 3120 records", Goal::AtMost(3.0, Side::Sum), save),
+    row("map", "`map`, 20 entries", Goal::AtMost(3.0, Side::Gilrs), |_| map(20)),
+    row("map-256", "`map`, 256 entries", Goal::Stated, |_| map(256)),
+];
+
+/// Records that fill an index of 65535 bytes, and sizes for a growth.
+const FULL: usize = 3120;
+const SIZES: [usize; 5] = [195, 390, 780, 1560, FULL];
+const HELD: [usize; 4] = [240, 480, 960, 1920];
+const AGAIN: [usize; 4] = [230, 460, 920, 1840];
+
+fn case(label: String, port: impl Work + 'static, gilrs: impl Work + 'static) -> Case {
+    Case { family: String::new(), label, works: vec![(Side::Port, Box::new(port)), (Side::Gilrs, Box::new(gilrs))] }
+}
+
+/// The case with passes over a store beside it.
+fn with_passes(mut c: Case, s: &Store) -> Case {
+    c.works.push((Side::Sum, Box::new(SumPass(s.clone()))));
+    c.works.push((Side::Copy, Box::new(CopyPass::of(s.clone()))));
+    c
+}
+
+fn pad() -> Pad {
+    Pad { buttons: inputs::buttons(32), axes: inputs::axes(16) }
+}
+
+fn read(lists: &[List]) -> Vec<Case> {
+    let one = |l: &List| {
+        let lines: Vec<String> = inputs::mappings(&l.text).iter().map(|s| s.to_string()).collect();
+        let label = format!("{}, {} lines", l.name, lines.len());
+        let gilrs = rust::Read::of(&lines, &pad());
+        case(label, here::Read { lines, pad: pad() }, gilrs)
+    };
+    lists.iter().map(one).collect()
+}
+
+/// Every slot that has a name in a line: 19 buttons and 6 axes, at places that vary, with real names.
+fn forms(lists: &[List]) -> Vec<Form> {
+    let mut r = Rng::new(7);
+    let (buttons, axes) = (inputs::buttons(32), inputs::axes(16));
+    let lines: Vec<&str> = lists.iter().flat_map(|l| inputs::mappings(&l.text)).collect();
+    let names: Vec<&str> = lines.iter().filter_map(|l| l.split(',').nth(1)).collect();
+    let uuids = uuids::pads(64);
+    let mut form = |uuid: &Uuid| {
+        let (b, a) = (r.below(buttons.len()), r.below(axes.len()));
+        let mut slots: Vec<(u16, u32)> = (1..20).map(|k| (k, buttons[(b + 5 * k as usize) % buttons.len()])).collect();
+        slots.extend((1..7).map(|k| (AXIS + k, axes[(a + 3 * k as usize) % axes.len()])));
+        let name = if names.is_empty() { "Pad" } else { r.pick(&names) };
+        Form { slots, name: name.to_string(), uuid: *uuid }
+    };
+    uuids.iter().map(|u| form(u)).collect()
+}
+
+fn build(lists: &[List]) -> Vec<Case> {
+    let forms = forms(lists);
+    let (mut port, gilrs) = (here::Build::of(&forms, &pad()), rust::Build::of(&forms, &pad()));
+    assert_eq!(port.line(), gilrs.line(), "both build the same line");
+    vec![case(format!("{} pads in turn", forms.len()), port, gilrs)]
+}
+
+fn insert(lists: &[List]) -> Vec<Case> {
+    let one = |l: &List| {
+        let text = inputs::fitting(&l.text);
+        let fresh = Store::fresh(BUFFER, BUFFER);
+        let label = format!("{}, {} lines, {} bytes", l.name, text.lines().count(), text.len());
+        let gilrs = rust::Insert::of("", &text);
+        let port = here::Insert { before: fresh.clone(), store: fresh.clone(), text };
+        with_passes(case(label, port, gilrs), &fresh)
+    };
+    lists.iter().map(one).collect()
+}
+
+fn text_of(uuids: &[Uuid]) -> String {
+    uuids.iter().map(inputs::short_line).collect()
+}
+
+/// A store that holds `held` lines, with room for `more`, and an insert of `list`.
+fn filled(held: &[Uuid], list: &[Uuid], more: usize) -> Case {
+    let (before, text) = (text_of(held), text_of(list));
+    let line = before.lines().next().map_or(0, str::len);
+    let lines = held.len() + more;
+    let mut store = Store::fresh(RECORD * lines, line * lines);
+    let (refusal, _) = store.insert(before.as_bytes());
+    assert!(refusal.is_none(), "the store takes the lines that it holds");
+    let gilrs = rust::Insert::of(&before, &text);
+    case(held.len().to_string(), here::Insert { before: store.clone(), store, text }, gilrs)
+}
+
+/// The list stays as it is: 56 lines that are held, from all over the store, and 8 new ones.
+fn insert_held(_: &[List]) -> Vec<Case> {
+    let one = |n: &usize| {
+        let (held, new) = (uuids::pads(*n), uuids::random(8));
+        let mut r = Rng::new(8);
+        let list: Vec<Uuid> =
+            (0..64).map(|k| if k % 8 == 7 { new[k / 8] } else { held[(k * n / 64 + r.below(n / 64)) % n] }).collect();
+        filled(&held, &list, 8)
+    };
+    HELD.iter().map(one).collect()
+}
+
+/// The list grows with the store: the lines held in their order, and after each fifteen a new one.
+fn insert_again(_: &[List]) -> Vec<Case> {
+    let one = |n: &usize| {
+        let (held, new) = (uuids::pads(*n), uuids::random(n / 16));
+        let (mut list, mut next) = (Vec::new(), new.iter());
+        for (k, u) in held.iter().enumerate().take(n - n / 16) {
+            list.push(*u);
+            if k % 15 == 14 {
+                list.extend(next.next());
+            }
+        }
+        filled(&held, &list, n / 16)
+    };
+    AGAIN.iter().map(one).collect()
+}
+
+fn look(call: Call, uuids: &[Uuid], store: Store, label: String) -> Case {
+    let n = uuids.len();
+    let held: Vec<Uuid> = (0..64).map(|k| uuids[(k * 37 * n / 64) % n]).collect();
+    let absent: Vec<Uuid> = uuids::random(n + 64).split_off(n);
+    let gilrs = rust::Look::of(&text_of(uuids), &held, &absent);
+    let c = case(label, here::Look { store: store.clone(), call, held, absent, turn: 0, out: vec![0; 4096] }, gilrs);
+    with_passes(c, &store)
+}
+
+/// Full stores: 3120 records, buffers of 65535 bytes.
+fn full(call: Call, families: &[Family]) -> Vec<Case> {
+    let one = |f: &Family| {
+        let uuids = (f.list)(FULL);
+        look(call, &uuids, inputs::store(&uuids, 21, BUFFER, BUFFER), f.name.to_string())
+    };
+    families.iter().map(one).collect()
+}
+
+/// Stores of doubling size; each one's buffers are full.
+fn growing(call: Call, families: &[Family]) -> Vec<Case> {
+    let sized = |f: &Family, n: usize| {
+        let uuids = (f.list)(n);
+        let mut c = look(call, &uuids, inputs::store(&uuids, 21, RECORD * n, 21 * n), n.to_string());
+        c.family = f.name.to_string();
+        c.works.truncate(1);
+        c
+    };
+    families.iter().flat_map(|f| SIZES.iter().map(move |n| sized(f, *n))).collect()
+}
+
+fn save(lists: &[List]) -> Vec<Case> {
+    let uuids = uuids::pads(FULL);
+    let store = inputs::store(&uuids, 20, BUFFER, BUFFER);
+    let mut form = forms(lists).swap_remove(0);
+    form.uuid = uuids[0];
+    let gilrs = rust::Save::of(&text_of(&uuids), &form, &pad());
+    let c = case("25 slots".to_string(), here::Save::of(&store, &form, &pad()), gilrs);
+    vec![with_passes(c, &store)]
+}
+
+/// A map of n codes, asked for each in mixed order and, once in eight, for a code that it lacks.
+fn map(n: u32) -> Vec<Case> {
+    let keys = ["a", "b", "x", "y", "back", "start", "guide", "leftx", "lefty", "dpup", "leftshoulder"];
+    let pairs: String = (0..n).map(|k| format!("{}:b{k},", keys[k as usize % keys.len()])).collect();
+    let line = format!("{:032x},Pad,{pairs}", 1);
+    let pad = Pad { buttons: inputs::buttons(n), axes: Vec::new() };
+    let mut r = Rng::new(9);
+    let ask = |_| if r.one_in(8) { 0x20000 + r.below(64) as u32 } else { r.pick(&pad.buttons) };
+    let codes: Vec<u32> = (0..4096).map(ask).collect();
+    let reading = Reading::of(line.as_bytes(), &pad.buttons, &pad.axes);
+    assert_eq!(reading.answer().map(|m| m.entries.len()), Ok(n as usize));
+    let gilrs = rust::Map::of(&line, &pad, &codes);
+    vec![case(format!("{n} entries"), here::Map { reading, codes }, gilrs)]
+}
