@@ -1,5 +1,6 @@
 //! Measuring: the sides of a row in turn, round after round.
 use crate::callgrind;
+use crate::clock::Clock;
 use std::time::{Duration, Instant};
 
 /// Work of one side. `go` makes `calls` calls; `prepare` puts things back before it and is not measured.
@@ -59,29 +60,29 @@ impl Costs {
 }
 
 pub enum How {
-    /// Nanoseconds: so many rounds, within about so long.
+    /// Nanoseconds of the processor's time: so many rounds, within about so long.
     Time { rounds: usize, budget: Duration },
     /// Instructions that callgrind counts. They are the same in each round, so there is one.
     Instructions(callgrind::Counter),
 }
 
-fn timed(work: &mut dyn Work, goes: usize) -> f64 {
-    let mut total = Duration::ZERO;
+/// The time of a call: the median of the goes.
+fn timed(work: &mut dyn Work, goes: usize, clock: &Clock) -> f64 {
+    let mut times = Vec::with_capacity(goes);
     for _ in 0..goes {
         work.prepare();
-        let start = Instant::now();
-        work.go();
-        total += start.elapsed();
+        let time = clock.time(&mut || work.go());
+        times.push(time / work.calls() as f64);
     }
-    total.as_nanos() as f64 / (goes * work.calls()) as f64
+    spread(&times).median
 }
 
 /// Warms up, and says how many goes fill a share of the budget.
-fn goes_within(work: &mut dyn Work, share: Duration) -> usize {
+fn goes_within(work: &mut dyn Work, share: Duration, clock: &Clock) -> usize {
     let start = Instant::now();
     let mut goes = 0;
     while goes < 1 || start.elapsed() < share && goes < 1 << 20 {
-        timed(work, 1);
+        timed(work, 1, clock);
         goes += 1;
     }
     let one = start.elapsed().as_secs_f64() / goes as f64;
@@ -89,11 +90,12 @@ fn goes_within(work: &mut dyn Work, share: Duration) -> usize {
 }
 
 fn by_time(cases: &mut [Case], rounds: usize, budget: Duration) -> Vec<Costs> {
+    let clock = Clock::new();
     let works: usize = cases.iter().map(|c| c.works.len()).sum();
     let share = budget / (works * (rounds + 1)) as u32;
     let mut goes: Vec<Vec<usize>> = Vec::new();
     for c in cases.iter_mut() {
-        goes.push(c.works.iter_mut().map(|(_, w)| goes_within(&mut **w, share)).collect());
+        goes.push(c.works.iter_mut().map(|(_, w)| goes_within(&mut **w, share, &clock)).collect());
     }
     let mut costs: Vec<Costs> = cases.iter().map(|c| c.costs(c.works.iter().map(|(s, _)| (*s, Vec::new())))).collect();
     for round in 0..rounds {
@@ -101,7 +103,7 @@ fn by_time(cases: &mut [Case], rounds: usize, budget: Duration) -> Vec<Costs> {
             let n = case.works.len();
             // each side is first in its turn
             for i in (0..n).map(|i| (i + round) % n) {
-                costs[c].sides[i].1.push(timed(&mut *case.works[i].1, goes[c][i]));
+                costs[c].sides[i].1.push(timed(&mut *case.works[i].1, goes[c][i], &clock));
             }
         }
     }

@@ -19,6 +19,7 @@ pub enum Goal {
     Stated,
 }
 
+#[derive(Clone, Copy)]
 pub struct Row {
     pub name: &'static str,
     pub title: &'static str,
@@ -59,6 +60,8 @@ const FULL: usize = 3120;
 const SIZES: [usize; 5] = [195, 390, 780, 1560, FULL];
 const HELD: [usize; 4] = [240, 480, 960, 1920];
 const AGAIN: [usize; 4] = [230, 460, 920, 1840];
+/// UUIDs that are looked up, of each kind.
+const LOOKS: usize = 512;
 
 fn case(label: String, port: impl Work + 'static, gilrs: impl Work + 'static) -> Case {
     Case { family: String::new(), label, works: vec![(Side::Port, Box::new(port)), (Side::Gilrs, Box::new(gilrs))] }
@@ -167,8 +170,9 @@ fn insert_again(_: &[List]) -> Vec<Case> {
 
 fn look(call: Call, uuids: &[Uuid], store: Store, label: String) -> Case {
     let n = uuids.len();
-    let held: Vec<Uuid> = (0..64).map(|k| uuids[(k * 37 * n / 64) % n]).collect();
-    let absent: Vec<Uuid> = uuids::random(n + 64).split_off(n);
+    let mut r = Rng::new(10);
+    let held: Vec<Uuid> = (0..LOOKS).map(|_| r.pick(uuids)).collect();
+    let absent: Vec<Uuid> = uuids::random(n + LOOKS).split_off(n);
     let gilrs = rust::Look::of(&text_of(uuids), &held, &absent);
     let c = case(label, here::Look { store: store.clone(), call, held, absent, turn: 0, out: vec![0; 4096] }, gilrs);
     with_passes(c, &store)
@@ -213,7 +217,7 @@ fn map(n: u32) -> Vec<Case> {
     let pad = Pad { buttons: inputs::buttons(n), axes: Vec::new() };
     let mut r = Rng::new(9);
     let ask = |_| if r.one_in(8) { 0x20000 + r.below(64) as u32 } else { r.pick(&pad.buttons) };
-    let codes: Vec<u32> = (0..4096).map(ask).collect();
+    let codes: Vec<u32> = (0..16384).map(ask).collect();
     let reading = Reading::of(line.as_bytes(), &pad.buttons, &pad.axes);
     assert_eq!(reading.answer().map(|m| m.entries.len()), Ok(n as usize));
     let gilrs = rust::Map::of(&line, &pad, &codes);
