@@ -1,5 +1,5 @@
-//! Instruction counts: the program runs under `valgrind --tool=callgrind` and asks it, by valgrind's client requests, to
-//! write what it has counted into a file.
+//! Instruction counts: the program runs under `valgrind --tool=callgrind` and asks it, by valgrind's client requests,
+//! to write what it has counted into a file.
 use std::arch::asm;
 use std::path::PathBuf;
 

@@ -24,8 +24,9 @@ fn object(fields: &[(&str, String)]) -> String {
 }
 
 fn number(s: Spread) -> String {
-    let fields = [("median", s.median), ("q1", s.quartiles.0), ("q3", s.quartiles.1), ("min", s.ends.0), ("max", s.ends.1)];
-    object(&fields.map(|(k, v)| (k, v.to_string())))
+    let names = ["median", "q1", "q3", "min", "max"];
+    let values = [s.median, s.quartiles.0, s.quartiles.1, s.ends.0, s.ends.1];
+    object(&names.into_iter().zip(values.map(|v| v.to_string())).collect::<Vec<_>>())
 }
 
 fn case(c: &Costs) -> String {

@@ -63,7 +63,7 @@ fn report(o: &Options) -> Box<dyn Report> {
     notes.push(if instructions {
         "instructions of a call, counted by callgrind".to_string()
     } else {
-        format!("processor time of a call, medians of {} rounds; ratios round by round, median and quartiles", o.rounds)
+        format!("processor time of a call, medians of {} rounds; ratios of each round, median and quartiles", o.rounds)
     });
     match o.hold {
         Some(most) => Box::new(hold::Hold::new(most)),

@@ -114,8 +114,8 @@ fn build(lists: &[List]) -> Vec<Case> {
 
 fn insert(lists: &[List]) -> Vec<Case> {
     let one = |l: &List| {
-        let text = inputs::fitting(&l.text);
         let fresh = Store::fresh(BUFFER, BUFFER);
+        let text = inputs::fitting(&l.text);
         let label = format!("{}, {} lines, {} bytes", l.name, text.lines().count(), text.len());
         let gilrs = rust::Insert::of("", &text);
         let port = here::Insert { before: fresh.clone(), store: fresh.clone(), text };

@@ -162,8 +162,8 @@ pub struct Map {
 
 impl Map {
     pub fn of(line: &str, pad: &Pad, asked: &[u32]) -> Self {
-        let map = Mapping::parse_sdl_mapping(line, &codes(&pad.buttons), &codes(&pad.axes)).expect("a line that reads");
-        Map { map, codes: codes(asked) }
+        let map = Mapping::parse_sdl_mapping(line, &codes(&pad.buttons), &codes(&pad.axes));
+        Map { map: map.expect("a line that reads"), codes: codes(asked) }
     }
 }
 

@@ -14,11 +14,11 @@ pub const ORDINARY: [Family; 3] = [
 ];
 
 pub const CONSTRUCTED: [Family; 5] = [
-    Family { name: "one bucket", list: one_bucket },
-    Family { name: "chains of 16", list: chains },
-    Family { name: "chains of 16, the last longer", list: chains_and_sort },
-    Family { name: "one bucket, columns alike but for the last", list: columns },
-    Family { name: "chains of 16, columns alike but for the last", list: chains_and_columns },
+    Family { name: "one bucket", list: |n| one_bucket(n, multiple) },
+    Family { name: "one bucket, first halves alike", list: |n| one_bucket(n, |_| 0) },
+    Family { name: "long chains", list: long_chains },
+    Family { name: "long chains, one too long", list: |n| too_long(n, multiple) },
+    Family { name: "long chains, one too long, first halves alike", list: |n| too_long(n, |_| 0) },
 ];
 
 /// As SDL makes them: bus, vendor, product and version, low byte first, each followed by two zeros.
@@ -47,55 +47,74 @@ fn ascending(n: usize) -> Vec<Uuid> {
     (0..n as u128).map(u128::to_be_bytes).collect()
 }
 
-/// The UUID whose first and last eight bytes are these numbers, low byte first.
-fn halves(x: u64, y: u64) -> Uuid {
-    let mut u = [0; 16];
-    u[..8].copy_from_slice(&x.to_le_bytes());
-    u[8..].copy_from_slice(&y.to_le_bytes());
-    u
+/// The UUID whose first and last eight bytes are these numbers, high byte first.
+fn halves(high: u64, low: u64) -> Uuid {
+    ((high as u128) << 64 | low as u128).to_be_bytes()
 }
 
-// The store puts a UUID into one of 4096 buckets, (31 x + y) mod 4096 with x and y the halves mod 65521, and looks at no
-// more than 16 of a bucket before it sorts instead, byte by byte from the first on.
+// What the lists aim at: the store puts a UUID into one of 4096 buckets, (31 high + low) mod 4096 with the halves taken
+// mod 65521, compares it with at most 16 of its bucket, and sorts all by their halves where a bucket has more.
 const PRIME: u64 = 65521;
-const CHAIN: usize = 16;
+const CHAIN: usize = 17;
 
-/// A multiple of 65521 with every byte at random.
+/// A multiple of 65521, of any size.
 fn multiple(r: &mut Rng) -> u64 {
     PRIME * (r.next() >> 6)
 }
 
-/// All in bucket 0: the sort at once.
-fn one_bucket(n: usize) -> Vec<Uuid> {
+/// All in bucket 0: the sort, at once. Where first halves are alike, each comparison has to look at both.
+fn one_bucket(n: usize, first: fn(&mut Rng) -> u64) -> Vec<Uuid> {
     let mut r = Rng::new(4);
-    (0..n).map(|_| halves(multiple(&mut r), multiple(&mut r))).collect()
+    (0..n).map(|_| halves(first(&mut r), multiple(&mut r))).collect()
 }
 
-/// As many buckets as hold 16 each: every UUID is compared with those before it in its bucket, and none is sorted.
-fn chains(n: usize) -> Vec<Uuid> {
+/// As many as can be in each bucket: each UUID is compared with all before it there, and nothing is sorted.
+fn long_chains(n: usize) -> Vec<Uuid> {
+    chains(n, n.div_ceil(CHAIN), multiple)
+}
+
+/// The same, and one more in the first bucket at the end: all the comparisons, and then the sort.
+fn too_long(n: usize, first: fn(&mut Rng) -> u64) -> Vec<Uuid> {
+    let mut u = chains(n - 1, (n - 1).div_ceil(CHAIN), first);
+    u.push(halves(0, 0));
+    u
+}
+
+fn chains(n: usize, buckets: usize, first: fn(&mut Rng) -> u64) -> Vec<Uuid> {
     let mut r = Rng::new(5);
-    let buckets = n.div_ceil(CHAIN);
-    (0..n).map(|i| halves(multiple(&mut r), multiple(&mut r) + (i % buckets) as u64)).collect()
+    (0..n).map(|k| halves(first(&mut r), multiple(&mut r) + (k % buckets) as u64)).collect()
 }
 
-/// The last one longer by one: all the comparisons, and then the sort.
-fn chains_and_sort(n: usize) -> Vec<Uuid> {
-    let mut r = Rng::new(6);
-    let buckets = (n - 1) / (CHAIN + 1) + 1;
-    (0..n).map(|i| halves(multiple(&mut r), multiple(&mut r) + (i % buckets) as u64)).collect()
-}
+#[cfg(test)]
+mod tests {
+    use super::*;
 
-/// All in bucket 0; only the last UUID shows that a column of bytes is not all alike.
-fn columns(n: usize) -> Vec<Uuid> {
-    let mut u: Vec<Uuid> = (0..n as u64 - 1).map(|i| halves(0, PRIME * i)).collect();
-    u.push(halves(PRIME * 0x0123_4567_89ab, PRIME * 0xba98_7654_3210));
-    u
-}
+    /// How many UUIDs are in each bucket that has some.
+    fn buckets(list: &[Uuid]) -> Vec<usize> {
+        let mut counts = std::collections::BTreeMap::new();
+        for u in list {
+            let n = u128::from_be_bytes(*u);
+            let (high, low) = ((n >> 64) as u64 % PRIME, n as u64 % PRIME);
+            *counts.entry((31 * high + low) % 4096).or_insert(0) += 1;
+        }
+        counts.into_values().collect()
+    }
 
-/// The same in buckets of 16.
-fn chains_and_columns(n: usize) -> Vec<Uuid> {
-    let buckets = ((n - 1) / (CHAIN + 1) + 1) as u64;
-    let mut u: Vec<Uuid> = (0..n as u64 - 1).map(|i| halves(0, PRIME * (i / buckets) + i % buckets)).collect();
-    u.push(halves(PRIME * 0x0123_4567_89ab, PRIME * 0xba98_7654_3210));
-    u
+    #[test]
+    fn families_are_what_they_say() {
+        for n in [195, 390, 780, 1560, 3120] {
+            for f in ORDINARY.iter().chain(&CONSTRUCTED) {
+                let list = (f.list)(n);
+                let once: std::collections::BTreeSet<&Uuid> = list.iter().collect();
+                assert_eq!(once.len(), n, "{}: no UUID twice", f.name);
+            }
+            assert_eq!(buckets(&one_bucket(n, multiple)), [n]);
+            assert_eq!(buckets(&long_chains(n)).into_iter().max(), Some(CHAIN));
+            for first in [multiple, |_: &mut Rng| 0] {
+                let list = too_long(n, first);
+                assert_eq!(buckets(&list[..n - 1]).into_iter().max(), Some(CHAIN));
+                assert_eq!(buckets(&list).into_iter().max(), Some(CHAIN + 1));
+            }
+        }
+    }
 }
