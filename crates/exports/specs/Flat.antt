@@ -1,4 +1,5 @@
--- How values of the layers are laid out as numbers at the C boundary. Assumes nothing.
+-- How values of the layers are laid out as numbers at the C boundary.
+-- The contracts of the exports rest on these definitions; they assume nothing.
 use Prim.Native.Nat.{ℕ}
 use mathlib.Core.Bool.{Bool, true, false}
 use Rattle.text.specs.Bytes.{pick}

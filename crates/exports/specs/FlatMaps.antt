@@ -1,4 +1,5 @@
--- Maps as numbers at the C boundary, and back. Assumes nothing.
+-- Maps as numbers at the C boundary, and back.
+-- The contracts of the exports rest on these definitions; they assume nothing.
 use Prim.Native.Nat.{ℕ}
 use mathlib.Core.Bool.{true, false}
 use mathlib.Core.List.{map}

@@ -1,4 +1,5 @@
--- Slots, and the answers of the map layer, as numbers at the C boundary. Assumes nothing.
+-- Slots, and the answers of the map layer, as numbers at the C boundary.
+-- The contracts of the exports rest on these definitions; they assume nothing.
 use Prim.Native.Nat.{ℕ}
 use mathlib.Core.Bool.{true, false}
 use mathlib.Core.List.{map}

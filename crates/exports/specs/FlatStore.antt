@@ -1,4 +1,5 @@
--- Answers of the store as numbers at the C boundary. Assumes nothing.
+-- Answers of the store as numbers at the C boundary.
+-- The contracts of the exports rest on these definitions; they assume nothing.
 use Prim.Native.Nat.{ℕ}
 use mathlib.Core.Bool.{Bool, true, false}
 use mathlib.Core.Option.{Option, none, some}

@@ -1,4 +1,5 @@
--- Answers of the walker as numbers at the C boundary. Assumes nothing.
+-- Answers of the walker as numbers at the C boundary.
+-- The contracts of the exports rest on these definitions; they assume nothing.
 use Prim.Native.Nat.{ℕ}
 use mathlib.Core.Bool.{true, false}
 use lib.Dec.{eqb}

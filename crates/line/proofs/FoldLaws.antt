@@ -16,12 +16,12 @@ use Rattle.line.specs.declared.parser.Answer.the-variants as An
 use Rattle.line.specs.declared.reading.puts.Puts.{Puts}
 use Rattle.line.specs.declared.reading.puts.Puts.the-variants.{Nothing, Name, One, Two, UnknownHatDirection}
 use Rattle.line.specs.declared.reading.ParseSdlMappingError.the-variants as Pe
-use Rattle.line.specs.Maps.{CODES_MAX, MapView, toMap, putEntry}
+use Rattle.line.specs.Maps.{CODES_MAX, MapView, toMap, putEntry, putsInto}
 use Rattle.line.specs.Pairs.{pairOf}
 use Rattle.line.specs.Puts.{listed, hatPuts, putsOf}
 use Rattle.line.specs.Reading.{refusedOf, acceptedOf, putOne, putAll, skips, taken, pairsFrom}
 use Rattle.line.specs.Effects.{does, stops, putsEffect, answerEffect, effectOf, entriesOf, flagsOf, AllGo}
-use Rattle.line.specs.Effects.{putsInto, orAll, after}
+use Rattle.line.specs.Effects.{orAll, after}
 use Rattle.line.proofs.ViewLaws.{with, put-grows, put-toMap}
 use Rattle.line.proofs.PairLaws.{PairAnswer, pair-answer, pair-anywhere}
 

@@ -10,8 +10,7 @@ use borrow.Author.Tests.{ne-eqb, le-leb}
 use lib.ListN.{length, drop-of-length-le}
 use Rattle.text.specs.Bytes.{byte, ascii, firstOf}
 use Rattle.text.specs.Utf8.{isUtf8}
-use Rattle.text.specs.Uuid.{uuidText}
-use Rattle.text.specs.Inner.{Small}
+use Rattle.text.specs.Uuid.{uuidText, Small}
 use Rattle.text.specs.declared.uuid.Uuid.{Uuid}
 use Rattle.text.specs.declared.uuid.UuidParse.{UuidParse}
 use Rattle.text.specs.declared.uuid.UuidParse.the-variants as Up
@@ -20,12 +19,13 @@ use Rattle.text.proofs.BytesLaws.{same-lengths}
 use Rattle.text.proofs.UuidLaws.{uuid-back, uuidText-length}
 use Rattle.line.specs.declared.parser.ErrorKind.the-variants as Ek
 use Rattle.line.specs.declared.reading.SdlMapping.{SdlMapping}
-use Rattle.line.specs.Maps.{CODES_MAX, MapView, toMap, emptyMap}
-use Rattle.line.specs.Fields.{fieldsOf, firstField, laterFields}
+use Rattle.line.specs.Maps.{CODES_MAX, MapView, toMap, emptyMap, putsInto}
+use Rattle.line.specs.Fields.{fieldsOf, firstField}
+use Rattle.line.specs.Inner.{laterFields}
 use Rattle.line.specs.Walker.{guidOf}
 use Rattle.line.specs.Reading.{LIST_MAX, parseError, acceptedOf, pairsFrom, namedFrom, headed, readLine}
 use Rattle.line.specs.Reading.{readingOf}
-use Rattle.line.specs.Effects.{entriesOf, flagsOf, AllGo, putsInto, after}
+use Rattle.line.specs.Effects.{entriesOf, flagsOf, AllGo, after}
 use Rattle.line.proofs.ReadingLaws.{line-head}
 use Rattle.line.proofs.FoldLaws.{pairs-fit}
 use Rattle.line.proofs.JoinLaws.{Free, AllFree, joined, lineOf, later-fields, first-after, take-before}

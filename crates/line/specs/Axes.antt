@@ -1,4 +1,5 @@
--- The axes, by the fixed numbers of src/constants.rs.
+-- "`Button::South` and its fellows carry the fixed numbers of src/constants.rs": the axes.
+-- Public contracts rest on these definitions; they assume nothing.
 use Rattle.line.specs.declared.ev.Axis.{Axis}
 
 abbrev pub Unknown : Axis

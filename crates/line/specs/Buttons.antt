@@ -1,4 +1,5 @@
 -- "`Button::South` and its fellows carry the fixed numbers of src/constants.rs": the buttons.
+-- Public contracts rest on these definitions; they assume nothing.
 use Rattle.line.specs.declared.ev.Button.{Button}
 
 abbrev pub Unknown : Button

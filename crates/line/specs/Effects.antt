@@ -1,12 +1,12 @@
--- What pairs put, wherever they stand: the entries and flags that a reading is made of. No public contract cites these;
--- the read-back of a built line is stated by them. Assumes nothing.
+-- What pairs put, wherever they stand: the law that a built line reads back is stated by these.
+-- No public contract rests on these: a reader may leave them out.
 use Prim.Native.Nat.{ℕ}
 use mathlib.Core.List.{List, [], _∷_, _++_}
 use mathlib.Core.Path.{_≡_}
 use mathlib.Core.Bool.{Bool, true, false}
 use lib.Bits.{bitOr}
 use Rattle.text.specs.Bytes.{pick}
-use Rattle.line.specs.Maps.{MapView, putEntry}
+use Rattle.line.specs.Maps.{MapView, putsInto}
 use Rattle.line.specs.declared.mapping.Entry.{Entry}
 use Rattle.line.specs.Puts.{putsOf}
 use Rattle.line.specs.Reading.{skips}
@@ -58,11 +58,7 @@ unfoldable pub AllGo : List (List ℕ) → List ℕ → List ℕ → Type 0
 AllGo [] buttons axes = Unit {0}
 AllGo (f ∷ fs) buttons axes = (effectOf f buttons axes .goes ≡ true) × AllGo fs buttons axes
 
--- entries put one after the other, and flags or-ed in
-unfoldable pub putsInto : List Entry → List Entry → List Entry
-putsInto [] xs = xs
-putsInto (e ∷ es) xs = putsInto es (putEntry e xs)
-
+-- flags or-ed in
 unfoldable pub orAll : List ℕ → ℕ → ℕ
 orAll [] h = h
 orAll (f ∷ fs) h = orAll fs (bitOr h f)

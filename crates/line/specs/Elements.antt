@@ -1,4 +1,5 @@
--- Elements and their native codes (document 01, 'Records'), and the element calls of ev/mod.rs. Assumes nothing.
+-- Elements and their native codes (document 01, 'Records'), and the element calls of ev/mod.rs.
+-- Public contracts rest on these definitions; they assume nothing.
 use Prim.Native.Nat.{ℕ, _+_, _-_}
 use mathlib.Core.Bool.{Bool, true, false}
 use mathlib.Core.List.{List, [], _∷_}
@@ -16,7 +17,8 @@ use Rattle.line.specs.declared.ev.SecondAxis.the-variants as Sa
 use Rattle.line.specs.Buttons as B
 use Rattle.line.specs.Axes as A
 
--- ---- native codes: "kind times 65536 plus number", hexadecimal
+-- ---- "An event code is a 32-bit number of its own kind, `Code` in the Rust, never to be taken for a place in a list."
+-- native codes: "kind times 65536 plus number", hexadecimal
 abbrev pub codeOf : ℕ → Code
 codeOf c = record { 0 = c }
 

@@ -1,4 +1,5 @@
--- The fields of a line, and how it is cut. Assumes nothing.
+-- The fields of a line, and how it is cut (document 01, 'Walker').
+-- Public contracts rest on these definitions; they assume nothing.
 use Prim.Native.Nat.{ℕ, suc, _+_, _-_}
 use mathlib.Core.List.{List, [], _∷_}
 use lib.Dec.{eqb}
@@ -18,7 +19,7 @@ countOf b (x ∷ s) = pick (eqb x b) (suc (countOf b s)) (countOf b s)
 abbrev pub field : List ℕ → ℕ → ℕ → List ℕ
 field s p e = take (e - p) (drop p s)
 
--- a byte before the first field
+-- a byte before the first of the texts
 abbrev pub before : ℕ → List (List ℕ) → List (List ℕ)
 before b [] = (b ∷ []) ∷ []
 before b (f ∷ fs) = (b ∷ f) ∷ fs
@@ -28,9 +29,6 @@ unfoldable pub fieldsOf : List ℕ → List (List ℕ)
 fieldsOf [] = []
 fieldsOf (b ∷ s) = pick (eqb b (byte ",")) ([] ∷ fieldsOf s) (before b (fieldsOf s))
 
--- "First field (up to a comma or the end)", and the fields after that comma: the name and the pairs
+-- "First field (up to a comma or the end)"
 abbrev pub firstField : List ℕ → List ℕ
 firstField s = take (firstOf (byte ",") s) s
-
-abbrev pub laterFields : List ℕ → List (List ℕ)
-laterFields s = fieldsOf (drop (firstOf (byte ",") s + 1) s)

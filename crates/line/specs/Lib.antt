@@ -1,4 +1,4 @@
--- what a reader of the contracts meets, in document 01's order
+-- The definitions of the line layer, in document 01's order: what a reader of the contracts meets.
 pub mod Buttons
 pub mod Axes
 pub mod Elements
@@ -12,6 +12,6 @@ pub mod Parser
 pub mod Puts
 pub mod Reading
 pub mod Refusals
--- what private helpers and proofs need
+-- what private functions and proofs need
 pub mod Inner
 pub mod Effects

@@ -1,4 +1,5 @@
--- The map from codes to elements (document 01, 'Records' and 'Also'). Assumes nothing.
+-- The map from codes to elements (document 01, 'Records' and 'Also').
+-- Public contracts rest on these definitions; they assume nothing.
 use Prim.Native.Nat.{ℕ, _-_, _<_}
 use mathlib.Core.List.{List, [], _∷_, _++_}
 use mathlib.Core.Bool.{Bool, false}
@@ -71,12 +72,17 @@ Ascending [] = Unit {0}
 Ascending (x ∷ xs) = Below (x .code .0) xs × Ascending xs
 
 -- ---- a put
--- e among xs: in the place of the entry with its code, else before the first larger one
+-- e among xs, "ascending by code": in the place of the entry with its code, else before the first larger one
 unfoldable pub putEntry : Entry → List Entry → List Entry
 putEntry e [] = e ∷ []
 putEntry e (x ∷ xs) =
     pick (ltb (e .code .0) (x .code .0)) (e ∷ x ∷ xs)
     (pick (eqb (x .code .0) (e .code .0)) (e ∷ xs) (x ∷ putEntry e xs))
+
+-- "A later pair replaces an earlier one of its code": entries put one after the other
+unfoldable pub putsInto : List Entry → List Entry → List Entry
+putsInto [] xs = xs
+putsInto (e ∷ es) xs = putsInto es (putEntry e xs)
 
 -- m with the entries es, the later ones as they were
 abbrev pub withEntries : Mapping → List Entry → Mapping

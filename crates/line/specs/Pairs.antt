@@ -1,4 +1,5 @@
--- A pair that starts at p of the line (document 01, 'Walker'): "checks in this order". Assumes nothing.
+-- A pair that starts at p of the line (document 01, 'Walker'): "checks in this order".
+-- Public contracts rest on these definitions; they assume nothing.
 use Prim.Native.Nat.{ℕ, _+_}
 use mathlib.Core.List.{List}
 use mathlib.Core.Bool.{Bool, false}
@@ -29,11 +30,13 @@ refuse k p = Refused (record { kind = k; position = p })
 unfoldable pub halfOf : List ℕ → AxisRange
 halfOf k = pick (startsWith (byte "+") k) Ar.UpperHalf (pick (startsWith (byte "-") k) Ar.LowerHalf Ar.Full)
 
+-- the bytes of the sign that is cut off
 abbrev pub skipOf : AxisRange → ℕ
 skipOf Ar.UpperHalf = 1
 skipOf Ar.LowerHalf = 1
 skipOf Ar.Full = 0
 
+-- the half of the input (the value's sign) and of the output (the key's), and whether it is inverted
 abbrev pub rangesOf : AxisRange → AxisRange → Bool → Ranges
 rangesOf input output inverted = record { input = input; output = output; inverted = inverted }
 

@@ -1,8 +1,8 @@
--- The walker as a struct of the line, a position and a state (document 01, 'Walker'). Assumes nothing.
+-- The walker as a struct of the line, a position and a state (document 01, 'Walker').
+-- Public contracts rest on these definitions; they assume nothing.
 use Prim.Native.Nat.{ℕ}
 use mathlib.Core.List.{List}
 use denote.Ref.{RefT, now}
-use Rattle.line.specs.declared.parser.Moved.{Moved}
 use Rattle.line.specs.declared.parser.Parser.{Parser}
 use Rattle.line.specs.declared.parser.Stepped.{Stepped}
 use Rattle.line.specs.Walker.{startOf, stepOf}
@@ -14,10 +14,6 @@ parserOf s = record { «data» = s; pos = 0; state = startOf (now s) }
 -- the step before which a walker stands
 abbrev pub stepFrom : Parser → Stepped
 stepFrom p = stepOf (now (p .«data»)) (p .pos) (p .state)
-
--- where a step leads
-abbrev pub leads : Stepped → Moved
-leads s = record { pos = s .pos; state = s .state }
 
 -- the walker after its step: the same line, the step's position and state
 abbrev pub moved : Parser → Parser

@@ -1,4 +1,5 @@
--- What a token puts into the map (document 01, 'Reading'). Assumes nothing.
+-- What a token puts into the map (document 01, 'Reading').
+-- Public contracts rest on these definitions; they assume nothing.
 use Prim.Native.Nat.{ℕ}
 use mathlib.Core.List.{List}
 use lib.ListN.{length, getD}

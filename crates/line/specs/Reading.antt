@@ -1,4 +1,5 @@
--- The reading of a line (document 01, 'Reading'): a fold over its pairs. Assumes nothing.
+-- The reading of a line (document 01, 'Reading'), pair by pair.
+-- Public contracts rest on these definitions; they assume nothing.
 use Prim.Native.Nat.{ℕ, _+_}
 use mathlib.Core.List.{List, [], _∷_}
 use mathlib.Core.Bool.{Bool, true, false}
@@ -47,6 +48,7 @@ abbrev pub follow : SdlAnswer → SdlMapping → SdlMapping → SdlMapping
 follow Accepted part rest = rest
 follow (Refused e) part rest = part
 
+-- "Name start": m with that name's start and length
 abbrev pub withName : Mapping → ℕ → ℕ → Mapping
 withName m start len =
     record {
@@ -58,6 +60,7 @@ withName m start len =
       «hats_mapped» = m .«hats_mapped»;
     }
 
+-- "The direction is or-ed into the flags."
 abbrev pub withHat : Mapping → ℕ → Mapping
 withHat m d =
     record {
@@ -75,6 +78,7 @@ abbrev pub storedAt : PutResult → Mapping → ℕ → SdlMapping
 storedAt Stored m p = acceptedOf m
 storedAt Full m p = refusedOf (Pe.TooManyCodes p)
 
+-- an entry put by the pair at p; one after an accepted put; the flags after accepted puts
 unfoldable pub putOne : Mapping → Entry → ℕ → SdlMapping
 putOne m e p = storedAt (putOf m e .answer) (putOf m e .map) p
 

@@ -1,5 +1,5 @@
 -- "Where an answer is an enum, a definition states this paper's number and values for every one of its cases."
--- Assumes nothing.
+-- Public contracts rest on these definitions; they assume nothing.
 use Prim.Native.Nat.{ℕ}
 use Rattle.line.specs.declared.ev.Code.{Code}
 use Rattle.line.specs.declared.mapping.PutResult.{PutResult}

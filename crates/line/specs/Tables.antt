@@ -1,4 +1,5 @@
--- The key names of mapping lines and the elements that they name (document 01, 'Walker' and 'Build'). Assumes nothing.
+-- The key names of mapping lines and the elements that they name (document 01, 'Walker' and 'Build').
+-- Public contracts rest on these definitions; they assume nothing.
 use Prim.Native.Nat.{ℕ, zero, suc, _+_, _-_}
 use mathlib.Core.Bool.{Bool, true, false}
 use mathlib.Core.List.{List, [], _∷_, _++_, map}

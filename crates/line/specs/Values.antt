@@ -1,4 +1,5 @@
--- The value of a pair that starts at p of the line (document 01, 'Walker'). Assumes nothing.
+-- The value of a pair that starts at p of the line (document 01, 'Walker').
+-- Public contracts rest on these definitions; they assume nothing.
 use Prim.Native.Nat.{ℕ, _+_, _-_}
 use mathlib.Core.List.{List}
 use mathlib.Core.Bool.{Bool, true, false}

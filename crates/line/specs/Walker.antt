@@ -1,6 +1,7 @@
--- The walker over one line, step by step on positions (document 01, 'Walker'). Assumes nothing.
-use Prim.Native.Nat.{ℕ, zero, suc, _+_, _-_}
-use mathlib.Core.List.{List, [], _∷_}
+-- The walker over one line, step by step on positions (document 01, 'Walker').
+-- Public contracts rest on these definitions; they assume nothing.
+use Prim.Native.Nat.{ℕ, _+_, _-_}
+use mathlib.Core.List.{List}
 use lib.Dec.{eqb, ltb}
 use lib.ListN.{length}
 use Rattle.text.specs.Bytes.{pick, byte, ascii, same}
@@ -18,6 +19,7 @@ use Rattle.line.specs.declared.parser.Stepped.{Stepped}
 use Rattle.line.specs.Fields.{findFrom, field}
 use Rattle.line.specs.Pairs.{refuse, pairOf}
 
+-- a step: its answer, and the position and state after it
 abbrev pub stepped : Answer → ℕ → State → Stepped
 stepped a p st = record { answer = a; pos = p; state = st }
 
@@ -47,19 +49,3 @@ startOf s = pick (isUtf8 s) St.Uuid St.NotUtf8
 -- "At or past the line's end: end."
 unfoldable pub stepOf : List ℕ → ℕ → State → Stepped
 stepOf s p st = pick (ltb p (length s)) (fieldStep s p (findFrom (byte ",") s p) st) (stepped End p st)
-
--- ---- step after step: the answers from p on, before the end, of at most as many steps as the first number says
-unfoldable pub walked : ℕ → List ℕ → ℕ → State → List Answer
-walked zero s p st = []
-walked (suc n) s p st =
-    pick (ltb p (length s)) (stepOf s p st .answer ∷ walked n s (stepOf s p st .pos) (stepOf s p st .state)) []
-
--- the answers for pairs, the first of them at p
-unfoldable pub pairsAt : ℕ → List (List ℕ) → List Answer
-pairsAt p [] = []
-pairsAt p (f ∷ fs) = pairOf f p ∷ pairsAt (p + length f + 1) fs
-
--- the answers for the fields after the first comma, the first of them at p: the name, then the pairs
-unfoldable pub namedAt : ℕ → List (List ℕ) → List Answer
-namedAt p [] = []
-namedAt p (f ∷ fs) = Found (Tk.Name p (length f)) ∷ pairsAt (p + length f + 1) fs

@@ -24,7 +24,8 @@ use Rattle.map.specs.Lists.{placeOf, inList}
 use Rattle.map.specs.Slots.{buttonOf, axisOf}
 use Rattle.map.specs.Build.{also, filledFrom, filledButtons, filledAxes, missingOf, checksOf, builtLine}
 use Rattle.map.specs.Build.{answerOf}
-use Rattle.map.specs.Bounds.{lineMax, pairMax, pairsMax, builtMax}
+use Rattle.map.specs.Bounds.{lineMax}
+use Rattle.map.specs.Inner.{pairMax, pairsMax, builtMax}
 use Rattle.map.specs.Inner.{pairLength, pairsLength}
 use Rattle.map.proofs.CheckLaws.{Passed, passed}
 use Rattle.map.proofs.LengthLaws.{decimal-grows, line-length}

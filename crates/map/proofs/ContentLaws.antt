@@ -12,8 +12,8 @@ use lib.ListN.{length}
 use Rattle.text.specs.Bytes.{pick, byte, same, firstOf}
 use Rattle.text.specs.Decimal.{isDigit, decimal}
 use Rattle.text.specs.Utf8.{isUtf8}
-use Rattle.text.specs.Uuid.{isFrom, uuidText, uuidOf}
-use Rattle.text.specs.Inner.{every, isAscii, either, isLowerHex, Small}
+use Rattle.text.specs.Uuid.{isFrom, uuidText, uuidOf, Small}
+use Rattle.text.specs.Inner.{every, isAscii, either, isLowerHex}
 use Rattle.text.specs.declared.uuid.Uuid.{Uuid}
 use Rattle.text.specs.declared.uuid.UuidParse.the-variants.{Parsed}
 use Rattle.text.proofs.ListLaws.{lt-or-le, both-parts, off}

@@ -8,8 +8,7 @@ use native.Mathlib.Omega.{arith}
 use lib.ListN.{length, drop, getD, length-take, drop-of-length-le}
 use Rattle.line.specs.declared.mapping.Entry.{Entry}
 use Rattle.line.specs.declared.mapping.Mapping.{Mapping}
-use Rattle.line.specs.Maps.{CODES_MAX, MapView, Ascending, putEntry, putOf, toMap, emptyMap}
-use Rattle.line.specs.Effects.{putsInto}
+use Rattle.line.specs.Maps.{CODES_MAX, MapView, Ascending, putEntry, putOf, toMap, emptyMap, putsInto}
 use Rattle.line.proofs.PutLaws.{put-ascending}
 use Rattle.line.proofs.ViewLaws.{with, put-adds, put-map}
 use Rattle.line.proofs.FoldLaws.{puts-append}

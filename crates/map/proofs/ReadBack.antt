@@ -9,14 +9,13 @@ use borrow.Author.Tests.{eqb-true}
 use lib.Dec.{eqb}
 use lib.ListN.{length, getD, length-append}
 use Rattle.text.specs.Bytes.{pick, byte, firstOf}
-use Rattle.text.specs.Uuid.{uuidText}
-use Rattle.text.specs.Inner.{Small}
+use Rattle.text.specs.Uuid.{uuidText, Small}
 use Rattle.text.specs.declared.uuid.Uuid.{Uuid}
 use Rattle.text.proofs.UuidLaws.{uuidText-length}
 use Rattle.line.specs.declared.mapping.Entry.{Entry}
 use Rattle.line.specs.Elements.{codeOf}
-use Rattle.line.specs.Maps.{CODES_MAX, MapView, entryOf, toMap}
-use Rattle.line.specs.Effects.{does, effectOf, entriesOf, flagsOf, AllGo, putsInto, orAll, after, Effect}
+use Rattle.line.specs.Maps.{CODES_MAX, MapView, entryOf, toMap, putsInto}
+use Rattle.line.specs.Effects.{does, effectOf, entriesOf, flagsOf, AllGo, orAll, after, Effect}
 use Rattle.line.specs.Reading.{LIST_MAX, acceptedOf, readingOf}
 use Rattle.line.specs.Tables.{identText}
 use Rattle.line.proofs.CountLaws.{count-none}

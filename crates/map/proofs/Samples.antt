@@ -12,8 +12,7 @@ use Rattle.text.specs.Uuid.{hexText}
 use Rattle.text.specs.declared.uuid.Uuid.{Uuid}
 use Rattle.line.specs.Buttons as B
 use Rattle.line.specs.Elements.{AXIS_DPADY, codeOf}
-use Rattle.line.specs.Effects.{putsInto}
-use Rattle.line.specs.Maps.{MapView, entryOf, putEntry, toMap}
+use Rattle.line.specs.Maps.{MapView, entryOf, putEntry, putsInto, toMap}
 use Rattle.line.specs.Reading.{readingOf}
 use Rattle.line.specs.Tables.{axesSdl, axes, elementFrom, elementRow, asAxis}
 use Rattle.line.proofs.Samples.{Sample, Gives, Holds, samples, samples-hold, U, button}

@@ -1,5 +1,5 @@
 -- Build (document 01, 'Build'; its refusals in 'Refusals by number'): the line and the map of the filled slots.
--- Assumes nothing: these are definitions.
+-- Public contracts rest on these definitions; they assume nothing.
 use Prim.Native.Nat.{ℕ, zero, suc}
 use mathlib.Core.Path.{_≡_}
 use mathlib.Core.Bool.{Bool, false}
@@ -16,8 +16,7 @@ use Rattle.line.specs.declared.mapping.Entry.{Entry}
 use Rattle.line.specs.declared.mapping.Mapping.{Mapping}
 use Rattle.line.specs.Buttons as B
 use Rattle.line.specs.Axes as A
-use Rattle.line.specs.Maps.{MapView, entryOf, toMap, emptyMap}
-use Rattle.line.specs.Effects.{putsInto}
+use Rattle.line.specs.Maps.{MapView, entryOf, toMap, emptyMap, putsInto}
 use Rattle.line.specs.Reading.{listsFit}
 use Rattle.line.specs.Tables.{asButton, asAxis, identText}
 use Rattle.map.specs.declared.error.MappingError.{MappingError}
@@ -53,6 +52,7 @@ filledAxes d = filledFrom (λ k. axisOf d (record { 0 = k })) asAxis axisSlots 0
 abbrev pub NAME_MAX : ℕ
 NAME_MAX = 2048
 
+-- refused unless (when) the test holds, else as the rest says
 abbrev pub unless : Bool → MappingError → MappingAnswer → MappingAnswer
 unless t e rest = pick t rest (Refused e)
 
@@ -68,6 +68,7 @@ unfoldable pub missingOf : List Entry → List ℕ → SlotCode
 missingOf [] codes = Nothing
 missingOf (e ∷ es) codes = pick (inList (e .code) codes) (missingOf es codes) (Is (e .code))
 
+-- 15 when a code is missing
 abbrev pub whenMissing : SlotCode → MappingAnswer → MappingAnswer
 whenMissing (Is c) rest = Refused (Me.InvalidCode c)
 whenMissing Nothing rest = rest
@@ -138,6 +139,7 @@ unfoldable pub builtMap : MappingData → List ℕ → Mapping
 builtMap d name = toMap (builtView d name)
 
 -- ---- what build answers and leaves, room being the length of the output
+-- a refusal of the earlier checks stays
 abbrev pub after : MappingAnswer → MappingAnswer → MappingAnswer
 after Accepted rest = rest
 after (Refused e) rest = Refused e

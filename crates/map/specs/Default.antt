@@ -1,4 +1,5 @@
--- The default map of two lists of codes (document 01, 'Also'). Assumes nothing: these are definitions.
+-- The default map of two lists of codes (document 01, 'Also').
+-- Public contracts rest on these definitions; they assume nothing.
 use Prim.Native.Nat.{ℕ, zero, suc}
 use mathlib.Core.List.{List, [], _∷_, _++_}
 use mathlib.Core.Bool.{Bool, true}
@@ -10,6 +11,7 @@ use Rattle.line.specs.declared.mapping.Entry.{Entry}
 use Rattle.line.specs.Buttons as B
 use Rattle.line.specs.Axes as A
 use Rattle.line.specs.Elements.{buttonCode, axisCode, AXIS_DPADX, AXIS_DPADY, AXIS_LT, AXIS_RT, AXIS_LT2, AXIS_RT2}
+use Rattle.line.specs.Elements.{BUTTON_LAST}
 use Rattle.line.specs.Maps.{MapView, entryOf, putEntry, toMap, emptyMap}
 use Rattle.line.specs.Reading.{listsFit}
 use Rattle.line.specs.Tables.{asButton, asAxis}
@@ -37,7 +39,7 @@ axisRow k = entryOf (axisCode k) (asAxis k)
 -- "(AXIS_DPADX to axis 7, AXIS_DPADY to axis 8), AXIS_LT, AXIS_RT, AXIS_LT2, AXIS_RT2 to buttons 7, 8, 9, 10"
 unfoldable pub rows : List Entry
 rows =
-    numbered buttonRow 19 1
+    numbered buttonRow BUTTON_LAST 1
     ++ (numbered axisRow 6 1
     ++ (entryOf AXIS_DPADX (Axis A.DPadX)
     ∷ entryOf AXIS_DPADY (Axis A.DPadY)
@@ -55,6 +57,7 @@ inItsList buttons axes c = pick (ltb (c .0) (axisCode 1 .0)) (inList c buttons) 
 abbrev pub staysUnlisted : Code → Bool
 staysUnlisted c = eqb (c .0) 0x10131
 
+-- the code stays in the map
 unfoldable pub keptOf : List ℕ → List ℕ → Code → Bool
 keptOf buttons axes c = pick (staysUnlisted c) true (inItsList buttons axes c)
 

@@ -1,6 +1,6 @@
--- What the contracts of private functions say. No public contract cites these.
--- Assumes nothing: these are definitions.
-use Prim.Native.Nat.{ℕ, _+_, _≤_}
+-- What the contracts of private functions say.
+-- No public contract rests on these: a reader may leave them out.
+use Prim.Native.Nat.{ℕ, zero, suc, _+_, _-_, _≤_}
 use mathlib.Core.Path.{_≡_}
 use mathlib.Core.List.{List, [], _∷_, _++_}
 use lib.ListN.{length, take, replicate}
@@ -15,12 +15,13 @@ use Rattle.line.specs.declared.mapping.Entry.{Entry}
 use Rattle.line.specs.declared.mapping.Mapping.{Mapping}
 use Rattle.line.specs.Maps.{unusedEntry, putOf}
 use Rattle.line.specs.Reading.{LIST_MAX}
-use Rattle.line.specs.Tables.{identText}
+use Rattle.line.specs.declared.ev.AxisOrBtn.{AxisOrBtn}
+use Rattle.line.specs.Tables.{identText, asButton, asAxis}
 use Rattle.map.specs.declared.from_data.filled.Filled.{Filled}
 use Rattle.map.specs.declared.mapping_data.MappingData.{MappingData}
 use Rattle.map.specs.Lists.{placeOf}
 use Rattle.map.specs.Slots.{buttonSlots}
-use Rattle.map.specs.Build.{filledButtons, filledAxes, nameStart, builtLine}
+use Rattle.map.specs.Build.{NAME_MAX, filledButtons, filledAxes, nameStart, builtLine}
 
 -- ---- the filled slots that the program has gathered
 abbrev pub heldIn : Filled → List Entry
@@ -94,3 +95,17 @@ uptoOf TooShort = 0
 unfoldable pub putAll : Mapping → List Entry → Mapping
 putAll m [] = m
 putAll m (e ∷ es) = putAll (putOf m e .map) es
+
+-- ---- how long a built line is at most
+-- a pair: its ident, `:b` or `:a`, the digits of the greatest place in a list, a comma
+abbrev pub pairMax : AxisOrBtn → ℕ
+pairMax e = length (identText e) + 2 + length (decimal (LIST_MAX - 1)) + 1
+
+-- the pairs of n elements from number k on
+unfoldable pub pairsMax : (ℕ → AxisOrBtn) → ℕ → ℕ → ℕ
+pairsMax to zero k = 0
+pairsMax to (suc n) k = pairMax (to k) + pairsMax to n (suc k)
+
+-- the UUID and the longest name, each with a comma, and the 19 buttons and six axes that have an ident
+unfoldable pub builtMax : ℕ
+builtMax = nameStart + NAME_MAX + 1 + pairsMax asButton 19 1 + pairsMax asAxis 6 1

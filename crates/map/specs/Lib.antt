@@ -1,9 +1,11 @@
--- The definitions of the map layer, in reading order. Inner serves private functions only.
-pub mod Refusals
-pub mod Lists
+-- The definitions of the map layer, in reading order: what a reader of the contracts meets.
 pub mod Slots
+pub mod Lists
 pub mod Build
-pub mod Bounds
 pub mod Default
+pub mod Refusals
+-- what the store's definitions cite
+pub mod Bounds
 pub mod Search
+-- what private functions and proofs need
 pub mod Inner

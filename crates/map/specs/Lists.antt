@@ -1,4 +1,5 @@
--- A code in a list of a pad's codes. Assumes nothing: these are definitions.
+-- A code in a list of a pad's codes.
+-- Public contracts rest on these definitions; they assume nothing.
 use Prim.Native.Nat.{ℕ}
 use mathlib.Core.Bool.{Bool}
 use mathlib.Core.List.{List}

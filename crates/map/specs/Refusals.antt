@@ -1,5 +1,5 @@
 -- Document 01's number and values of each refusal of this layer.
--- Assumes nothing: these are definitions.
+-- Public contracts rest on these definitions; they assume nothing.
 use Rattle.line.specs.Refusals.{Refusal, NoPlace, Carries, Outcome, Passes, Refuses, refusal, refusalAt}
 use Rattle.map.specs.declared.error.MappingError.{MappingError}
 use Rattle.map.specs.declared.error.MappingError.the-variants as Me

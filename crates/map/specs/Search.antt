@@ -1,5 +1,5 @@
--- A text sought in another. No public contract of this layer cites these: theorems and the layer above do.
--- Assumes nothing: these are definitions.
+-- A text sought in another, for the store (document 01, 'Store', and its refusal 22).
+-- Public contracts rest on these definitions; they assume nothing.
 use Prim.Native.Nat.{ℕ, suc}
 use mathlib.Core.Bool.{Bool}
 use mathlib.Core.List.{List, [], _∷_}

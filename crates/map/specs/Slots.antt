@@ -1,5 +1,6 @@
 -- The slots (document 01, 'Records'): "one optional code per button and per axis; insert and remove hand back
--- the former one". Assumes nothing: these are definitions.
+-- the former one".
+-- Public contracts rest on these definitions; they assume nothing.
 use Prim.Native.Nat.{ℕ}
 use mathlib.Core.Bool.{Bool, true, false}
 use mathlib.Core.List.{List}

@@ -12,10 +12,11 @@ use lib.Seq.{take-at, drop-at, length-take-le, getD-drop}
 use borrow.Author.Tests.{eq-eqb, ne-eqb, le-leb, leb-true, eqb-true, eqb-false}
 use Rattle.text.specs.Bytes.{pick}
 use Rattle.store.specs.declared.records.Head.{Head}
-use Rattle.store.specs.Decode.{headAt, heldOf, zeroes, headFits, consTo, walk, guarded, decode, known}
+use Rattle.store.specs.Decode.{headAt, heldOf, zeroes, headFits, consTo, walk, guarded, decode}
+use Rattle.store.specs.Inner.{known, sizes}
 use Rattle.store.specs.Held.{Key, Held, distinct, bufferMax}
 use Rattle.store.specs.Inner.{headOf, Lies, Bytes}
-use Rattle.store.specs.Layout.{Shapes, recordOf, records, sizes, texts, padded, encodeIndex, encodeText}
+use Rattle.store.specs.Layout.{Shapes, recordOf, records, texts, padded, encodeIndex, encodeText}
 use Rattle.store.proofs.BoolLaws.{and-left, and-right, and-both}
 use Rattle.store.proofs.HeldLaws.{zeroes-replicate}
 use Rattle.store.proofs.RecordLaws.{size-some, head-small, read-back, Fits, fits-of, fits-all}

@@ -15,11 +15,11 @@ use Rattle.text.specs.Bytes.{written}
 use Rattle.store.specs.declared.records.Extent.{Extent}
 use Rattle.store.specs.declared.records.Head.{Head}
 use Rattle.store.specs.declared.records.Spot.{Spot}
-use Rattle.store.specs.Book.{room}
+use Rattle.store.specs.Inner.{room, sizeOf, sizes}
 use Rattle.store.specs.Decode.{noHead, decode}
 use Rattle.store.specs.Held.{Key, Held, bufferMax, strike, file, find}
 use Rattle.store.specs.Inner.{headOf, upTo, Lies, Sized, Moves, Spotted, Finds, Measures, Renumbers, Bytes}
-use Rattle.store.specs.Layout.{recordBytes, recordOf, sizeOf, records, sizes, texts, padded, encodeIndex}
+use Rattle.store.specs.Layout.{recordBytes, recordOf, records, texts, padded, encodeIndex}
 use Rattle.store.specs.Layout.{encodeText}
 use Rattle.store.proofs.BoolLaws.{and-both, and-false-left, and-false-right}
 use Rattle.store.proofs.BufferLaws.{written-part}

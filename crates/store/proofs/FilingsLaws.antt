@@ -19,7 +19,8 @@ use Rattle.store.specs.Book.{onReached, insertLines, bookInsert, Attempt
 use Rattle.store.specs.Book.{Call, clear, insert, save, Reply, saved, bookTurn, runBook}
 use Rattle.store.specs.Filings.{Filing, filing, filedLine, filedLines, filedAttempt, filedBy, since, filings}
 use Rattle.store.specs.Filings.{laterOr, lastFiled, lineFiled}
-use Rattle.store.specs.Guarantee.{Builds, FromSave}
+use Rattle.store.specs.Guarantee.{FromSave}
+use Rattle.store.specs.Inner.{Builds}
 use Rattle.store.specs.Held.{Key, Held, sameKey, file, find}
 use Rattle.map.specs.Bounds.{lineMax}
 use Rattle.store.specs.Lines.{linesOf, wanted}

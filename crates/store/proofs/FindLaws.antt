@@ -15,8 +15,8 @@ use Rattle.store.specs.declared.records.Head.{Head}
 use Rattle.store.specs.declared.records.Spot.{Spot}
 use Rattle.store.specs.Decode.{noHead, headAt}
 use Rattle.store.specs.Held.{Key, Held, sameKey, holds, distinct, strike, find}
-use Rattle.store.specs.Inner.{headOf, upTo, Lies, Finds, Holds}
-use Rattle.store.specs.Layout.{sizes, texts}
+use Rattle.store.specs.Inner.{headOf, upTo, Lies, Finds, Holds, sizes}
+use Rattle.store.specs.Layout.{texts}
 use Rattle.store.proofs.BoolLaws.{and-left, and-right, or-left, or-right, not-not}
 use Rattle.store.proofs.HeldLaws.{same-eq}
 use Rattle.store.proofs.RecordLaws.{size-some}

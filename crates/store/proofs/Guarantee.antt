@@ -16,7 +16,8 @@ use Rattle.store.specs.Book.{turn, numberOf, noRoom, Turn, under, Reache
 use Rattle.store.specs.Book.{onReached, insertLines, bookInsert, Attempt, files, Saving, bookAttempt, Call}
 use Rattle.store.specs.Book.{insert, save, Reply, inserted, saved, bookTurn}
 use Rattle.store.specs.Filings.{lastFiled}
-use Rattle.store.specs.Guarantee.{Builds, Guarantee, booked}
+use Rattle.store.specs.Guarantee.{Guarantee, booked}
+use Rattle.store.specs.Inner.{Builds}
 use Rattle.store.specs.Held.{Held, file, find, bufferMax}
 use Rattle.map.specs.Bounds.{lineMax}
 use Rattle.store.specs.Lines.{linesOf, wanted}

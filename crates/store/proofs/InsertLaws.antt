@@ -16,9 +16,10 @@ use Rattle.text.specs.declared.uuid.Uuid.{Uuid}
 use Rattle.text.specs.declared.uuid.UuidParse.the-variants.{Parsed, Invalid}
 use Rattle.store.specs.declared.calls.Inserted.{Inserted}
 use Rattle.store.specs.declared.lines.Reach.{Reach}
-use Rattle.store.specs.Book.{noRoom, room, Turn, under, Reached, after, stopped, reach, insertTurn, onReached}
+use Rattle.store.specs.Book.{noRoom, Turn, under, Reached, after, stopped, reach, insertTurn, onReached}
+use Rattle.store.specs.Inner.{room, known}
 use Rattle.store.specs.Book.{insertLines, bookInsert}
-use Rattle.store.specs.Decode.{decode, known}
+use Rattle.store.specs.Decode.{decode}
 use Rattle.store.specs.Held.{Held, file, bufferMax}
 use Rattle.map.specs.Bounds.{lineMax}
 use Rattle.store.specs.Inner.{Bytes, firstLine, Files, reachOf, heldAfter, Reaches}

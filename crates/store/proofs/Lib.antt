@@ -25,3 +25,4 @@ pub mod Guarantee
 pub mod SaveCallLaws
 pub mod Saves
 mod Samples
+mod Worked

@@ -11,7 +11,8 @@ use lib.Seq.{drop-drop, take-all}
 use borrow.Author.Tests.{eq-eqb, ne-eqb, lt-ltb, le-ltb, ltb-true, ltb-false}
 use Rattle.text.specs.Bytes.{pick, firstOf}
 use Rattle.store.specs.Inner.{withoutCr, firstLine}
-use Rattle.store.specs.Lines.{cr, prepend, linesOf}
+use Rattle.store.specs.Lines.{cr, linesOf}
+use Rattle.line.specs.Fields.{before}
 use Rattle.map.specs.Search.{lf}
 use Rattle.store.proofs.BoolLaws.{and-left, and-right}
 
@@ -66,11 +67,11 @@ cut-first b (c ∷ s) = go (eqb b lf) refl (eqb b cr && eqb c lf) refl (cut-firs
         → linesOf (b ∷ c ∷ s) ≡ firstLine (b ∷ c ∷ s) ∷ linesOf (drop (suc (firstOf lf (b ∷ c ∷ s))) (b ∷ c ∷ s))
     go true e y f ih = at-lf b (c ∷ s) e
     go false e true f ih = at-crlf b c s e f
-    go false e false f ih = skip ∙ ap (prepend b) ih
+    go false e false f ih = skip ∙ ap (before b) ih
         ∙ ap₂ (λ (x : List ℕ) (y : List (List ℕ)). x ∷ y) (sym (longer b c s e f))
         (ap (λ (k : ℕ). linesOf (drop (suc k) (b ∷ c ∷ s))) (sym up))
       where
-        skip : linesOf (b ∷ c ∷ s) ≡ prepend b (linesOf (c ∷ s))
+        skip : linesOf (b ∷ c ∷ s) ≡ before b (linesOf (c ∷ s))
         skip = unfold linesOf in (rw (e, f))
 
         up : firstOf lf (b ∷ c ∷ s) ≡ suc (firstOf lf (c ∷ s))

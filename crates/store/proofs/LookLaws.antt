@@ -10,7 +10,8 @@ use lib.ListN.{length, take, drop, replicate, length-append}
 use lib.Seq.{take-at, drop-at}
 use Rattle.store.specs.declared.records.Head.{Head}
 use Rattle.store.specs.declared.records.Spot.{Spot}
-use Rattle.store.specs.Decode.{decode, known}
+use Rattle.store.specs.Decode.{decode}
+use Rattle.store.specs.Inner.{known}
 use Rattle.store.specs.Held.{Key, Held, bufferMax, find}
 use Rattle.store.specs.Inner.{upTo, Finds, Bytes}
 use Rattle.store.specs.Layout.{texts}

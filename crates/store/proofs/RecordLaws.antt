@@ -10,7 +10,7 @@ use lib.ListN.{length, set, getD, take, drop, replicate, length-append, length-d
 use lib.Seq.{drop-at, drop-drop, getD-drop, drop-cons}
 use borrow.Author.Tests.{eq-eqb, ne-eqb, lt-leb, le-leb, leb-true, eqb-true}
 use Rattle.text.specs.Bytes.{written}
-use Rattle.text.specs.Inner.{Small}
+use Rattle.text.specs.Uuid.{Small}
 use Rattle.text.specs.Uuid.{bigEndian}
 use Rattle.text.specs.declared.uuid.Uuid.{Uuid}
 use Rattle.store.specs.declared.records.Body.{Body}
@@ -18,8 +18,8 @@ use Rattle.store.specs.declared.records.Head.{Head}
 use Rattle.store.specs.Decode.{word, word4, word8, bodyAt, headWith, noHead, headAt, headFits}
 use Rattle.store.specs.Held.{Key, Held, recordSize, sameKey}
 use Rattle.map.specs.Bounds.{lineMax}
-use Rattle.store.specs.Inner.{Bytes, be2, be4, be8, bodySize, bodyBytes, headOf, Sized}
-use Rattle.store.specs.Layout.{Shape, recordBytes, recordOf, sizeOf}
+use Rattle.store.specs.Inner.{Bytes, be2, be4, be8, bodySize, bodyBytes, headOf, Sized, sizeOf}
+use Rattle.store.specs.Layout.{Shape, recordBytes, recordOf}
 use Rattle.store.proofs.BoolLaws.{and-left, and-right, and-both, and-false-left, and-false-right}
 use Rattle.store.proofs.BufferLaws.{written-next}
 

@@ -9,9 +9,10 @@ use native.Mathlib.Omega.{arith}
 use lib.Dec.{leb, ltb}
 use lib.ListN.{length, length-append}
 use borrow.Author.Tests.{lt-leb, le-leb, ltb-true, ltb-false, leb-true}
-use Rattle.store.specs.Book.{lengths, noRoom, room}
+use Rattle.store.specs.Book.{lengths, noRoom}
+use Rattle.store.specs.Inner.{room, sizes}
 use Rattle.store.specs.Held.{Held, strike, file, recordSize}
-use Rattle.store.specs.Layout.{sizes, texts}
+use Rattle.store.specs.Layout.{texts}
 use Rattle.store.proofs.BoolLaws.{and-left, and-right}
 use Rattle.store.proofs.HeldLaws.{texts-file}
 use Rattle.store.proofs.RecordLaws.{length-record}

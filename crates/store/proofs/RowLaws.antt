@@ -12,8 +12,8 @@ use Rattle.text.specs.Bytes.{pick}
 use Rattle.store.specs.declared.records.Head.{Head}
 use Rattle.store.specs.Decode.{noHead, headAt}
 use Rattle.store.specs.Held.{Key, Held, sameKey, holds, distinct}
-use Rattle.store.specs.Inner.{headOf, upTo, Lies, Finds, Measures, Holds, Once}
-use Rattle.store.specs.Layout.{recordOf, sizeOf, records, sizes, texts, padded}
+use Rattle.store.specs.Inner.{headOf, upTo, Lies, Finds, Measures, Holds, Once, sizeOf, sizes}
+use Rattle.store.specs.Layout.{recordOf, records, texts, padded}
 use Rattle.store.proofs.HeldLaws.{texts-append}
 use Rattle.store.proofs.RecordLaws.{size-move, head-record, drop-record, size-some, head-zeros, head-within}
 

@@ -26,9 +26,10 @@ use Rattle.store.specs.declared.calls.Saved.{Saved}
 use Rattle.map.specs.Bounds.{lineMax}
 use Rattle.map.specs.Search.{lf, firstText, platformKey}
 use Rattle.store.specs.Book.{under, refused, files}
-use Rattle.store.specs.Store.{Done, storeFile, storeAttempt}
+use Rattle.store.specs.Store.{Done, storeAttempt}
+use Rattle.store.specs.Inner.{storeFile, saidBy}
 use Rattle.store.specs.Saves.{SaveArgs, unsavedName, refusedSave, acceptedSave, attemptAfter, attemptOf}
-use Rattle.store.specs.Saves.{storeSave, saidBy}
+use Rattle.store.specs.Saves.{storeSave}
 use Rattle.store.proofs.SaveLaws.{valueOf, attempt-files}
 use Rattle.map.proofs.LengthLaws.{line-length}
 use Rattle.map.proofs.BuiltLaws.{built-positive, built-fits}

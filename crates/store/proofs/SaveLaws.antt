@@ -9,12 +9,13 @@ use native.Mathlib.Omega.{arith}
 use lib.ListN.{length}
 use Rattle.text.specs.Bytes.{pick}
 use Rattle.store.specs.declared.calls.Answer.{Answer}
-use Rattle.store.specs.Book.{turn, noRoom, room, bookFile, bookAttempt, files}
-use Rattle.store.specs.Decode.{decode, known}
+use Rattle.store.specs.Book.{turn, noRoom, bookAttempt, files}
+use Rattle.store.specs.Inner.{room, bookFile, known, storeFile}
+use Rattle.store.specs.Decode.{decode}
 use Rattle.store.specs.Held.{Held, file}
 use Rattle.store.specs.Inner.{Files}
 use Rattle.store.specs.Layout.{encodeIndex, encodeText}
-use Rattle.store.specs.Store.{Done, holding, onLines, storeFile, storeAttempt}
+use Rattle.store.specs.Store.{Done, holding, onLines, storeAttempt}
 use Rattle.store.proofs.DecodeLaws.{lines-of}
 use Rattle.store.specs.declared.calls.Answer.the-variants as A
 

@@ -15,7 +15,8 @@ use Rattle.store.specs.declared.calls.Saved.{Saved}
 use Rattle.store.specs.Held.{Held, bufferMax}
 use Rattle.store.specs.Layout.{Shape}
 use Rattle.store.specs.Book.{under, refused, files, Call}
-use Rattle.store.specs.Guarantee.{Builds, Guarantee}
+use Rattle.store.specs.Guarantee.{Guarantee}
+use Rattle.store.specs.Inner.{Builds}
 use Rattle.store.specs.Saves.{SaveArgs, SaveCall, unsavedName, refusedSave, acceptedSave, attemptAfter, attemptOf}
 use Rattle.store.specs.Saves.{ReadsBack, saving}
 use Rattle.map.proofs.BuiltLaws.{built-positive, built-fits}

@@ -12,7 +12,8 @@ use lib.Seq.{drop-drop}
 use borrow.Author.Tests.{lt-leb, le-leb}
 use Rattle.text.specs.Bytes.{pick}
 use Rattle.store.specs.declared.records.Head.{Head}
-use Rattle.store.specs.Decode.{headAt, heldOf, zeroes, headFits, consTo, walk, guarded, decode, known}
+use Rattle.store.specs.Decode.{headAt, heldOf, zeroes, headFits, consTo, walk, guarded, decode}
+use Rattle.store.specs.Inner.{known}
 use Rattle.store.specs.Held.{Held, distinct, bufferMax}
 use Rattle.store.specs.Inner.{Once, Bytes}
 use Rattle.store.proofs.BoolLaws.{and-both, and-false-left, and-false-right}

@@ -9,7 +9,8 @@ use borrow.Author.Tests.{le-leb}
 use Rattle.store.specs.Book.{Turn, bookClear, bookInsert, bookAttempt, Attempt, refused, files, Saving, Call}
 use Rattle.store.specs.Book.{clear, insert, save, Reply, inserted, saved, Run, bookTurn, runBook}
 use Rattle.store.specs.Decode.{decode}
-use Rattle.store.specs.Guarantee.{Builds, fresh, stored, booked}
+use Rattle.store.specs.Guarantee.{fresh, stored, booked}
+use Rattle.store.specs.Inner.{Builds}
 use Rattle.store.specs.Held.{Key, Held, find, bufferMax}
 use Rattle.store.specs.Layout.{records, texts, padded, encodeIndex, encodeText}
 use Rattle.store.specs.Store.{Done, onLines, storeClear, storeInsert, storeAttempt, answered, storeCall, Runs}

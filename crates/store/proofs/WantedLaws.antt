@@ -12,7 +12,7 @@ use Rattle.text.proofs.BytesLaws.{same-equal, same-lengths}
 use Rattle.text.proofs.ListLaws.{at-next}
 use Rattle.text.proofs.SmallLaws.{uuid-small}
 use Rattle.text.specs.Bytes.{pick, same, firstOf}
-use Rattle.text.specs.Inner.{Small}
+use Rattle.text.specs.Uuid.{Small}
 use Rattle.text.specs.Uuid.{uuidOf}
 use Rattle.text.specs.declared.uuid.Uuid.{Uuid}
 use Rattle.text.specs.declared.uuid.UuidParse.the-variants.{Parsed, Invalid}

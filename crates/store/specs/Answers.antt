@@ -1,5 +1,5 @@
 -- Document 01's number and place of each answer of the store; number 0 where nothing is refused.
--- Assumes nothing: these are definitions.
+-- Public contracts rest on these definitions; they assume nothing.
 use mathlib.Core.Option.{Option, none, some}
 use Prim.Native.Nat.{ℕ}
 use Rattle.store.specs.declared.calls.Answer.{Answer}

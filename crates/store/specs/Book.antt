@@ -1,7 +1,7 @@
 -- Document 01's book: "fed the lengths of index and text and each call's arguments, never an answer or a byte of the
 -- store".
--- Assumes nothing: these are definitions.
-use mathlib.Core.Bool.{Bool, not, _||_}
+-- Public contracts rest on these definitions; they assume nothing.
+use mathlib.Core.Bool.{Bool, _||_}
 use mathlib.Core.List.{List, [], _∷_}
 use Prim.Native.Nat.{ℕ, suc, _+_, _*_}
 use lib.Dec.{ltb}
@@ -33,10 +33,6 @@ noRoom n m h hs =
     ltb n (recordSize * (length (strike (h .key) hs) + 1))
     || ltb m (lengths (strike (h .key) hs) + length (h .line))
 
--- there is room for the line
-abbrev pub room : ℕ → ℕ → Held → List Held → Bool
-room n m h hs = not (noRoom n m h hs)
-
 -- ---- one call's turn: its answer, and the lines held after it
 
 pub record Turn (A : Type 0) : Type 0 where
@@ -49,10 +45,6 @@ turn a hs = record { answer = a; held = hs }
 -- "Clear empties the list."
 abbrev pub bookClear : Turn Answer
 bookClear = turn A.Done []
-
--- "without room (21, H being the book's) [..] any other is filed"
-unfoldable pub bookFile : ℕ → ℕ → List Held → Held → Turn Answer
-bookFile n m hs h = pick (noRoom n m h hs) (turn A.NoRoom hs) (turn A.Done (file h hs))
 
 -- what a line that an insert reaches comes to: the lines held after it, or the answer that stops the call
 pub data Reached : Type 0 where
@@ -71,6 +63,7 @@ reachWanted n m hs l (Parsed u) =
     (pick (noRoom n m (under u l) hs) (stopped A.NoRoom)
     (after (file (under u l) hs)))
 
+-- a line that an insert reaches
 unfoldable pub reach : ℕ → ℕ → List Held → List ℕ → Reached
 reach n m hs l = reachWanted n m hs l (wanted l)
 

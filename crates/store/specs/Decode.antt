@@ -1,6 +1,6 @@
 -- The list of lines that a sound store encodes, read off its bytes; none of another store.
 -- The laws `decode-encodes` and `encodes-decode` say that this is Layout's `Encodes`, no more and no less.
--- Assumes nothing: these are definitions.
+-- Public contracts rest on these definitions; they assume nothing.
 use mathlib.Core.Bool.{Bool, true, false, _&&_}
 use mathlib.Core.Option.{Option, none, some}
 use mathlib.Core.List.{List, [], _∷_}
@@ -50,6 +50,7 @@ unfoldable pub zeroes : List ℕ → Bool
 zeroes [] = true
 zeroes (x ∷ xs) = eqb x 0 && zeroes xs
 
+-- a line in front of those after it, where its record fits
 abbrev pub consTo : Bool → Held → Option (List Held) → Option (List Held)
 consTo false h o = none
 consTo true h none = none
@@ -72,8 +73,3 @@ guarded (some hs) = pick (distinct hs) (some hs) none
 -- the lines of a sound store, and none of another one (19); "An index or text over 65535 is 19"
 unfoldable pub decode : List ℕ → List ℕ → Option (List Held)
 decode i t = pick (leb (length i) bufferMax && leb (length t) bufferMax) (guarded (walk (suc (length i)) 0 i t)) none
-
--- the store is sound
-abbrev pub known : {A : Type 0} → Option A → Bool
-known none = false
-known (some a) = true

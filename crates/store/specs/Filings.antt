@@ -1,6 +1,6 @@
 -- What a list of calls has filed in the book since the last clear, by which call, and the line last filed under a UUID.
 -- "In demand 3, filed means filed in the book."
--- Assumes nothing: these are definitions.
+-- The guarantee rests on these definitions; they assume nothing.
 use mathlib.Core.Option.{Option, none, some}
 use mathlib.Core.List.{List, [], _∷_, _++_}
 use Prim.Native.Nat.{ℕ}

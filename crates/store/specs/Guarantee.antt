@@ -1,5 +1,5 @@
 -- Demand 3 as one statement about every list of calls from a fresh store of n and m bytes.
--- Assumes nothing: these are definitions.
+-- The guarantee rests on these definitions; they assume nothing.
 use mathlib.Core.Path.{_≡_}
 use mathlib.Core.Bool.{true}
 use mathlib.Core.Option.{Option, some}
@@ -14,7 +14,6 @@ use Rattle.store.specs.declared.calls.Answer.the-variants as A
 use Rattle.store.specs.Lines.{linesOf, wanted}
 use Rattle.store.specs.Held.{Key, Held, file}
 use Rattle.map.specs.Bounds.{lineMax}
-use Rattle.store.specs.Layout.{Shape}
 use Rattle.store.specs.Book.{noRoom, under, insertTurn, insertLines, files, Saving, Call, insert, save}
 use Rattle.store.specs.Book.{inserted, saved, numberOf, Run, runBook}
 use Rattle.store.specs.Store.{Done, Runs, runStore, storeCall, lookUp, lookedIn}
@@ -42,11 +41,6 @@ pub record FromSave (S : Saving) (k : Key) (f : Filing S) (a : S .Args) : Type 0
   pub answered : f .answer ≡ saved value
   pub under : f .held .key ≡ k
   pub reads : S .Reads a (f .held .line) value
-
--- what the layer that builds owes: a line that is attempted has from 1 to 4096 bytes, and reads back
-pub record Builds (S : Saving) : Type 0 where
-  pub shape : (a : S .Args) (h : Held) (v : S .Value) → S .attempt a ≡ files h v → Shape h
-  pub reads : (a : S .Args) (h : Held) (v : S .Value) → S .attempt a ≡ files h v → S .Reads a (h .line) v
 
 pub record Guarantee (S : Saving) (n m : ℕ) (xs : List (Call S)) : Type 0 where
   -- "each call's success or refusal number, an insert's count of lines and a save's map are those of

@@ -1,5 +1,5 @@
 -- Lines held under their UUIDs, and the limits of a store (document 01, 'Records' and 'Store').
--- Assumes nothing: these are definitions.
+-- Public contracts rest on these definitions; they assume nothing.
 use mathlib.Core.Bool.{Bool, true, false, not, _&&_, _||_}
 use mathlib.Core.Option.{Option, none, some}
 use mathlib.Core.List.{List, [], _∷_, _++_}

@@ -1,8 +1,8 @@
 -- What the contracts of private functions say of a store, each for every list of lines that lies in the index, and
--- what the proofs go by. No public contract cites these. Assumes nothing: these are definitions.
+-- what the proofs go by. No public contract rests on these: a reader may leave them out.
 use mathlib.Core.Path.{_≡_}
-use mathlib.Core.Bool.{Bool, true, false}
-use mathlib.Core.Option.{some}
+use mathlib.Core.Bool.{Bool, true, false, not}
+use mathlib.Core.Option.{Option, none, some}
 use mathlib.Core.List.{List, [], _∷_, _++_}
 use Prim.Native.Nat.{ℕ, _+_, _/_, _%_, _≤_, _<_}
 use lib.Dec.{eqb, ltb}
@@ -13,18 +13,29 @@ use Rattle.store.specs.declared.records.Head.{Head}
 use Rattle.store.specs.declared.records.Spot.{Spot}
 use Rattle.store.specs.declared.records.Extent.{Extent}
 use Rattle.store.specs.declared.lines.Reach.{Reach}
+use Rattle.line.specs.declared.mapping.Mapping.{Mapping}
+use Rattle.store.specs.declared.calls.Answer.{Answer}
 use Rattle.store.specs.declared.calls.Answer.the-variants as A
+use Rattle.store.specs.declared.calls.SaveAnswer.the-variants as Sv
+use Rattle.store.specs.declared.calls.Saved.{Saved}
 use Rattle.store.specs.Held.{Key, Held, sameKey, strike, file, holds, distinct, bufferMax}
-use Rattle.store.specs.Layout.{Shapes, recordBytes, recordOf, records, sizes, texts, padded, encodeIndex}
+use Rattle.store.specs.Layout.{Shape, Shapes, recordBytes, recordOf, records, texts, padded, encodeIndex}
 use Rattle.store.specs.Layout.{encodeText}
 use Rattle.store.specs.Decode.{headAt, decode}
 use Rattle.store.specs.Lines.{cr}
 use Rattle.map.specs.Search.{lf}
-use Rattle.store.specs.Book.{room, Reached, after, stopped, reach}
+use Rattle.store.specs.Book.{noRoom, Turn, turn, Reached, after, stopped, reach, files, Saving}
+use Rattle.store.specs.Store.{Done, onLines}
+use Rattle.store.specs.Saves.{refusedSave, acceptedSave}
 
 -- every byte of a buffer is one
 abbrev pub Bytes : List ℕ → Type 0
 Bytes s = (k : ℕ) → getD s k 0 < 256
+
+-- the store is sound
+abbrev pub known : {A : Type 0} → Option A → Bool
+known none = false
+known (some a) = true
 
 -- ---- records
 
@@ -44,6 +55,13 @@ bodySize = 20
 
 unfoldable pub bodyBytes : Uuid → ℕ → ℕ → List ℕ
 bodyBytes u off len = be8 (u .high) ++ (be8 (u .low) ++ (be2 off ++ be2 len))
+
+-- the size of a record, and of the records of lines, the first of which lies at that offset
+abbrev pub sizeOf : ℕ → Held → ℕ
+sizeOf off h = length (recordOf off h)
+
+abbrev pub sizes : ℕ → List Held → ℕ
+sizes off hs = length (records off hs)
 
 -- what a record says
 abbrev pub headOf : ℕ → Held → Head
@@ -115,6 +133,10 @@ Strikes i t at head i′ t′ =
     (k : Key) (hs : List Held) → Spotted i t at head k hs
     → (i′ ≡ encodeIndex (length i) (strike k hs)) × (t′ ≡ encodeText (length t) (strike k hs))
 
+-- there is room for the line
+abbrev pub room : ℕ → ℕ → Held → List Held → Bool
+room n m h hs = not (noRoom n m h hs)
+
 -- `file_line`: r says whether there was room for the line
 abbrev pub Files : List ℕ → List ℕ → Held → Bool → List ℕ → List ℕ → Type 0
 Files i t h r i′ t′ =
@@ -122,6 +144,29 @@ Files i t h r i′ t′ =
     → (r ≡ room (length i) (length t) h hs)
     × (i′ ≡ encodeIndex (length i) (pick r (file h hs) hs))
     × (t′ ≡ encodeText (length t) (pick r (file h hs) hs))
+
+-- ---- saving
+
+-- `file_built`: the end of a save, in the book and in the store
+unfoldable pub bookFile : ℕ → ℕ → List Held → Held → Turn Answer
+bookFile n m hs h = pick (noRoom n m h hs) (turn A.NoRoom hs) (turn A.Done (file h hs))
+
+unfoldable pub storeFile : List ℕ → List ℕ → Held → Done Answer
+storeFile i t h = onLines i t (decode i t) A.Unsound (λ hs. bookFile (length i) (length t) hs h)
+
+-- `saved_as`: what a save answers by what filing its line answers (which is done, 21 or 19)
+abbrev pub saidBy : Mapping → Answer → Saved
+saidBy m A.Done = acceptedSave m
+saidBy m (A.NotUtf8 place) = refusedSave Sv.Unsound
+saidBy m A.Unsound = refusedSave Sv.Unsound
+saidBy m A.LineTooLong = refusedSave Sv.Unsound
+saidBy m A.NoRoom = refusedSave Sv.NoRoom
+saidBy m A.BufferTooLarge = refusedSave Sv.Unsound
+
+-- what the layer that builds owes: a line that is attempted has from 1 to 4096 bytes, and reads back
+pub record Builds (S : Saving) : Type 0 where
+  pub shape : (a : S .Args) (h : Held) (v : S .Value) → S .attempt a ≡ files h v → Shape h
+  pub reads : (a : S .Args) (h : Held) (v : S .Value) → S .attempt a ≡ files h v → S .Reads a (h .line) v
 
 -- ---- inserting
 

@@ -1,13 +1,12 @@
 -- How a list of lines lies in the two buffers of a store (document 01, 'Records').
--- A record's form and size stand in `recordOf` alone; the rest goes by `sizeOf` and `sizes`.
--- Assumes nothing: these are definitions.
+-- A record's form and size stand in `recordBytes` alone.
+-- Public contracts rest on these definitions; they assume nothing.
 use mathlib.Core.Path.{_≡_}
 use mathlib.Core.Bool.{true}
 use mathlib.Core.List.{List, [], _∷_, _++_}
 use Prim.Native.Nat.{ℕ, _+_, _-_, _≤_}
 use lib.ListN.{length, replicate}
-use Rattle.text.specs.Uuid.{bigEndian, uuidBytes}
-use Rattle.text.specs.Inner.{Small}
+use Rattle.text.specs.Uuid.{bigEndian, uuidBytes, Small}
 use Rattle.store.specs.Held.{Key, Held, distinct, bufferMax}
 use Rattle.map.specs.Bounds.{lineMax}
 
@@ -19,17 +18,12 @@ recordBytes k off len = 1 ∷ (uuidBytes k ++ (bigEndian 2 off ++ bigEndian 2 le
 abbrev pub recordOf : ℕ → Held → List ℕ
 recordOf off h = recordBytes (h .key) off (length (h .line))
 
-abbrev pub sizeOf : ℕ → Held → ℕ
-sizeOf off h = length (recordOf off h)
-
 -- "Lines lie end to end from offset 0 in list order.": the records of lines that lie so from an offset on
 unfoldable pub records : ℕ → List Held → List ℕ
 records off [] = []
 records off (h ∷ hs) = recordOf off h ++ records (off + length (h .line)) hs
 
-abbrev pub sizes : ℕ → List Held → ℕ
-sizes off hs = length (records off hs)
-
+-- the texts of the lines, "end to end"
 unfoldable pub texts : List Held → List ℕ
 texts [] = []
 texts (h ∷ hs) = h .line ++ texts hs

@@ -1,5 +1,5 @@
--- The definitions of the store layer, in reading order. Decode computes what Layout says; Inner serves private
--- functions only.
+-- The definitions of the store layer, in reading order: what a reader of the contracts and of the guarantee meets.
+-- Decode computes what Layout says.
 pub mod Held
 pub mod Layout
 pub mod Decode
@@ -7,7 +7,8 @@ pub mod Lines
 pub mod Answers
 pub mod Book
 pub mod Store
+pub mod Saves
 pub mod Filings
 pub mod Guarantee
-pub mod Saves
+-- what private functions and proofs need
 pub mod Inner

@@ -1,5 +1,5 @@
 -- The lines of an inserted text, and which are wanted (document 01, 'Store').
--- Assumes nothing: these are definitions.
+-- Public contracts rest on these definitions; they assume nothing.
 use mathlib.Core.Bool.{Bool, true, _&&_}
 use mathlib.Core.List.{List, [], _∷_}
 use Prim.Native.Nat.{ℕ, _+_}
@@ -9,17 +9,12 @@ use Rattle.text.specs.Bytes.{pick, byte, ascii, same}
 use Rattle.text.specs.Uuid.{uuidOf}
 use Rattle.text.specs.declared.uuid.UuidParse.{UuidParse}
 use Rattle.text.specs.declared.uuid.UuidParse.the-variants.{Invalid}
-use Rattle.line.specs.Fields.{firstField}
+use Rattle.line.specs.Fields.{before, firstField}
 use Rattle.map.specs.Search.{firstText, platformKey, lf}
 
 -- the byte that may stand before a line's end
 abbrev pub cr : ℕ
 cr = byte "\r"
-
--- a byte before the first of the lines
-abbrev pub prepend : ℕ → List (List ℕ) → List (List ℕ)
-prepend b [] = (b ∷ []) ∷ []
-prepend b (l ∷ ls) = (b ∷ l) ∷ ls
 
 -- "Insert cuts the text at LF, dropping one CR before it; a final bare CR stays, and nothing after a final LF is
 -- no line."
@@ -28,7 +23,7 @@ linesOf [] = []
 linesOf (b ∷ s) =
     pick (eqb b lf) ([] ∷ linesOf s)
     (pick (eqb b cr && eqb (getD s 0 0) lf) (linesOf s)
-    (prepend b (linesOf s)))
+    (before b (linesOf s)))
 
 -- the platform of the hub
 abbrev pub platform : List ℕ

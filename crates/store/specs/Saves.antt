@@ -1,5 +1,5 @@
 -- A save (document 01, 'Store', and the order of its refusals): what its own checks come to, by the map layer's build.
--- Assumes nothing: these are definitions.
+-- Public contracts rest on these definitions; they assume nothing.
 use mathlib.Core.Path.{_≡_}
 use mathlib.Core.Bool.{Bool, false, _||_}
 use mathlib.Core.List.{List}
@@ -7,7 +7,7 @@ use Prim.Native.Nat.{ℕ}
 use lib.Dec.{ltb}
 use lib.ListN.{length}
 use Rattle.text.specs.Bytes.{pick, firstOf}
-use Rattle.text.specs.Inner.{Small}
+use Rattle.text.specs.Uuid.{Small}
 use Rattle.text.specs.declared.uuid.Uuid.{Uuid}
 use Rattle.line.specs.declared.mapping.Mapping.{Mapping}
 use Rattle.line.specs.Maps.{emptyMap}
@@ -17,8 +17,6 @@ use Rattle.map.specs.declared.error.MappingAnswer.the-variants.{Accepted, Refus
 use Rattle.map.specs.declared.mapping_data.MappingData.{MappingData}
 use Rattle.map.specs.Build.{checksOf, builtLine, builtMap}
 use Rattle.map.specs.Refusals.{mappingRefusal}
-use Rattle.store.specs.declared.calls.Answer.{Answer}
-use Rattle.store.specs.declared.calls.Answer.the-variants as A
 use Rattle.store.specs.declared.calls.SaveAnswer.{SaveAnswer}
 use Rattle.store.specs.declared.calls.SaveAnswer.the-variants as Sv
 use Rattle.store.specs.declared.calls.Saved.{Saved}
@@ -62,15 +60,6 @@ attemptOf a = attemptAfter a (checksOf (a .slots) (a .buttons) (a .axes) (a .nam
 
 unfoldable pub storeSave : List ℕ → List ℕ → SaveArgs → Done Saved
 storeSave i t a = storeAttempt (refusedSave Sv.Unsound) (refusedSave Sv.NoRoom) i t (attemptOf a)
-
--- what a save answers by what filing its line answers (which is done, 21 or 19)
-abbrev pub saidBy : Mapping → Answer → Saved
-saidBy m A.Done = acceptedSave m
-saidBy m (A.NotUtf8 place) = refusedSave Sv.Unsound
-saidBy m A.Unsound = refusedSave Sv.Unsound
-saidBy m A.LineTooLong = refusedSave Sv.Unsound
-saidBy m A.NoRoom = refusedSave Sv.NoRoom
-saidBy m A.BufferTooLarge = refusedSave Sv.Unsound
 
 -- document 01's number of a save's answer, 0 where nothing is refused
 abbrev pub saveNumber : SaveAnswer → ℕ

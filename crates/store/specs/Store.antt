@@ -1,5 +1,5 @@
 -- What each call of a store answers and leaves in its two buffers: the definitions that the contracts cite.
--- Assumes nothing: these are definitions.
+-- Public contracts rest on these definitions; they assume nothing.
 use mathlib.Core.Bool.{Bool, _&&_}
 use mathlib.Core.Option.{Option, none, some}
 use mathlib.Core.List.{List, [], _∷_}
@@ -15,7 +15,7 @@ use Rattle.store.specs.declared.calls.Look.the-variants as L
 use Rattle.store.specs.Held.{Key, Held, find, bufferMax}
 use Rattle.store.specs.Layout.{encodeIndex, encodeText}
 use Rattle.store.specs.Decode.{decode}
-use Rattle.store.specs.Book.{Turn, bookInsert, bookFile, bookAttempt, Attempt, refused, files, Saving, Call}
+use Rattle.store.specs.Book.{Turn, bookInsert, bookAttempt, Attempt, refused, files, Saving, Call}
 use Rattle.store.specs.Book.{clear, insert, save, Reply, cleared, inserted, saved}
 
 -- an answer, and the two buffers afterwards
@@ -56,10 +56,7 @@ unfoldable pub storeInsert : List ℕ → List ℕ → List ℕ → Done Inserte
 storeInsert i t s =
     onLines i t (decode i t) (record { answer = A.Unsound; count = 0 }) (λ hs. bookInsert (length i) (length t) hs s)
 
--- "then 22, 19, 21": the end of a save, and the whole of it by its attempt
-unfoldable pub storeFile : List ℕ → List ℕ → Held → Done Answer
-storeFile i t h = onLines i t (decode i t) A.Unsound (λ hs. bookFile (length i) (length t) hs h)
-
+-- "then 22, 19, 21": a save, by what its own checks come to
 abbrev pub storeAttempt : {B : Type 0} → B → B → List ℕ → List ℕ → Attempt B → Done B
 storeAttempt unsound full i t (refused v) = unchanged i t v
 storeAttempt unsound full i t (files h v) =

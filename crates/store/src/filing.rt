@@ -17,7 +17,8 @@ ghost use Rattle.text.specs.Bytes.{written};
 ghost use Rattle.map.specs.Bounds.{lineMax};
 ghost use Rattle.store.specs.Layout.{recordBytes};
 ghost use Rattle.store.specs.Book.{under};
-ghost use Rattle.store.specs.Decode.{known, decode};
+ghost use Rattle.store.specs.Decode.{decode};
+ghost use Rattle.store.specs.Inner.{known};
 ghost use Rattle.store.specs.Inner.{Moves, Renumbers, Strikeable, Strikes, Files};
 
 // Writes the offsets anew from the front on, so that the lines lie end to end from `start` on.

@@ -13,8 +13,8 @@ ghost use Prim.Native.Nat.{_≤_};
 ghost use lib.ListN.{length};
 ghost use Rattle.map.specs.Bounds.{lineMax};
 ghost use Rattle.store.specs.Book.{under};
-ghost use Rattle.store.specs.Store.{storeFile};
-ghost use Rattle.store.specs.Saves.{unsavedName, refusedSave, saidBy};
+ghost use Rattle.store.specs.Inner.{storeFile, saidBy};
+ghost use Rattle.store.specs.Saves.{unsavedName, refusedSave};
 
 // Files a line that was built under its UUID, unless the store is not sound or has no room.
 pub fn file_built(index: &mut [u8], text: &mut [u8], uuid: Uuid, line: &[u8]) -> Answer

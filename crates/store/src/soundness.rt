@@ -8,7 +8,8 @@ ghost use mathlib.Core.Path.{_≡_};
 ghost use mathlib.Core.List.{List, _∷_, _++_};
 ghost use Prim.Native.Nat.{ℕ, suc, _+_, _-_, _≤_, _<_};
 ghost use lib.ListN.{length, take, drop};
-ghost use Rattle.store.specs.Decode.{headFits, known, walk, decode};
+ghost use Rattle.store.specs.Decode.{headFits, walk, decode};
+ghost use Rattle.store.specs.Inner.{known};
 ghost use Rattle.store.specs.Inner.{Holds, Once};
 
 // The most bytes of a line, and of a buffer.

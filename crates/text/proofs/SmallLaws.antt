@@ -9,9 +9,8 @@ use lib.Dec.{eqb}
 use lib.ListN.{length, take, drop, length-append, length-take, length-drop}
 use borrow.Author.Tests.{eqb-true}
 use Rattle.text.specs.Bytes.{pick, both}
-use Rattle.text.specs.Uuid.{readHex, withLow, joined, ofDigits, simple, hyphenAt, firstGroups, lastGroups}
+use Rattle.text.specs.Uuid.{readHex, withLow, joined, ofDigits, simple, hyphenAt, firstGroups, lastGroups, Small}
 use Rattle.text.specs.Uuid.{hyphenated, inBraces, afterUrn, uuidOf}
-use Rattle.text.specs.Inner.{Small}
 use Rattle.text.specs.declared.uuid.Uuid.{Uuid}
 use Rattle.text.specs.declared.uuid.Hex.{Hex}
 use Rattle.text.specs.declared.uuid.Hex.the-variants.{Number, NotHex}

@@ -13,9 +13,9 @@ use lib.ListN.{length, getD, take, drop, length-append}
 use lib.Seq.{take-at, drop-at}
 use mathlib.Core.Logic.{⊎-elim}
 use Rattle.text.specs.Bytes.{pick}
-use Rattle.text.specs.Uuid.{hexDigit, readHex, simple, hyphenated, isFrom, inBraces, afterUrn, uuidOf}
+use Rattle.text.specs.Uuid.{hexDigit, readHex, simple, hyphenated, isFrom, inBraces, afterUrn, uuidOf, Small}
 use Rattle.text.specs.Uuid.{lowerDigit, hexText, uuidText}
-use Rattle.text.specs.Inner.{after, Small, every, either, isAscii, isLowerHex}
+use Rattle.text.specs.Inner.{after, every, either, isAscii, isLowerHex}
 use Rattle.text.specs.Decimal.{isDigit}
 use Rattle.text.specs.declared.uuid.UuidParse.the-variants.{Parsed, Invalid}
 use Rattle.text.specs.declared.uuid.Uuid.{Uuid}

@@ -1,5 +1,5 @@
 -- Bytes: characters as bytes, texts compared and searched, and a text written into a lent buffer.
--- Assumes nothing: these are definitions.
+-- Public contracts rest on these definitions; they assume nothing.
 use Prim.Native.Nat.{ℕ, suc, _+_}
 use Prim.Native.Char.{Char, code}
 use Prim.Native.String.{String, [] as []ᵗ, _∷_ as _∷ᵗ_}

@@ -1,5 +1,5 @@
 -- Index numbers in base ten: how one is written, and which number a text is (`parse::<u16>`).
--- Assumes nothing: these are definitions.
+-- Public contracts rest on these definitions; they assume nothing.
 use Prim.Native.Nat.{ℕ, zero, suc, _+_, _*_, _-_, _/_, _%_}
 use mathlib.Core.Bool.{Bool}
 use mathlib.Core.List.{List, [], _∷_, _++_}

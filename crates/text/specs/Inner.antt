@@ -1,6 +1,6 @@
--- What the contracts of private functions and the laws for the layers above say. No public contract cites these.
--- Assumes nothing: these are definitions.
-use Prim.Native.Nat.{ℕ, _+_, _<_, _^_}
+-- What the contracts of private functions and the laws for the layers above say.
+-- No public contract rests on these: a reader may leave them out.
+use Prim.Native.Nat.{ℕ, _+_}
 use mathlib.Core.Path.{_≡_}
 use mathlib.Core.Bool.{Bool, true, false}
 use mathlib.Core.List.{List, [], _∷_}
@@ -11,7 +11,6 @@ use Rattle.text.specs.Decimal.{isDigit}
 use Rattle.text.specs.Uuid.{readHex, isFrom}
 use Rattle.text.specs.declared.uuid.Hex.{Hex}
 use Rattle.text.specs.declared.uuid.Hex.the-variants.{Number, NotHex}
-use Rattle.text.specs.declared.uuid.Uuid.{Uuid}
 
 -- the digits of ys after those that made h
 abbrev pub after : Hex → List ℕ → Hex
@@ -43,8 +42,3 @@ either false b = b
 -- a digit, or a letter from `a` to `f`
 abbrev pub isLowerHex : ℕ → Bool
 isLowerHex b = either (isDigit b) (isFrom (byte "a") (byte "f") b)
-
--- both halves of a UUID fit 64 bits, as those of every value of the program do
-pub record Small (u : Uuid) : Type 0 where
-  pub high : u .high < 2 ^ 64
-  pub low : u .low < 2 ^ 64

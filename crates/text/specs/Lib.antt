@@ -1,6 +1,7 @@
--- The definitions of the text layer, in reading order. Inner serves private functions only.
+-- The definitions of the text layer, in reading order: what a reader of the contracts meets.
 pub mod Bytes
 pub mod Utf8
 pub mod Uuid
 pub mod Decimal
+-- what private functions and proofs need
 pub mod Inner

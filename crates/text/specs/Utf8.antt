@@ -1,5 +1,5 @@
 -- UTF-8 by the ABNF of RFC 3629, section 4. Each alternative of a rule is the list of the ranges of its octets.
--- Assumes nothing: these are definitions.
+-- Public contracts rest on these definitions; they assume nothing.
 use Prim.Native.Nat.{ℕ, zero, suc, _+_}
 use mathlib.Core.Bool.{Bool, true, false}
 use mathlib.Core.List.{List, [], _∷_, _++_}
@@ -15,6 +15,7 @@ pub record Range : Type 0 where
 abbrev pub %x : ℕ → ℕ → Range
 %x a b = record { low = a; high = b }
 
+-- an alternative of a rule: the ranges of its octets, in order
 abbrev pub Alternative : Type 0
 Alternative = List Range
 
@@ -51,6 +52,7 @@ utf8-4 =
 abbrev pub utf8-char : List Alternative
 utf8-char = utf8-1 ++ (utf8-2 ++ (utf8-3 ++ utf8-4))
 
+-- an octet is in the range
 abbrev pub inRange : Range → ℕ → Bool
 inRange r b = both (leb (r .low) b) (leb b (r .high))
 

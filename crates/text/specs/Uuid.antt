@@ -1,6 +1,6 @@
 -- UUID texts: the four forms that `Uuid::parse_str` takes, by RFC 4122, section 3, and the text that is written.
--- Assumes nothing: these are definitions.
-use Prim.Native.Nat.{ℕ, zero, suc, _+_, _*_, _-_, _/_, _%_}
+-- Public contracts rest on these definitions; they assume nothing.
+use Prim.Native.Nat.{ℕ, zero, suc, _+_, _*_, _-_, _/_, _%_, _<_, _^_}
 use mathlib.Core.Bool.{Bool}
 use mathlib.Core.List.{List, [], _∷_, _++_}
 use lib.Dec.{ltb, leb, eqb}
@@ -109,3 +109,8 @@ bigEndian (suc k) n = bigEndian k (n / 256) ++ (n % 256 ∷ [])
 -- the sixteen bytes of a UUID, high byte first
 abbrev pub uuidBytes : Uuid → List ℕ
 uuidBytes u = bigEndian 8 (u .high) ++ bigEndian 8 (u .low)
+
+-- both halves of a UUID fit 64 bits, as those of every value of the program do
+pub record Small (u : Uuid) : Type 0 where
+  pub high : u .high < 2 ^ 64
+  pub low : u .low < 2 ^ 64

@@ -1,7 +1,7 @@
 -- One answer of the definition in each arm.
 use mathlib.Core.Path.{sym, ap, _∙_}
 use borrow.Author.Needs.{needs}
-use Rattle.store.specs.Saves.{saidBy}
+use Rattle.store.specs.Inner.{saidBy}
 use Rattle.store.proofs.saving.saved_as.Statement.{statement}
 use Rattle.store.proofs.saving.saved_as.Tie as tie
 

@@ -6,7 +6,8 @@ use native.Mathlib.Omega.{arith}
 use lib.ListN.{length, drop}
 use borrow.Author.Needs.{needs}
 use borrow.Author.Tests.{not-true, not-false}
-use Rattle.store.specs.Decode.{headAt, known, walk, zeroes}
+use Rattle.store.specs.Decode.{headAt, walk, zeroes}
+use Rattle.store.specs.Inner.{known}
 use Rattle.text.proofs.LentLaws.{tail-part}
 use Rattle.store.proofs.SoundLaws.{Walking, walking, walking-end, walking-bad, walking-turn}
 use Rattle.store.proofs.BoolLaws.{and-false-left}
