@@ -19,6 +19,10 @@ use Rattle.line.specs.declared.parser.Stepped.{Stepped}
 use Rattle.line.specs.Fields.{findFrom, field}
 use Rattle.line.specs.Pairs.{refuse, pairOf}
 
+-- "One made over a line that isn't UTF-8 gives 10 on every call.": the state of a walker that is made over a line
+unfoldable pub startOf : List ℕ → State
+startOf s = pick (isUtf8 s) St.Uuid St.NotUtf8
+
 -- a step: its answer, and the position and state after it
 abbrev pub stepped : Answer → ℕ → State → Stepped
 stepped a p st = record { answer = a; pos = p; state = st }
@@ -41,10 +45,6 @@ fieldStep s p e St.Name = stepped (Found (Tk.Name p (e - p))) (e + 1) St.KeyVal
 fieldStep s p e St.KeyVal = stepped (pairOf (field s p e) p) (e + 1) St.KeyVal
 fieldStep s p e St.Invalid = stepped (refuse Ek.InvalidParserState 0) p St.Invalid
 fieldStep s p e St.NotUtf8 = stepped (refuse Ek.NotUtf8 (validRun s)) p St.NotUtf8
-
--- the state of a walker that is made over a line
-unfoldable pub startOf : List ℕ → State
-startOf s = pick (isUtf8 s) St.Uuid St.NotUtf8
 
 -- "At or past the line's end: end."
 unfoldable pub stepOf : List ℕ → ℕ → State → Stepped

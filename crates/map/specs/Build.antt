@@ -46,13 +46,53 @@ filledButtons d = filledFrom (λ k. buttonOf d (record { 0 = k })) asButton butt
 abbrev pub filledAxes : MappingData → List Entry
 filledAxes d = filledFrom (λ k. axisOf d (record { 0 = k })) asAxis axisSlots 0
 
+-- ---- the line
+-- fields, each with a comma after it
+unfoldable pub ended : List (List ℕ) → List ℕ
+ended [] = []
+ended (f ∷ fs) = f ++ byte "," ∷ ended fs
+
+-- "its ident (the one name in `AXES_SDL` whose row in `AXES` is that element), `:b` or `:a`, index";
+-- "The index is a code's first place in its list."
+abbrev pub pairText : ℕ → List ℕ → Entry → List ℕ
+pairText letter codes e = identText (e .element) ++ byte ":" ∷ letter ∷ decimal (placeOf (e .code) codes)
+
+unfoldable pub pairTexts : ℕ → List ℕ → List Entry → List (List ℕ)
+pairTexts letter codes es = map (pairText letter codes) es
+
+-- "UUID in 32 lower-case digits, comma, name, comma, then per filled slot"
+unfoldable pub builtLine : MappingData → List ℕ → List ℕ → List ℕ → Uuid → List ℕ
+builtLine d buttons axes name uuid =
+    ended
+    (uuidText uuid
+    ∷ name
+    ∷ (pairTexts (byte "b") buttons (filledButtons d) ++ pairTexts (byte "a") axes (filledAxes d)))
+
+-- ---- "The map goes by the same puts."
+-- after 32 digits and a comma
+abbrev pub nameStart : ℕ
+nameStart = 33
+
+abbrev pub builtView : MappingData → List ℕ → MapView
+builtView d name =
+    record {
+      list = putsInto (filledButtons d ++ filledAxes d) [];
+      nameStart = nameStart;
+      nameLen = length name;
+      isDefault = false;
+      hatFlags = 0;
+    }
+
+unfoldable pub builtMap : MappingData → List ℕ → Mapping
+builtMap d name = toMap (builtView d name)
+
 -- ---- the checks: "Build 10, 17, 12, 13, 14 for the button, 15 for buttons ascending, 14 for the axis, 15 ascending,
 -- 16, 18", one line for each below; 18 stands in `answerOf`
 -- 17: "name over 2048 bytes"
 abbrev pub NAME_MAX : ℕ
 NAME_MAX = 2048
 
--- refused unless (when) the test holds, else as the rest says
+-- a check: refused with e unless (when) the test holds, else as the rest says
 abbrev pub unless : Bool → MappingError → MappingAnswer → MappingAnswer
 unless t e rest = pick t rest (Refused e)
 
@@ -97,46 +137,6 @@ checksOf d buttons axes name =
     (unless (listsFit buttons axes) Me.ListTooLong
     (unless (commaFree name) Me.InvalidName
     (slotChecks d buttons axes))))
-
--- ---- the line
--- fields, each with a comma after it
-unfoldable pub ended : List (List ℕ) → List ℕ
-ended [] = []
-ended (f ∷ fs) = f ++ byte "," ∷ ended fs
-
--- "its ident (the one name in `AXES_SDL` whose row in `AXES` is that element), `:b` or `:a`, index";
--- "The index is a code's first place in its list."
-abbrev pub pairText : ℕ → List ℕ → Entry → List ℕ
-pairText letter codes e = identText (e .element) ++ byte ":" ∷ letter ∷ decimal (placeOf (e .code) codes)
-
-unfoldable pub pairTexts : ℕ → List ℕ → List Entry → List (List ℕ)
-pairTexts letter codes es = map (pairText letter codes) es
-
--- "UUID in 32 lower-case digits, comma, name, comma, then per filled slot"
-unfoldable pub builtLine : MappingData → List ℕ → List ℕ → List ℕ → Uuid → List ℕ
-builtLine d buttons axes name uuid =
-    ended
-    (uuidText uuid
-    ∷ name
-    ∷ (pairTexts (byte "b") buttons (filledButtons d) ++ pairTexts (byte "a") axes (filledAxes d)))
-
--- ---- "The map goes by the same puts."
--- after 32 digits and a comma
-abbrev pub nameStart : ℕ
-nameStart = 33
-
-abbrev pub builtView : MappingData → List ℕ → MapView
-builtView d name =
-    record {
-      list = putsInto (filledButtons d ++ filledAxes d) [];
-      nameStart = nameStart;
-      nameLen = length name;
-      isDefault = false;
-      hatFlags = 0;
-    }
-
-unfoldable pub builtMap : MappingData → List ℕ → Mapping
-builtMap d name = toMap (builtView d name)
 
 -- ---- what build answers and leaves, room being the length of the output
 -- a refusal of the earlier checks stays
