@@ -246,12 +246,15 @@ def module(path):
 
 
 def public_sources(crate):
-    """The files whose `pub fn` others can call: the public modules that lib.rt lists, and those with C functions."""
-    found = [p for p in glob.glob(f"crates/{crate}/src/*.rt") if 'pub extern "C"' in open(p, encoding="utf-8").read()]
-    lib = f"crates/{crate}/src/lib.rt"
-    if os.path.exists(lib):
-        found += [f"crates/{crate}/src/{m}.rt" for m in re.findall(r"^pub mod (\w+);", open(lib).read(), re.M)]
-    return sorted(set(found))
+    """The files whose `pub fn` others can call: the public modules below lib.rt, and those with C functions."""
+    found = {p for p in glob.glob(f"crates/{crate}/src/*.rt") if 'pub extern "C"' in open(p, encoding="utf-8").read()}
+    open_ones = [f"crates/{crate}/src/lib.rt"]
+    for path in open_ones:
+        folder = os.path.dirname(path) if path.endswith("/lib.rt") else path[:-len(".rt")]
+        if os.path.exists(path):
+            found.add(path)
+            open_ones += [f"{folder}/{m}.rt" for m in re.findall(r"^pub mod (\w+);", open(path).read(), re.M)]
+    return sorted(found)
 
 
 def public_calls(crate):
