@@ -13,6 +13,7 @@ In a document, outside blocks of code:
   all     each definition in a file of the first kind (below) of the four layers has such a row in READING.md.
   edits   in REFUSED.md, below the heading of a crate, each call of a row is a function of that crate, each edit of a
           row is in its must-fail/, and each edit there has a row; each public call of the four layers has two rows.
+          A call that begins with _ is the end of a function's name.
 In specs/, a file is of the first kind ("rest on these definitions") or of the second ("No public contract rests on
 these"), and says so in its first lines; Lib.antt is neither. A file of the first kind uses none of the second, and a
 public function's contract names nothing of the second.
@@ -187,7 +188,8 @@ class Document:
         for call in re.findall(r"`([\w:]+)`", text):
             self.count("names", number, call)
             sources = glob.glob(f"crates/{self.section}/src/**/*.rt", recursive=True)
-            if not any(has(p, call) for p in sources):
+            ends = call.startswith("_") and any(n.endswith(call) for p in sources for n in names_in(p))
+            if not ends and not any(has(p, call) for p in sources):
                 self.fail(number, f"no function {call} in {self.section}")
 
     def quote(self, number, line, path):
