@@ -15,7 +15,7 @@ In a document, outside blocks of code:
           row is in its must-fail/, and each edit there has a row; each public call of the four layers has two rows.
           A call that begins with _ is the end of a function's name.
 In specs/, a file is of the first kind ("rest on these definitions") or of the second ("No public contract rests on
-these"), and says so in its first lines; Lib.antt is neither. A file of the first kind uses none of the second, and a
+these", or "cites these"), and says so in its first lines; Lib.antt is neither. A file of the first kind uses none of the second, and a
 public function's contract names nothing of the second.
 """
 import glob
@@ -32,7 +32,7 @@ KEYWORDS = set("pub abbrev unfoldable record data where let in use mod as ensure
 LAYERS = ("text", "line", "map", "store")
 WORD = re.compile(r"[^\W\d][\w'′%-]*$")
 FIRST = re.compile(r"rests? on these definitions; they assume nothing")
-SECOND = "No public contract rests on these"
+SECOND = re.compile(r"No public contract (rests on|cites) these")
 
 declared = {}
 
@@ -240,7 +240,7 @@ def definitions(path):
 
 def kind(path):
     head = "".join(open(path, encoding="utf-8").readlines()[:4])
-    return 1 if FIRST.search(head) else 2 if SECOND in head else 0
+    return 1 if FIRST.search(head) else 2 if SECOND.search(head) else 0
 
 
 def module(path):

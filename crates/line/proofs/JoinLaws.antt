@@ -10,7 +10,7 @@ use lib.ListN.{length, take, drop}
 use lib.Seq.{take-at, drop-append-add}
 use Rattle.text.specs.Bytes.{byte, firstOf}
 use Rattle.line.specs.Fields.{countOf, before, fieldsOf}
-use Rattle.line.specs.Inner.{laterFields}
+use Rattle.line.specs.Walks.{laterFields}
 
 -- ---- texts without some byte
 abbrev pub Free : ℕ → List ℕ → Type 0

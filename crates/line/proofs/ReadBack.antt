@@ -21,7 +21,7 @@ use Rattle.line.specs.declared.parser.ErrorKind.the-variants as Ek
 use Rattle.line.specs.declared.reading.SdlMapping.{SdlMapping}
 use Rattle.line.specs.Maps.{CODES_MAX, MapView, toMap, emptyMap, putsInto}
 use Rattle.line.specs.Fields.{fieldsOf, firstField}
-use Rattle.line.specs.Inner.{laterFields}
+use Rattle.line.specs.Walks.{laterFields}
 use Rattle.line.specs.Walker.{guidOf}
 use Rattle.line.specs.Reading.{LIST_MAX, parseError, acceptedOf, pairsFrom, namedFrom, headed, readLine}
 use Rattle.line.specs.Reading.{readingOf}

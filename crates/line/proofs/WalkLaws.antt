@@ -14,7 +14,7 @@ use Rattle.line.specs.declared.parser.State.the-variants as St
 use Rattle.line.specs.declared.parser.Token.the-variants as Tk
 use Rattle.line.specs.declared.parser.Answer.the-variants.{Found}
 use Rattle.line.specs.Fields.{findFrom, fieldsOf, firstField}
-use Rattle.line.specs.Inner.{laterFields, walked, pairsAt, namedAt}
+use Rattle.line.specs.Walks.{laterFields, walked, pairsAt, namedAt}
 use Rattle.line.specs.Walker.{guidOf, fieldStep, stepOf}
 use Rattle.line.proofs.FieldLaws.{ahead, field-length, fields-at}
 

@@ -14,4 +14,5 @@ pub mod Reading
 pub mod Refusals
 -- what private functions and proofs need
 pub mod Inner
+pub mod Walks
 pub mod Effects

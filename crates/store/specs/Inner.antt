@@ -32,11 +32,6 @@ use Rattle.store.specs.Saves.{refusedSave, acceptedSave}
 abbrev pub Bytes : List ℕ → Type 0
 Bytes s = (k : ℕ) → getD s k 0 < 256
 
--- the store is sound
-abbrev pub known : {A : Type 0} → Option A → Bool
-known none = false
-known (some a) = true
-
 -- ---- records
 
 -- numbers of two, four and eight bytes, high byte first
@@ -72,6 +67,11 @@ abbrev pub Sized : Key → ℕ → Type 0
 Sized k r = (off len : ℕ) → r ≡ length (recordBytes k off len)
 
 -- ---- lines that lie in an index
+
+-- the store is sound
+abbrev pub known : {A : Type 0} → Option A → Bool
+known none = false
+known (some a) = true
 
 -- the lines before the first one of that key
 unfoldable pub upTo : Key → List Held → List Held

@@ -1,5 +1,5 @@
--- The definitions of the store layer, in reading order: what a reader of the contracts and of the guarantee meets.
--- Decode computes what Layout says.
+-- The definitions of the store layer, in reading order. Decode computes what Layout says; Inner serves private
+-- functions only.
 pub mod Held
 pub mod Layout
 pub mod Decode

@@ -8,7 +8,7 @@ ghost use mathlib.Core.Path.{_≡_};
 ghost use Prim.Native.Nat.{_≤_, _<_, _^_};
 ghost use lib.ListN.{length};
 ghost use Rattle.line.specs.Walker.{uuidStep, fieldStep, stepOf};
-ghost use Rattle.line.specs.Inner.{leads};
+ghost use Rattle.line.specs.Walks.{leads};
 
 pub fn moved_to(line: &[u8], pos: usize, state: State) -> Moved
     ensures { λ r. ⌜ r ≡ leads (stepOf (now (line .entry)) pos state) ⌝ }

@@ -54,7 +54,7 @@ use denote.Triple.Table.{entered, cited}
 use denote.Triple.Walked.{says, Stays, stay-ref, walkOf, goes-ref, Walks, ends-at, walked, walk-meets}
 use denote.Triple.Clauses.{ensured, lasts}
 use Rattle.line.specs.Walker.{stepOf}
-use Rattle.line.specs.Inner.{leads}
+use Rattle.line.specs.Walks.{leads}
 use Rattle.line.specs.declared.parser.Parser.{Parser}
 use Rattle.line.specs.declared.parser.Moved.{Moved}
 use Rattle.line.specs.declared.parser.Answer.{Answer}
