@@ -129,9 +129,10 @@ pub enum Call {
     Get,
 }
 
-/// Look-ups, one that is held and one that is not, in turn.
+/// Look-ups, one that is held and one that is not, in turn. In a store that isn't sound, none is found.
 pub struct Look {
     pub store: Store,
+    pub sound: bool,
     pub call: Call,
     pub held: Vec<Uuid>,
     pub absent: Vec<Uuid>,
@@ -165,7 +166,7 @@ impl Work for Look {
     fn go(&mut self) {
         let held = self.one(self.held[self.turn % self.held.len()]);
         let absent = self.one(self.absent[self.turn % self.absent.len()]);
-        assert!(held && !absent, "look-ups answer rightly");
+        assert!(held == self.sound && !absent, "look-ups answer rightly");
     }
 }
 

@@ -25,6 +25,7 @@ struct Options {
     rows: Vec<String>,
     callgrind: Option<String>,
     json: bool,
+    worst: bool,
     hold: Option<f64>,
     notes: Vec<String>,
     files: Vec<String>,
@@ -48,6 +49,7 @@ fn options() -> Result<Options, String> {
             "--hold" => o.hold = Some(number(value()?)?),
             "--note" => o.notes.push(value()?),
             "--json" => o.json = true,
+            "--worst" => o.worst = true,
             _ => o.files.push(a),
         }
     }
@@ -68,7 +70,10 @@ fn report(o: &Options) -> Box<dyn Report> {
     match o.hold {
         Some(most) => Box::new(hold::Hold::new(most)),
         None if o.json => Box::new(json::Json::new(instructions, &notes)),
-        None => Box::new(table::Table::new(instructions, &notes)),
+        None => {
+            table::start(&notes);
+            Box::new(table::Table { instructions, worst_alone: o.worst, tally: Default::default() })
+        }
     }
 }
 

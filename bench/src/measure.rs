@@ -122,6 +122,8 @@ fn by_instructions(cases: &mut [Case], counter: &mut callgrind::Counter) -> Vec<
     };
     let mut costs = Vec::new();
     for c in cases.iter_mut() {
+        // a copy is one instruction that is repeated: its count says nothing
+        c.works.retain(|(s, _)| *s != Side::Copy);
         let sides: Vec<_> = c.works.iter_mut().map(|(s, w)| (*s, vec![count(&mut **w)])).collect();
         costs.push(c.costs(sides.into_iter()));
     }

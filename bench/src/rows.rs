@@ -8,6 +8,7 @@ use crate::uuids::{self, Family};
 use harness::gen::Rng;
 use harness::plain::{Uuid, AXIS};
 use harness::port::{Reading, Store};
+use std::collections::HashSet;
 
 #[derive(Clone, Copy)]
 pub enum Goal {
@@ -174,8 +175,9 @@ fn look(call: Call, uuids: &[Uuid], store: Store, label: String) -> Case {
     let held: Vec<Uuid> = (0..LOOKS).map(|_| r.pick(uuids)).collect();
     let absent: Vec<Uuid> = uuids::random(n + LOOKS).split_off(n);
     let gilrs = rust::Look::of(&text_of(uuids), &held, &absent);
-    let c = case(label, here::Look { store: store.clone(), call, held, absent, turn: 0, out: vec![0; 4096] }, gilrs);
-    with_passes(c, &store)
+    let sound = uuids.iter().collect::<HashSet<_>>().len() == n;
+    let port = here::Look { store: store.clone(), sound, call, held, absent, turn: 0, out: vec![0; 4096] };
+    with_passes(case(label, port, gilrs), &store)
 }
 
 /// Full stores: 3120 records, buffers of 65535 bytes.

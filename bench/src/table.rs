@@ -1,11 +1,13 @@
 //! The report as a table in Markdown, printed row by row.
 use crate::measure::{spread, Costs, Side, Spread};
-use crate::report::{goal_text, growths, judged, short, to, verdict, Report, Tally};
+use crate::report::{goal_text, growths, judged, short, to, verdict, worst, Report, Tally};
 use crate::rows::{Goal, Row};
 
 pub struct Table {
-    instructions: bool,
-    tally: Tally,
+    pub instructions: bool,
+    /// Only the worst case of each row is printed.
+    pub worst_alone: bool,
+    pub tally: Tally,
 }
 
 fn with_quartiles(s: Spread) -> String {
@@ -15,20 +17,19 @@ fn with_quartiles(s: Spread) -> String {
     format!("{} ({} to {})", short(s.median), short(s.quartiles.0), short(s.quartiles.1))
 }
 
-impl Table {
-    pub fn new(instructions: bool, notes: &[String]) -> Self {
-        notes.iter().for_each(|n| println!("- {n}"));
-        println!("\n| Row | Work | Case | Port | gilrs | Ratio (quartiles) | Other ratios | Goal | |");
-        println!("|---|---|---|---|---|---|---|---|---|");
-        Table { instructions, tally: Tally::default() }
-    }
+pub fn start(notes: &[String]) {
+    notes.iter().for_each(|n| println!("- {n}"));
+    println!("\n| Row | Work | Case | Port | gilrs | Ratio (quartiles) | Other ratios | Goal | |");
+    println!("|---|---|---|---|---|---|---|---|---|");
+}
 
+impl Table {
     fn cost(&self, x: f64) -> String {
+        let units = if self.instructions { ["", " thousand", " million"] } else { [" ns", " µs", " ms"] };
         match x {
-            x if self.instructions => short(x),
-            x if x >= 1e6 => format!("{} ms", short(x / 1e6)),
-            x if x >= 1e3 => format!("{} µs", short(x / 1e3)),
-            x => format!("{} ns", short(x)),
+            x if x >= 1e6 => short(x / 1e6) + units[2],
+            x if x >= 1e3 => short(x / 1e3) + units[1],
+            x => short(x) + units[0],
         }
     }
 
@@ -62,7 +63,13 @@ impl Table {
 impl Report for Table {
     fn row(&mut self, row: &Row, costs: &[Costs]) {
         self.tally.count(verdict(row.goal, costs));
-        for cases in judged(row.goal, costs) {
+        let mut lines = judged(row.goal, costs);
+        if self.worst_alone {
+            let by = |cases: &&[Costs]| worst(row.goal, cases).unwrap_or_default();
+            lines.sort_by(|a, b| by(b).total_cmp(&by(a)));
+            lines.truncate(1);
+        }
+        for cases in lines {
             let [case, ratio, others] = match row.goal {
                 Goal::Growth(_) => self.grown(cases),
                 _ => self.compared(row, &cases[0]),
