@@ -3,8 +3,8 @@ use crate::measure::Work;
 use harness::port::Store;
 use std::hint::black_box;
 
-/// The sum of the bytes in 64 bits, as the compiler makes it: rustc 1.95 adds one byte at a time, eight in a turn of the
-/// loop, and uses no vector instructions.
+/// The sum of the bytes in 64 bits, as the compiler makes it: rustc 1.95 adds one byte at a time, eight in a turn of
+/// the loop, and uses no vector instructions.
 #[inline(never)]
 fn sum(bytes: &[u8]) -> u64 {
     bytes.iter().map(|b| *b as u64).sum()
