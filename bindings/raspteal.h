@@ -204,6 +204,9 @@ bool raspteal_same_bytes(const uint8_t *a, size_t a_len, const uint8_t *b, size_
 /* The place of the first byte b, or s_len. */
 size_t raspteal_find_byte(const uint8_t *s, size_t s_len, uint8_t b);
 
+/* Whether len bytes fit from place `at` on into a buffer of room bytes. at + len may be any sum: it never overflows. */
+bool raspteal_fits(size_t room, size_t at, size_t len);
+
 /* Writes v at place `at` of out. Where it does not fit, out is left as it is. */
 raspteal_written raspteal_write_bytes(uint8_t *out, size_t out_len, size_t at, const uint8_t *v, size_t v_len);
 
@@ -259,6 +262,9 @@ raspteal_ident raspteal_ident_of(raspteal_element e);
 
 /* ---- Maps -------------------------------------------------------------------------------------------------------- */
 
+/* The entry of a code and an element. Any element number is taken as it is. */
+raspteal_entry raspteal_entry_new(uint32_t code, raspteal_element element);
+
 /* The empty map: all 0. */
 raspteal_mapping raspteal_mapping_new(void);
 
@@ -280,12 +286,24 @@ uint8_t raspteal_parser_start(const uint8_t *line, size_t line_len);
  * the kind is RASPTEAL_END. After refusals 1, 2 and 10 no end comes: the next steps say 9, or 10 again. */
 raspteal_step raspteal_parser_step(const uint8_t *line, size_t line_len, size_t pos, uint8_t state);
 
+/* The first answer over a line: the token of the step at position 0 in the state that raspteal_parser_start gives. */
+raspteal_token raspteal_first_token(const uint8_t *line, size_t line_len);
+
 /* The map of a line, by the lists of the pad's button and axis codes. Refusals: 10, 12, then 1 to 7 and 11 in the order
  * of the line. */
 raspteal_answer raspteal_parse_sdl_mapping(const uint8_t *line, size_t line_len, const uint32_t *buttons,
                                            size_t buttons_len, const uint32_t *axes, size_t axes_len);
 
 /* ---- Slots, build and default ------------------------------------------------------------------------------------- */
+
+/* A slot filled with a code. */
+raspteal_slot raspteal_slot_new(uint32_t code);
+
+/* The code of a slot; where it is not filled there is none, whatever its code says. */
+raspteal_code raspteal_slot_code(raspteal_slot slot);
+
+/* Whether there is a code: the flag found. */
+bool raspteal_slot_code_is_some(raspteal_code code);
 
 /* No slot is filled. */
 raspteal_data raspteal_data_new(void);

@@ -62,6 +62,8 @@ static void text(void) {
     CHECK(raspteal_find_byte(TEXT("a,b"), ',') == 1);
     CHECK(raspteal_same_bytes(TEXT("ab"), TEXT("ab")));
     CHECK(!raspteal_same_bytes(TEXT("ab"), TEXT("abc")));
+    CHECK(raspteal_fits(40, 8, 32) && !raspteal_fits(40, 9, 32));
+    CHECK(!raspteal_fits(40, 41, 0) && !raspteal_fits(40, SIZE_MAX, SIZE_MAX));
     raspteal_uuid_parse u = raspteal_uuid_parse_str(TEXT("urn:uuid:F81D4FAE-7DEC-11D0-A765-00A0C91E6BF6"));
     CHECK(u.valid && u.id.high == 0xf81d4fae7dec11d0 && u.id.low == 0xa76500a0c91e6bf6);
     CHECK(!raspteal_uuid_parse_str(TEXT("{" U "}")).valid);
@@ -102,6 +104,11 @@ static void lines(void) {
     CHECK(s.token.kind == RASPTEAL_HAT && s.token.pair.direction == 1 && s.token.pair.to.number == 16);
     s = raspteal_parser_step(TEXT(line), s.pos, s.state);
     CHECK(s.token.kind == RASPTEAL_END);
+    raspteal_token t = raspteal_first_token(TEXT("xinput,T"));
+    CHECK(t.kind == RASPTEAL_UUID && t.id.high == 0 && t.id.low == 0);
+    t = raspteal_first_token(TEXT("T\xff"));
+    CHECK(t.kind == RASPTEAL_REFUSED && t.refusal.number == 10 && t.refusal.place == 1);
+    CHECK(raspteal_first_token(TEXT("")).kind == RASPTEAL_END);
 
     raspteal_answer r = raspteal_parse_sdl_mapping(TEXT(line), LIST(buttons), LIST(axes));
     CHECK(r.refusal.number == 0 && r.map.count == 2 && r.map.hats_mapped == 1);
@@ -112,7 +119,10 @@ static void lines(void) {
     CHECK(raspteal_mapping_map_rev(r.map, (raspteal_element){true, 8}).code == 0x30011);
     CHECK(!raspteal_mapping_map(r.map, 0).found);
 
-    raspteal_entry e = {7, {false, 3}};
+    raspteal_entry e = raspteal_entry_new(7, (raspteal_element){false, 3});
+    CHECK(e.code == 7 && !e.element.is_axis && e.element.number == 3);
+    e = raspteal_entry_new(7, (raspteal_element){true, 65535});
+    CHECK(e.element.is_axis && e.element.number == 65535);
     raspteal_answer p = raspteal_mapping_put(raspteal_mapping_new(), e);
     CHECK(p.refusal.number == 0 && p.map.count == 1 && p.map.entries[0].code == 7);
 
@@ -125,6 +135,12 @@ static void lines(void) {
 static void builds(void) {
     uint8_t out[64];
     memset(out, '.', sizeof out);
+    raspteal_slot slot = raspteal_slot_new(0x10131);
+    CHECK(slot.filled && slot.code == 0x10131);
+    CHECK(raspteal_slot_code(slot).code == 0x10131 && raspteal_slot_code_is_some(raspteal_slot_code(slot)));
+    slot.filled = false;
+    CHECK(!raspteal_slot_code(slot).found && raspteal_slot_code(slot).code == 0);
+    CHECK(!raspteal_slot_code_is_some((raspteal_code){false, 5}));
     raspteal_changed c = raspteal_data_insert_btn(raspteal_data_new(), 0x10131, 1);
     CHECK(!c.former.found && raspteal_data_button(c.slots, 1).code == 0x10131);
     raspteal_built b = raspteal_from_data(c.slots, LIST(buttons), LIST(axes), TEXT("T"), (raspteal_uuid){0, 0}, BUFFER(out));

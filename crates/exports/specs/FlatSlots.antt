@@ -3,6 +3,7 @@
 use Prim.Native.Nat.{ℕ}
 use mathlib.Core.Bool.{true, false}
 use mathlib.Core.List.{map}
+use Rattle.text.specs.Bytes.{pick}
 use Rattle.line.specs.Elements.{codeOf}
 use Rattle.map.specs.declared.mapping_data.Slot.{Slot}
 use Rattle.map.specs.declared.mapping_data.MappingData.{MappingData}
@@ -39,6 +40,9 @@ dataIn d = record { buttons = map slotIn (d .buttons); axes = map slotIn (d .axe
 abbrev pub flatSlotCode : SlotCode → FlatCode
 flatSlotCode (Sc.Is c) = record { found = true; code = c .0 }
 flatSlotCode Sc.Nothing = record { found = false; code = 0 }
+
+abbrev pub slotCodeIn : FlatCode → SlotCode
+slotCodeIn c = pick (c .found) (Sc.Is (codeOf (c .code))) Sc.Nothing
 
 abbrev pub flatChanged : Changed → FlatChanged
 flatChanged c = record { former = flatSlotCode (c .former); slots = flatData (c .slots) }

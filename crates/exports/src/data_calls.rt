@@ -1,19 +1,23 @@
 // The calls of the map layer on slots.
 use crate::flat_data::FlatData;
+use crate::flat_data::FlatSlot;
 use crate::flat_data::data_of;
 use crate::flat_data::flat_data;
+use crate::flat_data::flat_slot;
+use crate::flat_data::slot_of;
 use crate::line_calls::FlatCode;
 use line::ev::Axis;
 use line::ev::Button;
 use line::ev::Code;
 use map::mapping_data::Changed;
 use map::mapping_data::MappingData;
+use map::mapping_data::Slot;
 use map::mapping_data::SlotCode;
 ghost use mathlib.Core.Path.{_≡_};
 ghost use Rattle.line.specs.Elements.{codeOf};
-ghost use Rattle.map.specs.Slots.{noSlots, buttonOf, axisOf, insertBtnOf, insertAxisOf, removeButtonOf, removeAxisOf};
+ghost use Rattle.map.specs.Slots.{filledWith, codeIn, hasCode, noSlots, buttonOf, axisOf, insertBtnOf, insertAxisOf, removeButtonOf, removeAxisOf};
 ghost use Rattle.exports.specs.Flat.{buttonIn, axisIn};
-ghost use Rattle.exports.specs.FlatSlots.{flatData, dataIn, flatSlotCode, flatChanged};
+ghost use Rattle.exports.specs.FlatSlots.{flatSlot, slotIn, flatData, dataIn, flatSlotCode, slotCodeIn, flatChanged};
 
 // What an insert or a remove hands back: the former code, and the changed slots.
 #[repr(C)]
@@ -37,6 +41,15 @@ fn flat_slot_code(c: SlotCode) -> FlatCode
     }
 }
 
+fn slot_code_of(c: FlatCode) -> SlotCode
+    ensures { λ r. ⌜ r ≡ slotCodeIn c ⌝ }
+{
+    if c.found {
+        return SlotCode::Is(Code(c.code));
+    }
+    SlotCode::Nothing
+}
+
 fn flat_changed(c: Changed) -> FlatChanged
     ensures { λ r. ⌜ r ≡ flatChanged c ⌝ }
 {
@@ -46,6 +59,27 @@ fn flat_changed(c: Changed) -> FlatChanged
         former: flat_slot_code(former),
         slots: flat_data(slots),
     }
+}
+
+#[no_mangle]
+pub extern "C" fn raspteal_slot_new(code: u32) -> FlatSlot
+    ensures { λ r. ⌜ r ≡ flatSlot (filledWith (codeOf code)) ⌝ }
+{
+    flat_slot(Slot::new(Code(code)))
+}
+
+#[no_mangle]
+pub extern "C" fn raspteal_slot_code(slot: FlatSlot) -> FlatCode
+    ensures { λ r. ⌜ r ≡ flatSlotCode (codeIn (slotIn slot)) ⌝ }
+{
+    flat_slot_code(slot_of(slot).code())
+}
+
+#[no_mangle]
+pub extern "C" fn raspteal_slot_code_is_some(c: FlatCode) -> bool
+    ensures { λ r. ⌜ r ≡ hasCode (slotCodeIn c) ⌝ }
+{
+    slot_code_of(c).is_some()
 }
 
 #[no_mangle]

@@ -27,7 +27,7 @@ impl FlatSlot {
     };
 }
 
-fn flat_slot(s: Slot) -> FlatSlot
+pub fn flat_slot(s: Slot) -> FlatSlot
     ensures { λ r. ⌜ r ≡ flatSlot s ⌝ }
 {
     FlatSlot {
@@ -36,7 +36,7 @@ fn flat_slot(s: Slot) -> FlatSlot
     }
 }
 
-fn slot_of(s: FlatSlot) -> Slot
+pub fn slot_of(s: FlatSlot) -> Slot
     ensures { λ r. ⌜ r ≡ slotIn s ⌝ }
 {
     Slot {

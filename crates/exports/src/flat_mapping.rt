@@ -36,7 +36,7 @@ impl FlatEntry {
     };
 }
 
-fn flat_entry(e: Entry) -> FlatEntry
+pub fn flat_entry(e: Entry) -> FlatEntry
     ensures { λ r. ⌜ r ≡ flatEntry e ⌝ }
 {
     let element = e.element;

@@ -8,10 +8,12 @@ use crate::flat::flat_refusal;
 use crate::flat_mapping::FlatEntry;
 use crate::flat_mapping::FlatMapping;
 use crate::flat_mapping::entry_of;
+use crate::flat_mapping::flat_entry;
 use crate::flat_mapping::flat_mapping;
 use crate::flat_mapping::mapping_of;
 use crate::line_calls::FlatCode;
 use line::ev::Code;
+use line::mapping::Entry;
 use line::mapping::Mapped;
 use line::mapping::Mapping;
 use line::mapping::PutResult;
@@ -20,11 +22,11 @@ use line::tables::IDENT_MAX;
 use line::tables::KeyElement;
 ghost use mathlib.Core.Path.{_≡_};
 ghost use Rattle.line.specs.Elements.{codeOf};
-ghost use Rattle.line.specs.Maps.{emptyMap, held, putOf, mapOf, mapRevOf};
+ghost use Rattle.line.specs.Maps.{entryOf, emptyMap, held, putOf, mapOf, mapRevOf};
 ghost use Rattle.line.specs.Tables.{keyElement, identOf};
 ghost use Rattle.line.specs.Refusals.{putOutcome};
 ghost use Rattle.exports.specs.Flat.{elementOf, flatOutcome};
-ghost use Rattle.exports.specs.FlatMaps.{flatMapping, mappingIn, entryIn, flatPut, flatMapped, flatSource, flatKeyElement, flatIdent};
+ghost use Rattle.exports.specs.FlatMaps.{flatEntry, flatMapping, mappingIn, entryIn, flatPut, flatMapped, flatSource, flatKeyElement, flatIdent};
 
 // A map after a put. A refused put leaves it as it was.
 #[repr(C)]
@@ -45,6 +47,13 @@ pub struct FlatMapped {
 pub struct FlatIdent {
     pub name: [u8; IDENT_MAX],
     pub len: usize,
+}
+
+#[no_mangle]
+pub extern "C" fn raspteal_entry_new(code: u32, element: FlatElement) -> FlatEntry
+    ensures { λ r. ⌜ r ≡ flatEntry (entryOf (codeOf code) (elementOf element)) ⌝ }
+{
+    flat_entry(Entry::new(Code(code), element_of(element)))
 }
 
 #[no_mangle]

@@ -14,11 +14,12 @@ use line::reading::ParseSdlMappingError;
 use line::reading::SdlAnswer;
 ghost use mathlib.Core.Path.{_≡_};
 ghost use Rattle.line.specs.Walker.{startOf, stepOf};
+ghost use Rattle.line.specs.Parser.{parserOf, stepFrom};
 ghost use Rattle.line.specs.Reading.{readingOf};
 ghost use Rattle.line.specs.Refusals.{readingOutcome, readingRefusal};
 ghost use Rattle.line.specs.Refusals as Refusals;
 ghost use Rattle.exports.specs.Flat.{flatOutcome};
-ghost use Rattle.exports.specs.FlatTokens.{stateNumber, stateIn, flatStep};
+ghost use Rattle.exports.specs.FlatTokens.{stateNumber, stateIn, flatAnswer, flatStep};
 ghost use Rattle.exports.specs.FlatMaps.{flatReading};
 
 // A step of the walker: its answer, and where it goes on.
@@ -55,6 +56,13 @@ pub extern "C" fn raspteal_parser_step(line: &[u8], pos: usize, state: u8) -> Fl
         pos: next.pos,
         state: state_number(after),
     }
+}
+
+#[no_mangle]
+pub extern "C" fn raspteal_first_token(line: &[u8]) -> FlatToken
+    ensures { λ r. ⌜ r ≡ flatAnswer (stepFrom (parserOf (line .entry)) .answer) ⌝ }
+{
+    flat_answer(line::parser::first_token(line))
 }
 
 #[no_mangle]

@@ -8,7 +8,7 @@ use text::uuid::Uuid;
 use text::uuid::UuidParse;
 ghost use mathlib.Core.Path.{_≡_};
 ghost use lib.ListN.{length};
-ghost use Rattle.text.specs.Bytes.{same, firstOf, writeAnswer, writeBuffer};
+ghost use Rattle.text.specs.Bytes.{same, firstOf, fitsAt, writeAnswer, writeBuffer};
 ghost use Rattle.text.specs.Utf8.{validRun, isUtf8};
 ghost use Rattle.text.specs.Uuid.{uuidOf, uuidText};
 ghost use Rattle.text.specs.Decimal.{indexNumber, decimal};
@@ -38,6 +38,13 @@ pub extern "C" fn raspteal_find_byte(s: &[u8], b: u8) -> usize
     ensures { λ r. ⌜ r ≡ firstOf b (now (s .entry)) ⌝ }
 {
     text::bytes::find_byte(s, b)
+}
+
+#[no_mangle]
+pub extern "C" fn raspteal_fits(room: usize, at: usize, len: usize) -> bool
+    ensures { λ r. ⌜ r ≡ fitsAt room at len ⌝ }
+{
+    text::bytes::fits(room, at, len)
 }
 
 #[no_mangle]
