@@ -303,7 +303,7 @@ raspteal_slot raspteal_slot_new(uint32_t code);
 raspteal_code raspteal_slot_code(raspteal_slot slot);
 
 /* Whether there is a code: the flag found. */
-bool raspteal_slot_code_is_some(raspteal_code code);
+bool raspteal_slot_code_is_some(raspteal_code c);
 
 /* No slot is filled. */
 raspteal_data raspteal_data_new(void);

@@ -3,8 +3,9 @@ pub mod book;
 pub mod check;
 pub mod compare;
 pub mod doc01;
-pub mod ffi;
 pub mod gen;
 pub mod plain;
 pub mod port;
 pub mod stores;
+
+pub use raspteal::ffi;

@@ -1,48 +1,65 @@
-//! The functions of bindings/raspteal.h. Nothing checks these declarations against it: keep the two side by side.
-//! A slice is a pointer and a length; a struct passes by value.
+//! The functions of bindings/raspteal.h, in its order. `bindings/declared` compares these declarations with it and with the
+//! Rattle source. A slice is a pointer and a length; a struct passes by value.
+#![allow(unsafe_code, missing_docs)]
+
+pub mod safe;
 
 pub const CODES_MAX: usize = 256;
 pub const BUTTONS: usize = 20;
 pub const AXES: usize = 9;
 pub const IDENT_MAX: usize = 13;
+pub const LIST_MAX: usize = 1024;
+pub const NAME_MAX: usize = 2048;
+pub const LINE_MAX: usize = 4096;
+pub const BUFFER_MAX: usize = 65535;
+
+/// The kinds of a token.
+pub const END: u8 = 0;
+pub const REFUSED: u8 = 1;
+pub const UUID: u8 = 2;
+pub const PLATFORM: u8 = 3;
+pub const NAME: u8 = 4;
+pub const AXIS: u8 = 5;
+pub const BUTTON: u8 = 6;
+pub const HAT: u8 = 7;
 
 #[repr(C)]
-#[derive(Clone, Copy, Debug)]
+#[derive(Clone, Copy, Debug, PartialEq, Eq)]
 pub struct Written {
     pub fits: bool,
     pub next: usize,
 }
 
 #[repr(C)]
-#[derive(Clone, Copy, Debug)]
+#[derive(Clone, Copy, Debug, PartialEq, Eq)]
 pub struct Uuid {
     pub high: u64,
     pub low: u64,
 }
 
 #[repr(C)]
-#[derive(Clone, Copy, Debug)]
+#[derive(Clone, Copy, Debug, PartialEq, Eq)]
 pub struct UuidParse {
     pub valid: bool,
     pub id: Uuid,
 }
 
 #[repr(C)]
-#[derive(Clone, Copy, Debug)]
+#[derive(Clone, Copy, Debug, PartialEq, Eq)]
 pub struct IndexParse {
     pub valid: bool,
     pub number: u16,
 }
 
 #[repr(C)]
-#[derive(Clone, Copy, Debug)]
+#[derive(Clone, Copy, Debug, PartialEq, Eq)]
 pub struct Element {
     pub is_axis: bool,
     pub number: u16,
 }
 
 #[repr(C)]
-#[derive(Clone, Copy, Debug)]
+#[derive(Clone, Copy, Debug, PartialEq, Eq)]
 pub struct Refusal {
     pub number: u8,
     pub has_place: bool,
@@ -52,42 +69,42 @@ pub struct Refusal {
 }
 
 #[repr(C)]
-#[derive(Clone, Copy, Debug)]
+#[derive(Clone, Copy, Debug, PartialEq, Eq)]
 pub struct Code {
     pub found: bool,
     pub code: u32,
 }
 
 #[repr(C)]
-#[derive(Clone, Copy, Debug)]
+#[derive(Clone, Copy, Debug, PartialEq, Eq)]
 pub struct AxisNumber {
     pub found: bool,
     pub number: u16,
 }
 
 #[repr(C)]
-#[derive(Clone, Copy, Debug)]
+#[derive(Clone, Copy, Debug, PartialEq, Eq)]
 pub struct Mapped {
     pub found: bool,
     pub element: Element,
 }
 
 #[repr(C)]
-#[derive(Clone, Copy, Debug)]
+#[derive(Clone, Copy, Debug, PartialEq, Eq)]
 pub struct Ident {
     pub name: [u8; IDENT_MAX],
     pub len: usize,
 }
 
 #[repr(C)]
-#[derive(Clone, Copy, Debug)]
+#[derive(Clone, Copy, Debug, PartialEq, Eq)]
 pub struct Entry {
     pub code: u32,
     pub element: Element,
 }
 
 #[repr(C)]
-#[derive(Clone, Copy)]
+#[derive(Clone, Copy, Debug, PartialEq, Eq)]
 pub struct Mapping {
     pub count: usize,
     pub entries: [Entry; CODES_MAX],
@@ -99,14 +116,14 @@ pub struct Mapping {
 
 /// The answer of a put, a reading, a default and a save: on a refusal the map is empty (a put's as it was).
 #[repr(C)]
-#[derive(Clone, Copy)]
+#[derive(Clone, Copy, Debug, PartialEq, Eq)]
 pub struct Answer {
     pub refusal: Refusal,
     pub map: Mapping,
 }
 
 #[repr(C)]
-#[derive(Clone, Copy, Debug)]
+#[derive(Clone, Copy, Debug, PartialEq, Eq)]
 pub struct Pair {
     pub from: u16,
     pub direction: u16,
@@ -117,7 +134,7 @@ pub struct Pair {
 }
 
 #[repr(C)]
-#[derive(Clone, Copy, Debug)]
+#[derive(Clone, Copy, Debug, PartialEq, Eq)]
 pub struct Token {
     pub kind: u8,
     pub refusal: Refusal,
@@ -128,7 +145,7 @@ pub struct Token {
 }
 
 #[repr(C)]
-#[derive(Clone, Copy, Debug)]
+#[derive(Clone, Copy, Debug, PartialEq, Eq)]
 pub struct Step {
     pub token: Token,
     pub pos: usize,
@@ -136,28 +153,28 @@ pub struct Step {
 }
 
 #[repr(C)]
-#[derive(Clone, Copy, Debug)]
+#[derive(Clone, Copy, Debug, PartialEq, Eq)]
 pub struct Slot {
     pub filled: bool,
     pub code: u32,
 }
 
 #[repr(C)]
-#[derive(Clone, Copy, Debug)]
+#[derive(Clone, Copy, Debug, PartialEq, Eq)]
 pub struct MappingData {
     pub buttons: [Slot; BUTTONS],
     pub axes: [Slot; AXES],
 }
 
 #[repr(C)]
-#[derive(Clone, Copy, Debug)]
+#[derive(Clone, Copy, Debug, PartialEq, Eq)]
 pub struct Changed {
     pub former: Code,
     pub slots: MappingData,
 }
 
 #[repr(C)]
-#[derive(Clone, Copy)]
+#[derive(Clone, Copy, Debug, PartialEq, Eq)]
 pub struct Built {
     pub refusal: Refusal,
     pub map: Mapping,
@@ -165,14 +182,14 @@ pub struct Built {
 }
 
 #[repr(C)]
-#[derive(Clone, Copy, Debug)]
+#[derive(Clone, Copy, Debug, PartialEq, Eq)]
 pub struct Inserted {
     pub refusal: Refusal,
     pub count: usize,
 }
 
 #[repr(C)]
-#[derive(Clone, Copy, Debug)]
+#[derive(Clone, Copy, Debug, PartialEq, Eq)]
 pub struct Look {
     pub refusal: Refusal,
     pub found: bool,
@@ -181,6 +198,7 @@ pub struct Look {
 extern "C" {
     pub fn raspteal_same_bytes(a: *const u8, a_len: usize, b: *const u8, b_len: usize) -> bool;
     pub fn raspteal_find_byte(s: *const u8, s_len: usize, b: u8) -> usize;
+    pub fn raspteal_fits(room: usize, at: usize, len: usize) -> bool;
     pub fn raspteal_write_bytes(out: *mut u8, out_len: usize, at: usize, v: *const u8, v_len: usize) -> Written;
     pub fn raspteal_valid_up_to(s: *const u8, s_len: usize) -> usize;
     pub fn raspteal_is_utf8(s: *const u8, s_len: usize) -> bool;
@@ -200,16 +218,21 @@ extern "C" {
     pub fn raspteal_find_element(key: *const u8, key_len: usize) -> Mapped;
     pub fn raspteal_ident_of(e: Element) -> Ident;
 
+    pub fn raspteal_entry_new(code: u32, element: Element) -> Entry;
     pub fn raspteal_mapping_new() -> Mapping;
     pub fn raspteal_mapping_put(map: Mapping, e: Entry) -> Answer;
     pub fn raspteal_mapping_map(map: Mapping, code: u32) -> Mapped;
     pub fn raspteal_mapping_map_rev(map: Mapping, e: Element) -> Code;
     pub fn raspteal_parser_start(line: *const u8, line_len: usize) -> u8;
     pub fn raspteal_parser_step(line: *const u8, line_len: usize, pos: usize, state: u8) -> Step;
+    pub fn raspteal_first_token(line: *const u8, line_len: usize) -> Token;
     pub fn raspteal_parse_sdl_mapping(
         line: *const u8, line_len: usize, buttons: *const u32, buttons_len: usize, axes: *const u32, axes_len: usize,
     ) -> Answer;
 
+    pub fn raspteal_slot_new(code: u32) -> Slot;
+    pub fn raspteal_slot_code(slot: Slot) -> Code;
+    pub fn raspteal_slot_code_is_some(c: Code) -> bool;
     pub fn raspteal_data_new() -> MappingData;
     pub fn raspteal_data_button(data: MappingData, button: u16) -> Code;
     pub fn raspteal_data_axis(data: MappingData, axis: u16) -> Code;

@@ -1,0 +1,135 @@
+"""The three declarations of the C functions, compared: see bindings/declared. A type is told as C tells it."""
+import re
+import sys
+from pathlib import Path
+
+NUMBERS = {"u8": "uint8_t", "u16": "uint16_t", "u32": "uint32_t", "u64": "uint64_t", "usize": "size_t", "bool": "bool"}
+LIMITS = ["CODES_MAX", "LIST_MAX", "NAME_MAX", "LINE_MAX", "BUFFER_MAX", "BUTTONS", "AXES", "IDENT_MAX"]
+
+# Structs whose C name is not their own: a map with a refusal is one struct in C.
+RATTLE = {name: "answer" for name in ("FlatPut", "FlatReading", "FlatDefault", "FlatSaved")}
+RUST = {"AxisNumber": "axis", "MappingData": "data"}
+
+
+def snake(name):
+    return re.sub(r"(?<=[a-z])(?=[A-Z])", "_", name).lower()
+
+
+def number_or_struct(kind, renamed):
+    if kind in NUMBERS:
+        return NUMBERS[kind]
+    return "raspteal_" + renamed.get(kind, snake(re.sub("^Flat", "", kind)))
+
+
+def plain_type(text, renamed):
+    """A field's, argument's or result's type of Rattle or Rust, as C has it; an array ends in its length."""
+    array = re.match(r"\[(\w+); (\w+)\]", text)
+    if array:
+        return f"{number_or_struct(array[1], renamed)}[{array[2]}]"
+    pointer = re.match(r"\*(const|mut) (\w+)", text)
+    if pointer:
+        return ("const " if pointer[1] == "const" else "") + number_or_struct(pointer[2], renamed) + " *"
+    return number_or_struct(text, renamed)
+
+
+def parted(text):
+    return [part.strip() for part in re.sub(r"\s+", " ", text).split(",") if part.strip()]
+
+
+def named(text):
+    """(name, type) of each `name: type` in a list."""
+    return [tuple(part.replace("pub ", "").split(": ", 1)) for part in parted(text)]
+
+
+def rattle():
+    text = "\n".join(path.read_text() for path in sorted(Path("crates/exports/src").glob("*.rt")))
+    structs, calls = {}, {}
+    for m in re.finditer(r"#\[repr\(C\)\]\npub struct (\w+) \{(.*?)\n\}", text, re.S):
+        fields = [(name, plain_type(kind, RATTLE)) for name, kind in named(m[2])]
+        structs.setdefault(number_or_struct(m[1], RATTLE), []).append(fields)
+    for m in re.finditer(r'#\[no_mangle\]\npub extern "C" fn (\w+)\((.*?)\)(?: -> (\w+))?\s+ensures', text, re.S):
+        arguments = []
+        for name, kind in named(m[2]):
+            lent = re.match(r"&(mut )?\[(\w+)\]", kind)
+            if lent:
+                arguments += [(name, f"{'' if lent[1] else 'const '}{NUMBERS[lent[2]]} *"), (name + "_len", "size_t")]
+            else:
+                arguments.append((name, plain_type(kind, RATTLE)))
+        calls[m[1]] = (arguments, plain_type(m[3], RATTLE))
+    return structs, calls
+
+
+def rust():
+    text = Path("bindings/rust/src/ffi.rs").read_text()
+    structs, calls = {}, {}
+    for m in re.finditer(r"#\[repr\(C\)\]\n#\[derive[^\n]*\npub struct (\w+) \{(.*?)\n\}", text, re.S):
+        fields = [(name, plain_type(kind, RUST)) for name, kind in named(m[2])]
+        structs.setdefault(number_or_struct(m[1], RUST), []).append(fields)
+    for m in re.finditer(r"pub fn (\w+)\((.*?)\) -> (\w+);", text, re.S):
+        calls[m[1]] = ([(name, plain_type(kind, RUST)) for name, kind in named(m[2])], plain_type(m[3], RUST))
+    return structs, calls
+
+
+def c_header():
+    text = re.sub(r"/\*.*?\*/", "", Path("bindings/raspteal.h").read_text(), flags=re.S)
+    structs, calls = {}, {}
+    for m in re.finditer(r"typedef struct \{(.*?)\} (\w+);", text, re.S):
+        fields = []
+        for part in re.sub(r"\s+", " ", m[1]).split(";"):
+            if part.strip():
+                kind, name, length = re.match(r"(\w+) (\w+)(?:\[RASPTEAL_(\w+)\])?$", part.strip()).groups()
+                fields.append((name, f"{kind}[{length}]" if length else kind))
+        structs.setdefault(m[2], []).append(fields)
+    for m in re.finditer(r"^(\w+) (raspteal_\w+)\((.*?)\);", text, re.S | re.M):
+        arguments = []
+        for part in parted(m[3]):
+            if part != "void":
+                kind, name = re.match(r"(.*?[ *])(\w+)$", part).groups()
+                arguments.append((name, kind.strip()))
+        calls[m[2]] = (arguments, m[1])
+    return structs, calls
+
+
+def limits():
+    """Each limit as the crates, the header and the Rust crate have it."""
+    crates = "\n".join(p.read_text() for layer in ("line", "map", "store") for p in Path(f"crates/{layer}/src").rglob("*.rt"))
+    header, ffi = Path("bindings/raspteal.h").read_text(), Path("bindings/rust/src/ffi.rs").read_text()
+    for name in LIMITS:
+        yield name, [
+            set(re.findall(rf"^pub const {name}: usize = (\d+);", crates, re.M)),
+            set(re.findall(rf"^#define RASPTEAL_{name} (\d+)", header, re.M)),
+            set(re.findall(rf"^pub const {name}: usize = (\d+);", ffi, re.M)),
+        ]
+
+
+def main():
+    passed, failed = 0, 0
+
+    def check(right, what):
+        nonlocal passed, failed
+        passed, failed = passed + bool(right), failed + (not right)
+        if not right:
+            print(what)
+
+    (ours, calls), (header, prototypes), (ffi, externs) = rattle(), c_header(), rust()
+    for name in sorted(set(calls) | set(prototypes) | set(externs)):
+        told = calls.get(name), prototypes.get(name), externs.get(name)
+        check(None not in told and told[0] == told[1] == told[2], f"{name}:\n  exports {told[0]}\n  header  {told[1]}\n  ffi.rs  {told[2]}")
+    for name in sorted(set(ours) | set(header) | set(ffi)):
+        told = [fields for side in (ours, header, ffi) for fields in side.get(name, [None])]
+        check(None not in told and all(fields == told[0] for fields in told), f"{name}: {told}")
+    for name, told in limits():
+        check(told[0] == told[1] == told[2] and len(told[0]) == 1, f"{name}: exports, header, ffi.rs: {told}")
+    test = Path("bindings/c/test.c").read_text()
+    safe = Path("bindings/rust/src/ffi/safe.rs").read_text()
+    sources = [p for folder in ("src", "tests") for p in Path("bindings/rust", folder).glob("*.rs")]
+    used = "\n".join(p.read_text() for p in sources)
+    for name in sorted(calls):
+        check(f"{name}(" in test, f"bindings/c/test.c does not call {name}")
+        check(f"{name}(" in safe, f"ffi/safe.rs does not call {name}")
+        check(re.search(rf"\bsafe::{name[9:]}\(", used), f"the Rust crate does not use {name}")
+    print(f"{passed} passed, {failed} failed")
+    return 1 if failed else 0
+
+
+sys.exit(main())

@@ -1,0 +1,257 @@
+//! Refusals, by document 01's numbers.
+use crate::ffi;
+use crate::Code;
+use std::fmt;
+
+/// A refusal of document 01, number 1 to 23. A place is a byte's place in the line, name or text that was given.
+///
+/// ```
+/// use raspteal::{Error, Mapping};
+///
+/// let line = "00000000000000000000000000000000,T,a:b65536,";
+/// let refused = Mapping::parse_sdl_mapping(line, &[], &[]).unwrap_err();
+/// assert_eq!(refused, Error::InvalidValue { place: 35 });
+/// assert_eq!((refused.number(), refused.place(), refused.code()), (4, Some(35), None));
+/// assert_eq!(refused.to_string(), "refused 4: bad value of a pair");
+/// ```
+#[derive(Clone, Copy, Debug, PartialEq, Eq, Hash)]
+pub enum Error {
+    /// 1: the first field of a line is no UUID. The place is 0.
+    InvalidGuid {
+        /// 0.
+        place: usize,
+    },
+    /// 2: no comma follows the UUID.
+    UnexpectedEnd {
+        /// 0.
+        place: usize,
+    },
+    /// 3: a pair has not exactly one colon.
+    InvalidKeyValPair {
+        /// The pair's start.
+        place: usize,
+    },
+    /// 4: a pair's value.
+    InvalidValue {
+        /// The pair's start, or further on for a hat.
+        place: usize,
+    },
+    /// 5: a pair's key, before an axis value.
+    UnknownAxis {
+        /// The pair's start.
+        place: usize,
+    },
+    /// 6: a pair's key, before another value.
+    UnknownButton {
+        /// The pair's start.
+        place: usize,
+    },
+    /// 7: the direction of hat 0.
+    UnknownHatDirection {
+        /// 0.
+        place: usize,
+    },
+    /// 8: an empty value; only the walker says so, a reading passes over it.
+    EmptyValue {
+        /// The pair's start.
+        place: usize,
+    },
+    /// 9: a step of the walker after 1 or 2.
+    InvalidParserState {
+        /// 0.
+        place: usize,
+    },
+    /// 10: not UTF-8.
+    NotUtf8 {
+        /// The length of the longest run of whole characters from the first byte on.
+        place: usize,
+    },
+    /// 11: a 257th code in a map.
+    TooManyCodes {
+        /// The pair's start in a reading; a put has none.
+        place: Option<usize>,
+    },
+    /// 12: a list of more than 1024 codes.
+    ListTooLong,
+    /// 13: a comma in the name.
+    InvalidName,
+    /// 14: the slot of an unknown element is filled.
+    UnknownElement,
+    /// 15: the code of a slot is not in its list.
+    InvalidCode(Code),
+    /// 16: axis slot 7 or 8 is filled.
+    NotSdl2Compatible,
+    /// 17: a name of more than 2048 bytes.
+    NameTooLong,
+    /// 18: an output shorter than the line.
+    OutputTooShort,
+    /// 19: the store is not sound, or a buffer has more than 65535 bytes.
+    Unsound,
+    /// 20: a wanted line of more than 4096 bytes.
+    LineTooLong,
+    /// 21: no room.
+    NoRoom,
+    /// 22: a saved name with LF or `platform:`.
+    UnsavedName,
+    /// 23: a clear of a buffer with more than 65535 bytes.
+    BufferTooLarge,
+}
+
+impl Error {
+    /// What was refused, or that nothing was.
+    pub(crate) fn check(r: ffi::Refusal) -> Result<(), Error> {
+        let place = r.place;
+        Err(match r.number {
+            0 => return Ok(()),
+            1 => Error::InvalidGuid { place },
+            2 => Error::UnexpectedEnd { place },
+            3 => Error::InvalidKeyValPair { place },
+            4 => Error::InvalidValue { place },
+            5 => Error::UnknownAxis { place },
+            6 => Error::UnknownButton { place },
+            7 => Error::UnknownHatDirection { place },
+            8 => Error::EmptyValue { place },
+            9 => Error::InvalidParserState { place },
+            10 => Error::NotUtf8 { place },
+            11 => Error::TooManyCodes { place: r.has_place.then(|| place) },
+            12 => Error::ListTooLong,
+            13 => Error::InvalidName,
+            14 => Error::UnknownElement,
+            15 => Error::InvalidCode(Code(r.code)),
+            16 => Error::NotSdl2Compatible,
+            17 => Error::NameTooLong,
+            18 => Error::OutputTooShort,
+            19 => Error::Unsound,
+            20 => Error::LineTooLong,
+            21 => Error::NoRoom,
+            22 => Error::UnsavedName,
+            23 => Error::BufferTooLarge,
+            n => unreachable!("the library has no refusal {n}"),
+        })
+    }
+
+    /// Document 01's number.
+    pub fn number(&self) -> u8 {
+        match self {
+            Error::InvalidGuid { .. } => 1,
+            Error::UnexpectedEnd { .. } => 2,
+            Error::InvalidKeyValPair { .. } => 3,
+            Error::InvalidValue { .. } => 4,
+            Error::UnknownAxis { .. } => 5,
+            Error::UnknownButton { .. } => 6,
+            Error::UnknownHatDirection { .. } => 7,
+            Error::EmptyValue { .. } => 8,
+            Error::InvalidParserState { .. } => 9,
+            Error::NotUtf8 { .. } => 10,
+            Error::TooManyCodes { .. } => 11,
+            Error::ListTooLong => 12,
+            Error::InvalidName => 13,
+            Error::UnknownElement => 14,
+            Error::InvalidCode(_) => 15,
+            Error::NotSdl2Compatible => 16,
+            Error::NameTooLong => 17,
+            Error::OutputTooShort => 18,
+            Error::Unsound => 19,
+            Error::LineTooLong => 20,
+            Error::NoRoom => 21,
+            Error::UnsavedName => 22,
+            Error::BufferTooLarge => 23,
+        }
+    }
+
+    /// The byte's place that the refusal is about; 12 to 23 have none.
+    pub fn place(&self) -> Option<usize> {
+        match *self {
+            Error::InvalidGuid { place }
+            | Error::UnexpectedEnd { place }
+            | Error::InvalidKeyValPair { place }
+            | Error::InvalidValue { place }
+            | Error::UnknownAxis { place }
+            | Error::UnknownButton { place }
+            | Error::UnknownHatDirection { place }
+            | Error::EmptyValue { place }
+            | Error::InvalidParserState { place }
+            | Error::NotUtf8 { place } => Some(place),
+            Error::TooManyCodes { place } => place,
+            _ => None,
+        }
+    }
+
+    /// The code that the refusal is about; only 15 has one.
+    pub fn code(&self) -> Option<Code> {
+        match *self {
+            Error::InvalidCode(code) => Some(code),
+            _ => None,
+        }
+    }
+
+    /// What the number means.
+    pub fn meaning(&self) -> &'static str {
+        match self {
+            Error::InvalidGuid { .. } => "the first field is no UUID",
+            Error::UnexpectedEnd { .. } => "no comma after the UUID",
+            Error::InvalidKeyValPair { .. } => "not exactly one colon in a pair",
+            Error::InvalidValue { .. } => "bad value of a pair",
+            Error::UnknownAxis { .. } => "unknown key of a pair with an axis value",
+            Error::UnknownButton { .. } => "unknown key of a pair",
+            Error::UnknownHatDirection { .. } => "bad direction of hat 0",
+            Error::EmptyValue { .. } => "empty value of a pair",
+            Error::InvalidParserState { .. } => "a step after a bad first field",
+            Error::NotUtf8 { .. } => "not UTF-8",
+            Error::TooManyCodes { .. } => "more than 256 codes in a map",
+            Error::ListTooLong => "a list of more than 1024 codes",
+            Error::InvalidName => "comma in the name",
+            Error::UnknownElement => "the slot of an unknown element is filled",
+            Error::InvalidCode(_) => "the code of a slot is not in its list",
+            Error::NotSdl2Compatible => "an axis slot of the directional pad is filled",
+            Error::NameTooLong => "a name of more than 2048 bytes",
+            Error::OutputTooShort => "an output shorter than the line",
+            Error::Unsound => "the store is not sound",
+            Error::LineTooLong => "a line of more than 4096 bytes",
+            Error::NoRoom => "no room",
+            Error::UnsavedName => "LF or `platform:` in the name",
+            Error::BufferTooLarge => "a buffer of more than 65535 bytes",
+        }
+    }
+}
+
+impl fmt::Display for Error {
+    fn fmt(&self, f: &mut fmt::Formatter) -> fmt::Result {
+        write!(f, "refused {}: {}", self.number(), self.meaning())
+    }
+}
+
+impl std::error::Error for Error {}
+
+/// An insert that stopped at a line, or was refused whole. The lines before it are filed.
+#[derive(Clone, Copy, Debug, PartialEq, Eq, Hash)]
+pub struct InsertError {
+    /// What was refused: 19 or 10 with nothing changed, 20 or 21 at the line after those walked.
+    pub error: Error,
+    /// The lines walked before it.
+    pub count: usize,
+}
+
+impl fmt::Display for InsertError {
+    fn fmt(&self, f: &mut fmt::Formatter) -> fmt::Result {
+        write!(f, "{}, after {} lines", self.error, self.count)
+    }
+}
+
+impl std::error::Error for InsertError {
+    fn source(&self) -> Option<&(dyn std::error::Error + 'static)> {
+        Some(&self.error)
+    }
+}
+
+/// A text that is no UUID.
+#[derive(Clone, Copy, Debug, PartialEq, Eq, Hash)]
+pub struct ParseUuidError;
+
+impl fmt::Display for ParseUuidError {
+    fn fmt(&self, f: &mut fmt::Formatter) -> fmt::Result {
+        f.write_str("no UUID: neither 32 hexadecimal digits nor a form with hyphens")
+    }
+}
+
+impl std::error::Error for ParseUuidError {}

@@ -1,0 +1,61 @@
+//! Mapping lines, maps and the line store of the hub.
+//!
+//! The calls are those of a library in which every function is proved: each takes every input, ends, and answers what its
+//! definition says (the repository's docs/CALLS.md lists them). This crate makes them safe to call and gives the
+//! answers Rust types. It has no dependencies; `build.rs` links the library, `libexports.a`.
+//!
+//! A pad is known by its [`Uuid`]. What its kernel driver reports are event [`Code`]s; a [`Mapping`] turns a code into a
+//! named element, an [`AxisOrBtn`]. A mapping is read from a line by the lists of the pad's button and axis codes. A
+//! [`Store`] holds lines under their UUIDs; [`MappingData`] is what staff have bound, and a save makes a line of it.
+//!
+//! ```
+//! use raspteal::{AxisOrBtn, Button, Code, MappingData, Store, Uuid};
+//!
+//! let pad: Uuid = "03000000de280000ff11000001000000".parse()?;
+//! let (buttons, axes) = ([Code(0x10130), Code(0x10131)], [Code(0x30000)]);
+//!
+//! let mut bound = MappingData::new();
+//! bound.insert_btn(Code(0x10131), Button::South);
+//!
+//! let mut store = Store::new(21 * 100, 65535);
+//! let saved = store.save(&bound, &buttons, &axes, "Pad of seat 7", pad)?;
+//!
+//! let found = store.mapping(pad, &buttons, &axes)?.expect("it was saved");
+//! assert_eq!(found, saved);
+//! assert_eq!(found.map(Code(0x10131)), Some(AxisOrBtn::Btn(Button::South)));
+//! # Ok::<(), Box<dyn std::error::Error>>(())
+//! ```
+#![deny(unsafe_code, missing_docs)]
+#![forbid(unsafe_op_in_unsafe_fn)]
+
+mod data;
+mod element;
+mod error;
+#[doc(hidden)]
+pub mod ffi;
+mod mapping;
+mod parser;
+mod store;
+pub mod text;
+mod uuid;
+
+pub use data::{Built, MappingData};
+pub use element::{Axis, AxisOrBtn, Button, Code};
+pub use error::{Error, InsertError, ParseUuidError};
+pub use mapping::Mapping;
+pub use parser::{first_token, AxisRange, Parser, Token};
+pub use store::Store;
+pub use uuid::Uuid;
+
+/// The codes that a map may have.
+pub const CODES_MAX: usize = ffi::CODES_MAX;
+/// The codes that a list of buttons or axes may have.
+pub const LIST_MAX: usize = ffi::LIST_MAX;
+/// The bytes that a name may have.
+pub const NAME_MAX: usize = ffi::NAME_MAX;
+/// The bytes that a stored line may have.
+pub const LINE_MAX: usize = ffi::LINE_MAX;
+/// The bytes that an index or a text may have.
+pub const BUFFER_MAX: usize = ffi::BUFFER_MAX;
+/// The bytes of the index that a line takes.
+pub const RECORD_LEN: usize = 21;

@@ -1,0 +1,127 @@
+//! Maps from event codes to elements.
+use crate::error::Error;
+use crate::ffi::{self, safe};
+use crate::{AxisOrBtn, Code};
+use std::fmt;
+use std::ops::Range;
+
+/// A map from event codes to elements, at most 256 of them, ascending by code.
+///
+/// ```
+/// use raspteal::{AxisOrBtn, Button, Code, Mapping};
+///
+/// let line = "03000000de280000ff11000001000000,Pad,a:b1,b:b0,dpup:h0.1,";
+/// let map = Mapping::parse_sdl_mapping(line, &[Code(0x10130), Code(0x10131)], &[])?;
+/// assert_eq!(map.map(Code(0x10131)), Some(AxisOrBtn::Btn(Button::South)));
+/// assert_eq!(map.map_rev(Button::East), Some(Code(0x10130)));
+/// assert_eq!(map.name_in(line), "Pad");
+/// assert_eq!(map.hats_mapped(), 1);
+/// # Ok::<(), raspteal::Error>(())
+/// ```
+#[derive(Clone, PartialEq, Eq)]
+pub struct Mapping(ffi::Mapping);
+
+impl Mapping {
+    /// The empty map.
+    pub fn new() -> Mapping {
+        Mapping(safe::mapping_new())
+    }
+
+    /// Reads a line by the lists of the pad's button and axis codes. Refusals: 10, 12, then 1 to 7 and 11 in the order of the
+    /// line.
+    pub fn parse_sdl_mapping(line: impl AsRef<[u8]>, buttons: &[Code], axes: &[Code]) -> Result<Mapping, Error> {
+        Mapping::accepted(safe::parse_sdl_mapping(line.as_ref(), buttons, axes))
+    }
+
+    /// The map of a pad with these lists and no line of its own. Refusal: 12.
+    ///
+    /// ```
+    /// use raspteal::{Button, Code, Mapping};
+    ///
+    /// let map = Mapping::default_of(&[Code(0x10130)], &[Code(0x30000)])?;
+    /// assert_eq!(map.map(Code(0x10130)), Some(Button::South.into()));
+    /// assert!(map.is_default());
+    /// # Ok::<(), raspteal::Error>(())
+    /// ```
+    pub fn default_of(buttons: &[Code], axes: &[Code]) -> Result<Mapping, Error> {
+        Mapping::accepted(safe::default(buttons, axes))
+    }
+
+    /// Puts a code to an element, onto the entry of that code if there is one. Refusal: 11, the map as it was.
+    pub fn put(&mut self, code: Code, element: impl Into<AxisOrBtn>) -> Result<(), Error> {
+        let put = safe::mapping_put(self.0, safe::entry_new(code.0, element.into().into()));
+        self.0 = put.map;
+        Error::check(put.refusal)
+    }
+
+    /// The element of a code.
+    pub fn map(&self, code: Code) -> Option<AxisOrBtn> {
+        AxisOrBtn::found(safe::mapping_map(self.0, code.0))
+    }
+
+    /// The least code of an element.
+    pub fn map_rev(&self, element: impl Into<AxisOrBtn>) -> Option<Code> {
+        Code::found(safe::mapping_map_rev(self.0, element.into().into()))
+    }
+
+    /// The entries, ascending by code.
+    pub fn iter(&self) -> impl ExactSizeIterator<Item = (Code, AxisOrBtn)> + '_ {
+        self.0.entries[..self.len()].iter().map(|e| (Code(e.code), e.element.into()))
+    }
+
+    /// The number of codes.
+    pub fn len(&self) -> usize {
+        self.0.count
+    }
+
+    /// Whether there is no code.
+    pub fn is_empty(&self) -> bool {
+        self.len() == 0
+    }
+
+    /// Where the name stands in the line that the map was read or built from, in bytes.
+    pub fn name_range(&self) -> Range<usize> {
+        self.0.name_start..self.0.name_start + self.0.name_len
+    }
+
+    /// The name, in the line that the map was read or built from; empty where the place does not lie in that line.
+    pub fn name_in<'a>(&self, line: &'a str) -> &'a str {
+        line.get(self.name_range()).unwrap_or_default()
+    }
+
+    /// Whether it is a default map.
+    pub fn is_default(&self) -> bool {
+        self.0.is_default
+    }
+
+    /// The directions of hat 0 that the line names, or-ed: 1 up, 2 right, 4 down, 8 left.
+    pub fn hats_mapped(&self) -> u8 {
+        self.0.hats_mapped
+    }
+
+    pub(crate) fn accepted(a: ffi::Answer) -> Result<Mapping, Error> {
+        Error::check(a.refusal)?;
+        Ok(Mapping(a.map))
+    }
+
+    pub(crate) fn of(map: ffi::Mapping) -> Mapping {
+        Mapping(map)
+    }
+}
+
+impl Default for Mapping {
+    fn default() -> Mapping {
+        Mapping::new()
+    }
+}
+
+impl fmt::Debug for Mapping {
+    fn fmt(&self, f: &mut fmt::Formatter) -> fmt::Result {
+        f.debug_struct("Mapping")
+            .field("entries", &self.iter().collect::<Vec<_>>())
+            .field("name_range", &self.name_range())
+            .field("is_default", &self.is_default())
+            .field("hats_mapped", &self.hats_mapped())
+            .finish()
+    }
+}

@@ -1,0 +1,127 @@
+//! The store of lines.
+use crate::error::{Error, InsertError};
+use crate::ffi::safe;
+use crate::{Code, Mapping, MappingData, Uuid, LINE_MAX};
+
+/// The lines held under their UUIDs, in two buffers of at most 65535 bytes: an index, of which each line takes 21 bytes, and a
+/// text. Fresh buffers are all 0.
+///
+/// The buffers are owned (`Vec<u8>`, arrays) or lent (`&mut [u8]`); a store over `&[u8]` can only be looked up. Keep them as
+/// they are between calls, in a file or in shared memory: the store has no other state.
+///
+/// ```
+/// use raspteal::{Store, Uuid};
+///
+/// let mut index = [0; 42];
+/// let mut text = [0; 100];
+/// let mut store = Store::over(&mut index[..], &mut text[..]);
+/// store.insert("00000000000000000000000000000001,Pad,a:b0,\n# nothing\n")?;
+/// assert!(store.found(Uuid::from_u128(1))?);
+///
+/// let store = Store::over(&index[..], &text[..]);
+/// assert_eq!(store.get(Uuid::from_u128(1))?.unwrap(), b"00000000000000000000000000000001,Pad,a:b0,");
+/// assert_eq!(store.get(Uuid::NIL)?, None);
+/// # Ok::<(), Box<dyn std::error::Error>>(())
+/// ```
+#[derive(Clone, Debug, PartialEq, Eq)]
+pub struct Store<B = Vec<u8>> {
+    index: B,
+    text: B,
+}
+
+impl Store {
+    /// A fresh store that owns buffers of these lengths. Over 65535 bytes each of its calls is refused: 19, or 23 for a clear.
+    pub fn new(index_len: usize, text_len: usize) -> Store {
+        Store { index: vec![0; index_len], text: vec![0; text_len] }
+    }
+}
+
+impl<B> Store<B> {
+    /// The store that two buffers hold. Fresh ones are all 0.
+    pub fn over(index: B, text: B) -> Store<B> {
+        Store { index, text }
+    }
+
+    /// The two buffers, index and text.
+    pub fn into_buffers(self) -> (B, B) {
+        (self.index, self.text)
+    }
+}
+
+impl<B: AsRef<[u8]>> Store<B> {
+    /// The index.
+    pub fn index(&self) -> &[u8] {
+        self.index.as_ref()
+    }
+
+    /// The text.
+    pub fn text(&self) -> &[u8] {
+        self.text.as_ref()
+    }
+
+    /// Whether a line is held under a UUID. Refusal: 19.
+    pub fn found(&self, id: Uuid) -> Result<bool, Error> {
+        let look = safe::store_found(self.index(), self.text(), id.into());
+        Error::check(look.refusal)?;
+        Ok(look.found)
+    }
+
+    /// The line held under a UUID. Refusal: 19.
+    pub fn get(&self, id: Uuid) -> Result<Option<Vec<u8>>, Error> {
+        if !self.found(id)? {
+            return Ok(None);
+        }
+        let mut line = vec![0; LINE_MAX];
+        let len = self.get_into(id, &mut line).expect("a held line has at most 4096 bytes");
+        line.truncate(len);
+        Ok(Some(line))
+    }
+
+    /// Copies the line held under a UUID to the start of a buffer and hands back its length, 0 where none is held or the store
+    /// is not sound. `None`, and the buffer as it was, where it is shorter than the line.
+    pub fn get_into(&self, id: Uuid, out: &mut [u8]) -> Option<usize> {
+        let w = safe::store_get(self.index(), self.text(), id.into(), out);
+        w.fits.then(|| w.next)
+    }
+
+    /// The map of the line held under a UUID, by the lists of the pad's codes. Refusals: 19, then those of
+    /// [`Mapping::parse_sdl_mapping`].
+    pub fn mapping(&self, id: Uuid, buttons: &[Code], axes: &[Code]) -> Result<Option<Mapping>, Error> {
+        match self.get(id)? {
+            None => Ok(None),
+            Some(line) => Mapping::parse_sdl_mapping(line, buttons, axes).map(Some),
+        }
+    }
+}
+
+impl<B: AsRef<[u8]> + AsMut<[u8]>> Store<B> {
+    /// Sets every byte of both buffers to 0, whether the store was sound or not. Refusal: 23.
+    pub fn clear(&mut self) -> Result<(), Error> {
+        Error::check(safe::store_clear(self.index.as_mut(), self.text.as_mut()))
+    }
+
+    /// Files the lines of a text that are for Linux and start with a UUID, each in place of the one under its UUID, and hands
+    /// back the number of lines walked. Refusals: 19 and 10 with nothing changed; 20 and 21 stop at one line, and
+    /// those before it are filed.
+    pub fn insert(&mut self, lines: impl AsRef<[u8]>) -> Result<usize, InsertError> {
+        let inserted = safe::store_insert(self.index.as_mut(), self.text.as_mut(), lines.as_ref());
+        let count = inserted.count;
+        Error::check(inserted.refusal).map_err(|error| InsertError { error, count })?;
+        Ok(count)
+    }
+
+    /// Builds the line of what staff have bound, as [`MappingData::build`] does, and files it under the UUID. Looked up with
+    /// the same lists it reads back as the map that this call hands back. Refusals, with nothing changed: those of
+    /// build, then 22, 19, 21.
+    pub fn save(
+        &mut self,
+        data: &MappingData,
+        buttons: &[Code],
+        axes: &[Code],
+        name: impl AsRef<[u8]>,
+        id: Uuid,
+    ) -> Result<Mapping, Error> {
+        let (index, text) = (self.index.as_mut(), self.text.as_mut());
+        Mapping::accepted(safe::store_save(index, text, data.slots(), buttons, axes, name.as_ref(), id.into()))
+    }
+}

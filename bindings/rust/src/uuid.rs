@@ -1,0 +1,91 @@
+//! UUIDs.
+use crate::error::ParseUuidError;
+use crate::ffi::{self, safe};
+use std::fmt;
+use std::str::FromStr;
+
+/// A UUID, under which a line is stored. It is read in four forms and written as 32 lower-case digits.
+///
+/// ```
+/// use raspteal::Uuid;
+///
+/// let id: Uuid = "urn:uuid:F81D4FAE-7DEC-11D0-A765-00A0C91E6BF6".parse()?;
+/// assert_eq!(id.to_string(), "f81d4fae7dec11d0a76500a0c91e6bf6");
+/// assert_eq!(id, Uuid::from_u128(0xf81d4fae_7dec_11d0_a765_00a0c91e6bf6));
+/// assert!("xinput".parse::<Uuid>().is_err());
+/// # Ok::<(), raspteal::ParseUuidError>(())
+/// ```
+#[derive(Clone, Copy, Debug, PartialEq, Eq, PartialOrd, Ord, Hash)]
+pub struct Uuid {
+    /// The first eight bytes, high byte first.
+    pub high: u64,
+    /// The last eight bytes, high byte first.
+    pub low: u64,
+}
+
+impl Uuid {
+    /// All bits 0.
+    pub const NIL: Uuid = Uuid { high: 0, low: 0 };
+
+    /// The UUID that a text spells: 32 hexadecimal digits, the form with hyphens, that form in braces, or after `urn:uuid:`.
+    pub fn parse_str(s: impl AsRef<[u8]>) -> Result<Uuid, ParseUuidError> {
+        let parsed = safe::uuid_parse_str(s.as_ref());
+        if parsed.valid {
+            Ok(parsed.id.into())
+        } else {
+            Err(ParseUuidError)
+        }
+    }
+
+    /// Writes the 32 digits at place `at` of a buffer, and hands back the place after them; where they do not fit, nothing
+    /// is written.
+    ///
+    /// ```
+    /// let mut out = *b"....................................";
+    /// assert_eq!(raspteal::Uuid::NIL.write_simple(&mut out, 2), Some(34));
+    /// assert_eq!(&out, b"..00000000000000000000000000000000..");
+    /// assert_eq!(raspteal::Uuid::NIL.write_simple(&mut out, 5), None);
+    /// ```
+    pub fn write_simple(self, out: &mut [u8], at: usize) -> Option<usize> {
+        let w = safe::uuid_write_simple(self.into(), out, at);
+        w.fits.then(|| w.next)
+    }
+
+    /// The UUID of a number, its highest byte first.
+    pub fn from_u128(n: u128) -> Uuid {
+        Uuid { high: (n >> 64) as u64, low: n as u64 }
+    }
+
+    /// The number of a UUID, its first byte highest.
+    pub fn as_u128(self) -> u128 {
+        u128::from(self.high) << 64 | u128::from(self.low)
+    }
+}
+
+impl FromStr for Uuid {
+    type Err = ParseUuidError;
+
+    fn from_str(s: &str) -> Result<Uuid, ParseUuidError> {
+        Uuid::parse_str(s)
+    }
+}
+
+impl fmt::Display for Uuid {
+    fn fmt(&self, f: &mut fmt::Formatter) -> fmt::Result {
+        let mut digits = [0; 32];
+        self.write_simple(&mut digits, 0);
+        digits.iter().try_for_each(|&d| fmt::Write::write_char(f, char::from(d)))
+    }
+}
+
+impl From<ffi::Uuid> for Uuid {
+    fn from(id: ffi::Uuid) -> Uuid {
+        Uuid { high: id.high, low: id.low }
+    }
+}
+
+impl From<Uuid> for ffi::Uuid {
+    fn from(id: Uuid) -> ffi::Uuid {
+        ffi::Uuid { high: id.high, low: id.low }
+    }
+}

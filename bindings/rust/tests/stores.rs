@@ -1,0 +1,120 @@
+//! The store: a save is found again and reads back the same, owned and lent buffers, damage.
+use raspteal::{Axis, Button, Code, Error, Mapping, MappingData, Store, Uuid, RECORD_LEN};
+
+const BUTTONS: [Code; 3] = [Code(0x10130), Code(0x10131), Code(0x10133)];
+const AXES: [Code; 2] = [Code(0x30000), Code(0x30001)];
+
+fn bound() -> MappingData {
+    let mut data = MappingData::new();
+    data.insert_btn(BUTTONS[1], Button::South);
+    data.insert_btn(BUTTONS[0], Button::East);
+    data.insert_axis(AXES[1], Axis::LeftStickX);
+    data
+}
+
+/// Demand 3's path: saves, inserts and refused calls, then each line that was filed last reads back as it was saved.
+#[test]
+fn saved_is_found_and_reads_back() {
+    let mut store = Store::new(3 * RECORD_LEN, 300);
+    let ids = [Uuid::from_u128(1), Uuid::from_u128(u128::MAX), Uuid::NIL];
+    let mut last: Vec<Option<Mapping>> = vec![None; 3];
+    for (round, name) in ["Pad", "Pad of seat 7", "パッド", "", "quote \" : \r"].iter().enumerate() {
+        let mut data = bound();
+        data.insert_btn(BUTTONS[2], Button::ALL[3 + round]);
+        for (id, map) in ids.iter().zip(&mut last) {
+            *map = Some(store.save(&data, &BUTTONS, &AXES, name, *id).unwrap());
+        }
+        assert_eq!(store.save(&data, &BUTTONS, &AXES, "a,b", ids[0]), Err(Error::InvalidName));
+        assert_eq!(store.save(&data, &BUTTONS, &AXES, "no room", Uuid::from_u128(9)), Err(Error::NoRoom));
+        for (id, map) in ids.iter().zip(&last) {
+            assert_eq!(store.mapping(*id, &BUTTONS, &AXES).unwrap(), *map);
+            let line = String::from_utf8(store.get(*id).unwrap().unwrap()).unwrap();
+            let map = map.as_ref().unwrap();
+            assert_eq!(map.name_in(&line), *name);
+            assert!(!map.is_default() && map.hats_mapped() == 0 && map.len() == 4);
+            assert_eq!(line, data.build(&BUTTONS, &AXES, name, *id).unwrap().line);
+        }
+    }
+    store.insert("00000000000000000000000000000001,listed,a:b0").unwrap();
+    assert_eq!(store.get(ids[0]).unwrap().unwrap(), b"00000000000000000000000000000001,listed,a:b0");
+    assert_eq!(store.mapping(ids[1], &BUTTONS, &AXES).unwrap(), last[1]);
+    store.clear().unwrap();
+    assert!(ids.iter().all(|id| store.get(*id) == Ok(None)));
+    assert_eq!(store, Store::new(3 * RECORD_LEN, 300));
+}
+
+#[test]
+fn lent_and_owned() {
+    let id = Uuid::from_u128(7);
+    let mut index = [0; 42];
+    let mut text = vec![0; 200].into_boxed_slice();
+    {
+        let mut store = Store::over(&mut index[..], &mut text[..]);
+        store.save(&bound(), &BUTTONS, &AXES, "lent", id).unwrap();
+        assert_eq!(store.index()[0], 1);
+    }
+    let seen = Store::over(&index[..], &text[..]);
+    assert!(seen.found(id).unwrap());
+    let line = seen.get(id).unwrap().unwrap();
+
+    let mut owned = Store::over(index.to_vec(), text.to_vec());
+    assert_eq!(owned.get(id).unwrap().unwrap(), line);
+    owned.clear().unwrap();
+    let (index_after, _) = owned.into_buffers();
+    assert!(index_after.iter().all(|&b| b == 0) && index[0] == 1);
+
+    let mut arrays = Store::over([0; 50], [0; 50]);
+    assert_eq!(arrays.insert("00000000000000000000000000000007,T"), Ok(1));
+    let mut out = [b'.'; 40];
+    assert_eq!(arrays.get_into(id, &mut out), Some(34));
+    assert_eq!(&out[30..], b"07,T......");
+    assert_eq!(arrays.get_into(id, &mut out[..33]), None);
+    assert_eq!(arrays.get_into(Uuid::NIL, &mut out), Some(0));
+}
+
+#[test]
+fn lines_wanted() {
+    let mut store = Store::new(210, 1000);
+    let list = "# comment\n\
+                00000000000000000000000000000001,no platform,\r\n\
+                00000000000000000000000000000002,ours,platform:Linux,\n\
+                00000000000000000000000000000003,theirs,platform:Windows,\n\
+                xinput,pad,\n\n";
+    assert_eq!(store.insert(list), Ok(6));
+    let held: Vec<bool> = (0..4).map(|n| store.found(Uuid::from_u128(n)).unwrap()).collect();
+    assert_eq!(held, [false, true, true, false]);
+    assert_eq!(store.get(Uuid::from_u128(1)).unwrap().unwrap(), b"00000000000000000000000000000001,no platform,");
+}
+
+/// Each single byte of a store damaged in turn: a call says 19, or answers for the lines that the bytes encode. Never more.
+#[test]
+fn damaged() {
+    let mut store = Store::new(3 * RECORD_LEN, 120);
+    store.insert("00000000000000000000000000000001,T,a:b0\n00000000000000000000000000000002,T,a:b1").unwrap();
+    let (index, text) = store.into_buffers();
+    let mut unsound = 0;
+    for at in 0..index.len() + text.len() {
+        let (mut index, mut text) = (index.clone(), text.clone());
+        match at.checked_sub(index.len()) {
+            None => index[at] ^= 0x91,
+            Some(at) => text[at] ^= 0x91,
+        }
+        let mut store = Store::over(index, text);
+        let before = store.clone();
+        match store.found(Uuid::from_u128(1)) {
+            Err(e) => {
+                unsound += 1;
+                assert_eq!(e, Error::Unsound);
+                assert_eq!(store.get(Uuid::from_u128(1)), Err(Error::Unsound));
+                assert_eq!(store.insert("").unwrap_err().error, Error::Unsound);
+                assert_eq!(store.save(&bound(), &BUTTONS, &AXES, "T", Uuid::NIL), Err(Error::Unsound));
+                assert_eq!(store, before);
+                store.clear().unwrap();
+                assert!(!store.found(Uuid::from_u128(1)).unwrap());
+            }
+            Ok(held) => assert_eq!(store.get(Uuid::from_u128(1)).unwrap().is_some(), held),
+        }
+    }
+    // Kinds, offsets, lengths and both tails; not the UUIDs and the letters of lines.
+    assert_eq!(unsound, 2 * 5 + 21 + (120 - 78));
+}
