@@ -87,10 +87,11 @@ isStickOf b = oneOf (countedButton b) (B.LeftThumb .0 ∷ B.RightThumb .0 ∷ []
 unfoldable pub isStickAxisOf : Axis → Bool
 isStickAxisOf a = oneOf (countedAxis a) (A.LeftStickX .0 ∷ A.LeftStickY .0 ∷ A.RightStickX .0 ∷ A.RightStickY .0 ∷ [])
 
--- `second_axis`: the other axis of the same stick, or of the DPad
+-- the axis counts as that one
 abbrev pub isAxis : Axis → Axis → Bool
 isAxis a x = eqb (countedAxis a) (x .0)
 
+-- `second_axis`: the other axis of the same stick, or of the DPad
 unfoldable pub secondAxisOf : Axis → SecondAxis
 secondAxisOf a =
     pick (isAxis a A.LeftStickX) (Sa.Is A.LeftStickY)

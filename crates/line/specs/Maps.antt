@@ -24,6 +24,7 @@ use Rattle.line.specs.Elements.{codeOf, sameElement}
 abbrev pub CODES_MAX : ℕ
 CODES_MAX = 256
 
+-- an entry: a code and its element
 abbrev pub entryOf : Code → AxisOrBtn → Entry
 entryOf c to = record { code = c; element = to }
 
@@ -55,6 +56,7 @@ toMap v =
 abbrev pub emptyView : MapView
 emptyView = record { list = []; nameStart = 0; nameLen = 0; isDefault = false; hatFlags = 0 }
 
+-- the empty map, as the program holds it
 unfoldable pub emptyMap : Mapping
 emptyMap = toMap emptyView
 

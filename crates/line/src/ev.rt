@@ -89,6 +89,7 @@ impl Button {
         ToNec::Is(code)
     }
 
+    // Whether a button is a stick's, pressed.
     pub fn is_stick(self) -> bool
         ensures { λ r. ⌜ r ≡ isStickOf self ⌝ }
     {
@@ -102,6 +103,7 @@ impl Button {
         false
     }
 
+    // Whether a button is one of the DPad.
     pub fn is_dpad(self) -> bool
         ensures { λ r. ⌜ r ≡ isDpadOf self ⌝ }
     {
@@ -141,6 +143,7 @@ impl Axis {
 
     pub const DPadY: Axis = Axis(8);
 
+    // Whether an axis is one of a stick.
     pub fn is_stick(self) -> bool
         ensures { λ r. ⌜ r ≡ isStickAxisOf self ⌝ }
     {
@@ -188,6 +191,7 @@ impl Axis {
 }
 
 impl AxisOrBtn {
+    // Whether an element is a button.
     pub fn is_button(self) -> bool
         ensures { λ r. ⌜ r ≡ isButtonOf self ⌝ }
     {

@@ -116,6 +116,7 @@ pub struct Parser<'a> {
 }
 
 impl<'a> Parser<'a> {
+    // The walker before its first step.
     pub fn new(mapping: &'a [u8]) -> Parser<'a>
         ensures { λ r. ⌜ r ≡ parserOf (mapping .entry) ⌝ }
     {

@@ -28,12 +28,15 @@ axisSlots = 9
 abbrev pub emptySlot : Slot
 emptySlot = record { filled = false; code = codeOf 0 }
 
+-- a slot that holds that code
 abbrev pub filledWith : Code → Slot
 filledWith c = record { filled = true; code = c }
 
+-- the code of a slot, if it is filled
 abbrev pub codeIn : Slot → SlotCode
 codeIn s = pick (s .filled) (Is (s .code)) Nothing
 
+-- there is a code
 abbrev pub hasCode : SlotCode → Bool
 hasCode (Is c) = true
 hasCode Nothing = false

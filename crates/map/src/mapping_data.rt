@@ -47,6 +47,7 @@ impl Slot {
         Slot { filled: true, code }
     }
 
+    // The code of a filled slot.
     pub fn code(self) -> SlotCode
         ensures { λ r. ⌜ r ≡ codeIn self ⌝ }
     {
@@ -59,6 +60,7 @@ impl Slot {
 }
 
 impl SlotCode {
+    // Whether there is a code.
     pub fn is_some(self) -> bool
         ensures { λ r. ⌜ r ≡ hasCode self ⌝ }
     {

@@ -32,6 +32,7 @@ pub record SaveArgs : Type 0 where
   pub name : List ℕ
   pub uuid : Uuid
 
+-- the arguments of a save, in their order
 abbrev pub saveArgs : MappingData → List ℕ → List ℕ → List ℕ → Uuid → SaveArgs
 saveArgs d buttons axes name u = record { slots = d; buttons = buttons; axes = axes; name = name; uuid = u }
 
@@ -58,6 +59,7 @@ attemptAfter a Accepted =
 unfoldable pub attemptOf : SaveArgs → Attempt Saved
 attemptOf a = attemptAfter a (checksOf (a .slots) (a .buttons) (a .axes) (a .name))
 
+-- "Save builds a line and files it": "as build without 18, then 22, 19, 21"
 unfoldable pub storeSave : List ℕ → List ℕ → SaveArgs → Done Saved
 storeSave i t a = storeAttempt (refusedSave Sv.Unsound) (refusedSave Sv.NoRoom) i t (attemptOf a)
 

@@ -41,10 +41,11 @@ abbrev pub onLines : {A : Type 0} → List ℕ → List ℕ → Option (List Hel
 onLines i t none e f = unchanged i t e
 onLines i t (some hs) e f = holding i t (f hs)
 
--- "Clear sets every byte of both buffers to 0, whether the store was sound or not."; "a buffer over 65535": 23
+-- both buffers are within the limit
 abbrev pub fitting : List ℕ → List ℕ → Bool
 fitting i t = leb (length i) bufferMax && leb (length t) bufferMax
 
+-- "Clear sets every byte of both buffers to 0, whether the store was sound or not."; "a buffer over 65535": 23
 unfoldable pub storeClear : List ℕ → List ℕ → Done Answer
 storeClear i t =
     pick (fitting i t)
@@ -78,6 +79,7 @@ abbrev pub lookedAt : Key → Option (List Held) → Looked
 lookedAt k none = unsound
 lookedAt k (some hs) = lookedIn (find k hs)
 
+-- what two buffers hold under a UUID; 19 where they encode no list of lines
 unfoldable pub lookUp : Key → List ℕ → List ℕ → Looked
 lookUp k i t = lookedAt k (decode i t)
 
@@ -87,6 +89,7 @@ saysOf (found l) = L.Found
 saysOf nothing = L.Missing
 saysOf unsound = L.Unsound
 
+-- the line that is found, else an empty part
 abbrev pub lineOf : Looked → List ℕ
 lineOf (found l) = l
 lineOf nothing = []
