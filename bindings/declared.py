@@ -92,7 +92,8 @@ def c_header():
 
 def limits():
     """Each limit as the crates, the header and the Rust crate have it."""
-    crates = "\n".join(p.read_text() for layer in ("line", "map", "store") for p in Path(f"crates/{layer}/src").rglob("*.rt"))
+    sources = [p for layer in ("line", "map", "store") for p in Path(f"crates/{layer}/src").rglob("*.rt")]
+    crates = "\n".join(p.read_text() for p in sources)
     header, ffi = Path("bindings/raspteal.h").read_text(), Path("bindings/rust/src/ffi.rs").read_text()
     for name in LIMITS:
         yield name, [
@@ -113,8 +114,9 @@ def main():
 
     (ours, calls), (header, prototypes), (ffi, externs) = rattle(), c_header(), rust()
     for name in sorted(set(calls) | set(prototypes) | set(externs)):
-        told = calls.get(name), prototypes.get(name), externs.get(name)
-        check(None not in told and told[0] == told[1] == told[2], f"{name}:\n  exports {told[0]}\n  header  {told[1]}\n  ffi.rs  {told[2]}")
+        told = [side.get(name) for side in (calls, prototypes, externs)]
+        where = "".join(f"\n  {side} {what}" for side, what in zip(("exports", "header ", "ffi.rs "), told))
+        check(None not in told and told[0] == told[1] == told[2], name + ":" + where)
     for name in sorted(set(ours) | set(header) | set(ffi)):
         told = [fields for side in (ours, header, ffi) for fields in side.get(name, [None])]
         check(None not in told and all(fields == told[0] for fields in told), f"{name}: {told}")

@@ -1,8 +1,8 @@
 /* Raspteal for C: mapping lines, maps and the line store of the hub.
  *
- * Link with target/staticlib/libexports.a, which `rt staticlib exports` writes (x86-64 Linux). Each function is proved: it
- * takes every input, ends, and answers what its definition says; no call keeps memory, and there is no state but the
- * buffers that you lend.
+ * Link with target/staticlib/libexports.a, which `rt staticlib exports` writes (x86-64 Linux). Each function is
+ * proved: it takes every input, ends, and answers what its definition says; no call keeps memory, and there is no
+ * state but the buffers that you lend.
  *
  * How to pass things
  *   A slice is two arguments, a pointer and a number of elements (bytes, or 32-bit codes). The pointer is never NULL,
@@ -36,9 +36,9 @@ extern "C" {
 #define RASPTEAL_AXES 9           /* slots for axes */
 #define RASPTEAL_IDENT_MAX 13     /* bytes of a key name */
 
-/* ---- What crosses ------------------------------------------------------------------------------------------------ */
+/* ---- What crosses ---------------------------------------------------------------------------------------------- */
 
-/* A refusal. The place is a byte's place in the line, name or text that was given; 15 carries the code it is about. */
+/* A refusal. The place is a byte's place in the line, name or text that was given; 15 carries its code. */
 typedef struct {
     uint8_t number; /* 0: not refused */
     bool has_place;
@@ -47,7 +47,8 @@ typedef struct {
     uint32_t code;
 } raspteal_refusal;
 
-/* Where a writer stopped: the place after its last byte. fits is false, and nothing was written, where it had no room. */
+/* Where a writer stopped: the place after its last byte. fits is false, and nothing was written, where it had no
+ * room. */
 typedef struct {
     bool fits;
     size_t next;
@@ -103,8 +104,8 @@ typedef struct {
     raspteal_element element;
 } raspteal_entry;
 
-/* A map from codes to elements: the first count entries, ascending by code, the others all 0. The name is name_len bytes
- * at name_start of the line that the map was read from. hats_mapped has a bit for each direction of hat 0. */
+/* A map from codes to elements: the first count entries, ascending by code, the others all 0. The name is name_len
+ * bytes at name_start of the line that the map was read from. hats_mapped has a bit for each direction of hat 0. */
 typedef struct {
     size_t count;
     raspteal_entry entries[RASPTEAL_CODES_MAX];
@@ -120,8 +121,8 @@ typedef struct {
     raspteal_mapping map;
 } raspteal_answer;
 
-/* What a pair of a line says: from is the index, or the hat's number. input and output: 0 the lower half of an axis, 1
- * the upper half, 2 all of it. */
+/* What a pair of a line says: from is the index, or the hat's number. input and output: 0 the lower half of an axis,
+ * 1 the upper half, 2 all of it. */
 typedef struct {
     uint16_t from;
     uint16_t direction;
@@ -196,7 +197,7 @@ typedef struct {
     bool found;
 } raspteal_look;
 
-/* ---- Text -------------------------------------------------------------------------------------------------------- */
+/* ---- Text ------------------------------------------------------------------------------------------------------ */
 
 /* Whether two byte strings are the same. */
 bool raspteal_same_bytes(const uint8_t *a, size_t a_len, const uint8_t *b, size_t b_len);
@@ -204,7 +205,7 @@ bool raspteal_same_bytes(const uint8_t *a, size_t a_len, const uint8_t *b, size_
 /* The place of the first byte b, or s_len. */
 size_t raspteal_find_byte(const uint8_t *s, size_t s_len, uint8_t b);
 
-/* Whether len bytes fit from place `at` on into a buffer of room bytes. at + len may be any sum: it never overflows. */
+/* Whether len bytes fit from place `at` on into a buffer of room bytes; the sum of at and len may be any number. */
 bool raspteal_fits(size_t room, size_t at, size_t len);
 
 /* Writes v at place `at` of out. Where it does not fit, out is left as it is. */
@@ -231,7 +232,7 @@ size_t raspteal_index_len(size_t n);
 /* Writes n in base ten at place `at` of out. Where it does not fit, out is left as it is. */
 raspteal_written raspteal_write_index(uint8_t *out, size_t out_len, size_t at, size_t n);
 
-/* ---- Elements: a number over 19, or 8 for an axis, counts as 0 ---------------------------------------------------- */
+/* ---- Elements: a number over 19, or 8 for an axis, counts as 0 ------------------------------------------------- */
 
 /* The native code of a button. */
 raspteal_code raspteal_button_to_nec(uint16_t button);
@@ -260,7 +261,7 @@ raspteal_mapped raspteal_find_element(const uint8_t *key, size_t key_len);
 /* The key name of an element. */
 raspteal_ident raspteal_ident_of(raspteal_element e);
 
-/* ---- Maps -------------------------------------------------------------------------------------------------------- */
+/* ---- Maps ------------------------------------------------------------------------------------------------------ */
 
 /* The entry of a code and an element. Any element number is taken as it is. */
 raspteal_entry raspteal_entry_new(uint32_t code, raspteal_element element);
@@ -277,7 +278,7 @@ raspteal_mapped raspteal_mapping_map(raspteal_mapping map, uint32_t code);
 /* The least code of an element. A count over 256 is read as 256. */
 raspteal_code raspteal_mapping_map_rev(raspteal_mapping map, raspteal_element e);
 
-/* ---- Lines ------------------------------------------------------------------------------------------------------- */
+/* ---- Lines ----------------------------------------------------------------------------------------------------- */
 
 /* The state of a walker over a line before its first step, whose position is 0. */
 uint8_t raspteal_parser_start(const uint8_t *line, size_t line_len);
@@ -289,12 +290,12 @@ raspteal_step raspteal_parser_step(const uint8_t *line, size_t line_len, size_t 
 /* The first answer over a line: the token of the step at position 0 in the state that raspteal_parser_start gives. */
 raspteal_token raspteal_first_token(const uint8_t *line, size_t line_len);
 
-/* The map of a line, by the lists of the pad's button and axis codes. Refusals: 10, 12, then 1 to 7 and 11 in the order
- * of the line. */
+/* The map of a line, by the lists of the pad's button and axis codes. Refusals: 10, 12, then 1 to 7 and 11 in the
+ * order of the line. */
 raspteal_answer raspteal_parse_sdl_mapping(const uint8_t *line, size_t line_len, const uint32_t *buttons,
                                            size_t buttons_len, const uint32_t *axes, size_t axes_len);
 
-/* ---- Slots, build and default ------------------------------------------------------------------------------------- */
+/* ---- Slots, build and default ---------------------------------------------------------------------------------- */
 
 /* A slot filled with a code. */
 raspteal_slot raspteal_slot_new(uint32_t code);
@@ -318,8 +319,8 @@ raspteal_changed raspteal_data_insert_axis(raspteal_data data, uint32_t code, ui
 raspteal_changed raspteal_data_remove_button(raspteal_data data, uint16_t button);
 raspteal_changed raspteal_data_remove_axis(raspteal_data data, uint16_t axis);
 
-/* Builds the line of the filled slots and writes it at the start of out; later bytes of out stay as they are, and all of
- * them do on a refusal: 10, 17, 12, 13, 14, 15, 16, 18. 2400 bytes hold every line. */
+/* Builds the line of the filled slots and writes it at the start of out; later bytes of out stay as they are, and all
+ * of them do on a refusal: 10, 17, 12, 13, 14, 15, 16, 18. 2400 bytes hold every line. */
 raspteal_built raspteal_from_data(raspteal_data data, const uint32_t *buttons, size_t buttons_len,
                                   const uint32_t *axes, size_t axes_len, const uint8_t *name, size_t name_len,
                                   raspteal_uuid id, uint8_t *out, size_t out_len);
@@ -327,20 +328,20 @@ raspteal_built raspteal_from_data(raspteal_data data, const uint32_t *buttons, s
 /* The default map of a pad with these lists. Refusal: 12. */
 raspteal_answer raspteal_default(const uint32_t *buttons, size_t buttons_len, const uint32_t *axes, size_t axes_len);
 
-/* ---- The store: an index and a text, at most 65535 bytes each, all 0 when fresh --------------------------------------
- * Each line takes 21 bytes of the index and its own length of the text. Lend the same two buffers, of the same lengths,
- * to each call, and let nothing else write there. */
+/* ---- The store: an index and a text, at most 65535 bytes each, all 0 when fresh -----------------------------------
+ * Each line takes 21 bytes of the index and its own length of the text. Lend the same two buffers, of the same
+ * lengths, to each call, and let nothing else write there. */
 
 /* Sets every byte of both buffers to 0. Refusal: 23, nothing changed. */
 raspteal_refusal raspteal_store_clear(uint8_t *index, size_t index_len, uint8_t *text, size_t text_len);
 
-/* Files the lines of a text that are for Linux and start with a UUID, each in place of the one under its UUID. Refusals:
- * 19 and 10 with nothing changed; 20 and 21 stop at one line, and those before it are filed. */
+/* Files the lines of a text that are for Linux and start with a UUID, each in place of the one under its UUID.
+ * Refusals: 19 and 10 with nothing changed; 20 and 21 stop at one line, and those before it are filed. */
 raspteal_inserted raspteal_store_insert(uint8_t *index, size_t index_len, uint8_t *text, size_t text_len,
                                         const uint8_t *lines, size_t lines_len);
 
-/* Builds a line, as raspteal_from_data does, and files it. Refusals, with nothing changed: build's without 18, then 22, 19,
- * 21. */
+/* Builds a line, as raspteal_from_data does, and files it. Refusals, with nothing changed: build's without 18, then
+ * 22, 19, 21. */
 raspteal_answer raspteal_store_save(uint8_t *index, size_t index_len, uint8_t *text, size_t text_len,
                                     raspteal_data data, const uint32_t *buttons, size_t buttons_len,
                                     const uint32_t *axes, size_t axes_len, const uint8_t *name, size_t name_len,
@@ -368,8 +369,8 @@ raspteal_written raspteal_store_get(const uint8_t *index, size_t index_len, cons
  * 10 not UTF-8                                  22 a saved name with LF or `platform:`
  * 11 a 257th code in a map                      23 clear: a buffer over 65535 bytes
  * 12 a list over 1024 codes
- * Places: 1, 2, 7 and 9 at 0; 3, 5, 6, 8 and 11 at the pair's start; 4 there or, for a hat, further on; 10 at the end of
- * the longest run of whole characters. The others have none. */
+ * Places: 1, 2, 7 and 9 at 0; 3, 5, 6, 8 and 11 at the pair's start; 4 there or, for a hat, further on; 10 at the end
+ * of the longest run of whole characters. The others have none. */
 
 #ifdef __cplusplus
 }

@@ -6,7 +6,7 @@ from pathlib import Path
 LAYERS = ["text", "line", "map", "store"]
 PAGE = Path("docs/CALLS.md")
 
-# A C function is named after its call: raspteal_, the type of a method (or `store`), and the call's name. These differ.
+# A C function is named after its call: raspteal_, the type of a method (or `store`), and the call. These differ.
 TYPES = {"AxisOrBtn": "element", "MappingData": "data"}
 CROSSES_AS = {
     "start_state": "raspteal_parser_start",
@@ -15,6 +15,9 @@ CROSSES_AS = {
     "Parser::new": "raspteal_parser_start",
     "Parser::next_token": "raspteal_parser_step",
 }
+
+# A promise of an answer and a buffer at once; a C function says the two apart.
+PARTS = {"Wrote": ["writeAnswer", "writeBuffer"], "Builds": ["buildOf", "outputOf"]}
 
 HEAD = """# The public calls
 
@@ -47,6 +50,12 @@ def comment_above(lines, i, mark):
     while j > 0 and lines[j - 1].strip().startswith(mark):
         j -= 1
     return lines[j:end]
+
+
+def head_of(source):
+    """The comment that a file starts with."""
+    lines = lines_of(source)
+    return lines[: next(i for i, line in enumerate(lines) if not line.startswith("//"))]
 
 
 def public_modules(layer):
@@ -195,8 +204,7 @@ def page(layers):
         for path, source, calls in modules:
             if not calls:
                 continue
-            head = comment_above(lines_of(source), next(i for i, s in enumerate(lines_of(source)) if s[:2] != "//"), "//")
-            out += [f"### {layer}::{'::'.join(path)}", "", words(head), ""]
+            out += [f"### {layer}::{'::'.join(path)}", "", words(head_of(source)), ""]
             for call in calls:
                 out += entry(call, imports_of(source, layer))
     return "\n".join(out).rstrip() + "\n"
@@ -226,8 +234,14 @@ def faults(call, imports, exports):
     body = exports.get(call.c_name())
     if body is None:
         yield f"has no C function {call.c_name()} in crates/exports"
-    elif call.title not in CROSSES_AS and not re.search(rf"\b{call.name}\(", body.split("\n{\n")[1]):
-        yield f"is not called by {call.c_name()}"
+    elif call.title not in CROSSES_AS:
+        contract, code = body.split("\n{\n")
+        if not re.search(rf"\b{call.name}\(", code):
+            yield f"is not called by {call.c_name()}"
+        for _, _, name in found:
+            for part in PARTS.get(name, [name]):
+                if not re.search(rf"\b{part}\b", contract):
+                    yield f"promises {name}, and {call.c_name()} says nothing of {part}"
 
 
 def main():

@@ -1,5 +1,5 @@
-/* What a hub does with the library: load a list of mapping lines, look a pad up by its GUID, read its line with the pad's
- * code lists, turn a code into an element, and save what staff have bound.
+/* What a hub does with the library: load a list of mapping lines, look a pad up by its GUID, read its line with the
+ * pad's code lists, turn a code into an element, and save what staff have bound.
  *
  *     gcc -o hub bindings/c/example.c target/staticlib/libexports.a && ./hub bindings/example/pads.txt
  */
@@ -72,7 +72,8 @@ int main(int argc, char **argv) {
     static const char guid[] = "03000000aabb00000100000011010000";
     raspteal_uuid pad = raspteal_uuid_parse_str((const uint8_t *)guid, strlen(guid)).id;
     size_t len = line_of(pad, line);
-    raspteal_answer a = len > 0 ? raspteal_parse_sdl_mapping(line, len, BUTTONS, AXES) : raspteal_default(BUTTONS, AXES);
+    raspteal_answer a =
+        len > 0 ? raspteal_parse_sdl_mapping(line, len, BUTTONS, AXES) : raspteal_default(BUTTONS, AXES);
     accept(a.refusal, "reading");
     printf("pad %s, %zu codes\n", guid, a.map.count);
     show(a.map, 0x10131);

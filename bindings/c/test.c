@@ -114,7 +114,8 @@ static void lines(void) {
     CHECK(r.refusal.number == 0 && r.map.count == 2 && r.map.hats_mapped == 1);
     CHECK(r.map.name_start == 33 && r.map.name_len == 1 && !r.map.is_default);
     CHECK(r.map.entries[0].code == 0x10220 && r.map.entries[0].element.number == 16);
-    CHECK(r.map.entries[1].code == 0x30011 && r.map.entries[1].element.is_axis && r.map.entries[1].element.number == 8);
+    CHECK(r.map.entries[1].code == 0x30011);
+    CHECK(r.map.entries[1].element.is_axis && r.map.entries[1].element.number == 8);
     CHECK(raspteal_mapping_map(r.map, 0x10220).element.number == 16);
     CHECK(raspteal_mapping_map_rev(r.map, (raspteal_element){true, 8}).code == 0x30011);
     CHECK(!raspteal_mapping_map(r.map, 0).found);
@@ -143,7 +144,8 @@ static void builds(void) {
     CHECK(!raspteal_slot_code_is_some((raspteal_code){false, 5}));
     raspteal_changed c = raspteal_data_insert_btn(raspteal_data_new(), 0x10131, 1);
     CHECK(!c.former.found && raspteal_data_button(c.slots, 1).code == 0x10131);
-    raspteal_built b = raspteal_from_data(c.slots, LIST(buttons), LIST(axes), TEXT("T"), (raspteal_uuid){0, 0}, BUFFER(out));
+    raspteal_uuid nil = {0, 0};
+    raspteal_built b = raspteal_from_data(c.slots, LIST(buttons), LIST(axes), TEXT("T"), nil, BUFFER(out));
     CHECK(b.refusal.number == 0 && b.len == 40 && memcmp(out, U ",T,a:b1,.", 41) == 0);
     CHECK(b.map.count == 1 && b.map.entries[0].code == 0x10131 && b.map.entries[0].element.number == 1);
     b = raspteal_from_data(c.slots, axes, 1, LIST(axes), TEXT("T"), one, BUFFER(out));

@@ -1,5 +1,5 @@
-//! Links the proved library, libexports.a: from the folder RASPTEAL_LIB, or from target/staticlib of the repository, where
-//! bindings/library builds it.
+//! Links the proved library, libexports.a: from the folder RASPTEAL_LIB, or from target/staticlib of the repository,
+//! where bindings/library builds it.
 use std::env;
 use std::path::{Path, PathBuf};
 use std::process::Command;
@@ -21,12 +21,18 @@ fn built(repository: &Path) -> Result<PathBuf, String> {
 }
 
 fn folder() -> Result<PathBuf, String> {
-    if env::var("CARGO_CFG_TARGET_ARCH").as_deref() != Ok("x86_64") || env::var("CARGO_CFG_TARGET_OS").as_deref() != Ok("linux") {
+    if env::var("CARGO_CFG_TARGET_ARCH").as_deref() != Ok("x86_64")
+        || env::var("CARGO_CFG_TARGET_OS").as_deref() != Ok("linux")
+    {
         return Err("the library is for x86-64 Linux".into());
     }
     if let Some(folder) = env::var_os("RASPTEAL_LIB").map(PathBuf::from) {
         let archive = folder.join("libexports.a");
-        return if archive.is_file() { Ok(folder) } else { Err(format!("RASPTEAL_LIB: there is no {}", archive.display())) };
+        return if archive.is_file() {
+            Ok(folder)
+        } else {
+            Err(format!("RASPTEAL_LIB: there is no {}", archive.display()))
+        };
     }
     built(&Path::new(env!("CARGO_MANIFEST_DIR")).join("../.."))
 }
@@ -37,7 +43,8 @@ fn main() {
         Ok(folder) => folder,
         Err(missing) => {
             eprintln!("raspteal: {missing}");
-            eprintln!("raspteal: build libexports.a with `rt staticlib exports` (the Rattle toolchain), or set RASPTEAL_LIB to the folder that has it");
+            eprintln!("raspteal: build libexports.a with `rt staticlib exports` (the Rattle toolchain),");
+            eprintln!("raspteal: or set RASPTEAL_LIB to the folder that has it");
             std::process::exit(1);
         }
     };

@@ -1,5 +1,5 @@
-//! What a hub does with the library: load a list of mapping lines, look a pad up by its GUID, read its line with the pad's
-//! code lists, turn a code into an element, and save what staff have bound.
+//! What a hub does with the library: load a list of mapping lines, look a pad up by its GUID, read its line with the
+//! pad's code lists, turn a code into an element, and save what staff have bound.
 //!
 //!     cargo run --example hub ../example/pads.txt
 use raspteal::{AxisOrBtn, Button, Code, Mapping, MappingData, Store, Uuid, RECORD_LEN};

@@ -76,13 +76,7 @@ impl MappingData {
     /// assert_eq!(built.line, "00000000000000000000000000000000,T,a:b1,");
     /// # Ok::<(), raspteal::Error>(())
     /// ```
-    pub fn build(
-        &self,
-        buttons: &[Code],
-        axes: &[Code],
-        name: impl AsRef<[u8]>,
-        id: Uuid,
-    ) -> Result<Built, Error> {
+    pub fn build(&self, buttons: &[Code], axes: &[Code], name: impl AsRef<[u8]>, id: Uuid) -> Result<Built, Error> {
         let mut out = vec![0; BUILT_MAX];
         let (len, map) = self.build_into(buttons, axes, name, id, &mut out)?;
         out.truncate(len);
@@ -90,8 +84,8 @@ impl MappingData {
         Ok(Built { line, map })
     }
 
-    /// Builds the line at the start of a buffer, and hands back its length; later bytes stay as they are, and all do on a
-    /// refusal. Refusals: those of [`MappingData::build`], then 18. 2400 bytes hold every line.
+    /// Builds the line at the start of a buffer, and hands back its length; later bytes stay as they are, and all do
+    /// on a refusal. Refusals: those of [`MappingData::build`], then 18. 2400 bytes hold every line.
     pub fn build_into(
         &self,
         buttons: &[Code],

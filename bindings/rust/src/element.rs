@@ -2,8 +2,8 @@
 use crate::ffi::{self, safe};
 use std::fmt;
 
-/// An event code of a pad: 32 bits, the kind times 65536 plus the number of the Linux input headers. Never a place in a
-/// list.
+/// An event code of a pad: 32 bits, the kind times 65536 plus the number of the Linux input headers. Never a place in
+/// a list.
 #[derive(Clone, Copy, Debug, PartialEq, Eq, PartialOrd, Ord, Hash)]
 #[repr(transparent)]
 pub struct Code(pub u32);

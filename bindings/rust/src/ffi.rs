@@ -1,5 +1,5 @@
-//! The functions of bindings/raspteal.h, in its order. `bindings/declared` compares these declarations with it and with the
-//! Rattle source. A slice is a pointer and a length; a struct passes by value.
+//! The functions of bindings/raspteal.h, in its order. `bindings/declared` compares these declarations with it and
+//! with the Rattle source. A slice is a pointer and a length; a struct passes by value.
 #![allow(unsafe_code, missing_docs)]
 
 pub mod safe;
@@ -227,7 +227,12 @@ extern "C" {
     pub fn raspteal_parser_step(line: *const u8, line_len: usize, pos: usize, state: u8) -> Step;
     pub fn raspteal_first_token(line: *const u8, line_len: usize) -> Token;
     pub fn raspteal_parse_sdl_mapping(
-        line: *const u8, line_len: usize, buttons: *const u32, buttons_len: usize, axes: *const u32, axes_len: usize,
+        line: *const u8,
+        line_len: usize,
+        buttons: *const u32,
+        buttons_len: usize,
+        axes: *const u32,
+        axes_len: usize,
     ) -> Answer;
 
     pub fn raspteal_slot_new(code: u32) -> Slot;
@@ -241,23 +246,56 @@ extern "C" {
     pub fn raspteal_data_remove_button(data: MappingData, button: u16) -> Changed;
     pub fn raspteal_data_remove_axis(data: MappingData, axis: u16) -> Changed;
     pub fn raspteal_from_data(
-        data: MappingData, buttons: *const u32, buttons_len: usize, axes: *const u32, axes_len: usize, name: *const u8,
-        name_len: usize, id: Uuid, out: *mut u8, out_len: usize,
+        data: MappingData,
+        buttons: *const u32,
+        buttons_len: usize,
+        axes: *const u32,
+        axes_len: usize,
+        name: *const u8,
+        name_len: usize,
+        id: Uuid,
+        out: *mut u8,
+        out_len: usize,
     ) -> Built;
     pub fn raspteal_default(buttons: *const u32, buttons_len: usize, axes: *const u32, axes_len: usize) -> Answer;
 
     pub fn raspteal_store_clear(index: *mut u8, index_len: usize, text: *mut u8, text_len: usize) -> Refusal;
     pub fn raspteal_store_insert(
-        index: *mut u8, index_len: usize, text: *mut u8, text_len: usize, lines: *const u8, lines_len: usize,
+        index: *mut u8,
+        index_len: usize,
+        text: *mut u8,
+        text_len: usize,
+        lines: *const u8,
+        lines_len: usize,
     ) -> Inserted;
     pub fn raspteal_store_save(
-        index: *mut u8, index_len: usize, text: *mut u8, text_len: usize, data: MappingData, buttons: *const u32,
-        buttons_len: usize, axes: *const u32, axes_len: usize, name: *const u8, name_len: usize, id: Uuid,
+        index: *mut u8,
+        index_len: usize,
+        text: *mut u8,
+        text_len: usize,
+        data: MappingData,
+        buttons: *const u32,
+        buttons_len: usize,
+        axes: *const u32,
+        axes_len: usize,
+        name: *const u8,
+        name_len: usize,
+        id: Uuid,
     ) -> Answer;
     pub fn raspteal_store_found(
-        index: *const u8, index_len: usize, text: *const u8, text_len: usize, id: Uuid,
+        index: *const u8,
+        index_len: usize,
+        text: *const u8,
+        text_len: usize,
+        id: Uuid,
     ) -> Look;
     pub fn raspteal_store_get(
-        index: *const u8, index_len: usize, text: *const u8, text_len: usize, id: Uuid, out: *mut u8, out_len: usize,
+        index: *const u8,
+        index_len: usize,
+        text: *const u8,
+        text_len: usize,
+        id: Uuid,
+        out: *mut u8,
+        out_len: usize,
     ) -> Written;
 }

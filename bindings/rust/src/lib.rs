@@ -1,12 +1,13 @@
 //! Mapping lines, maps and the line store of the hub.
 //!
-//! The calls are those of a library in which every function is proved: each takes every input, ends, and answers what its
-//! definition says (the repository's docs/CALLS.md lists them). This crate makes them safe to call and gives the
+//! The calls are those of a library in which every function is proved: each takes every input, ends, and answers what
+//! its definition says (the repository's docs/CALLS.md lists them). This crate makes them safe to call and gives the
 //! answers Rust types. It has no dependencies; `build.rs` links the library, `libexports.a`.
 //!
-//! A pad is known by its [`Uuid`]. What its kernel driver reports are event [`Code`]s; a [`Mapping`] turns a code into a
-//! named element, an [`AxisOrBtn`]. A mapping is read from a line by the lists of the pad's button and axis codes. A
-//! [`Store`] holds lines under their UUIDs; [`MappingData`] is what staff have bound, and a save makes a line of it.
+//! A pad is known by its [`Uuid`]. What its kernel driver reports are event [`Code`]s; a [`Mapping`] turns a code
+//! into a named element, an [`AxisOrBtn`]. A mapping is read from a line by the lists of the pad's button and axis
+//! codes. A [`Store`] holds lines under their UUIDs; [`MappingData`] is what staff have bound, and a save makes a
+//! line of it.
 //!
 //! ```
 //! use raspteal::{AxisOrBtn, Button, Code, MappingData, Store, Uuid};

@@ -27,8 +27,8 @@ impl Mapping {
         Mapping(safe::mapping_new())
     }
 
-    /// Reads a line by the lists of the pad's button and axis codes. Refusals: 10, 12, then 1 to 7 and 11 in the order of the
-    /// line.
+    /// Reads a line by the lists of the pad's button and axis codes. Refusals: 10, 12, then 1 to 7 and 11 in the
+    /// order of the line.
     pub fn parse_sdl_mapping(line: impl AsRef<[u8]>, buttons: &[Code], axes: &[Code]) -> Result<Mapping, Error> {
         Mapping::accepted(safe::parse_sdl_mapping(line.as_ref(), buttons, axes))
     }

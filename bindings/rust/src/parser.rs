@@ -62,8 +62,8 @@ pub enum Token<'a> {
 /// The walker over one line. As an iterator it yields the tokens and refusals of the line in order.
 ///
 /// After refusals 3 to 6 and 8 it goes on with the next pair. After 1, 2 and 10 there is nothing to go on with: the
-/// iterator yields the refusal once, and then `None`, so that a loop ends. Document 01's walker has no end there: it answers
-/// 9 (10 where the line is not UTF-8) to each further call, and [`Parser::next_token`] says so.
+/// iterator yields the refusal once, and then `None`, so that a loop ends. Document 01's walker has no end there: it
+/// answers 9 (10 where the line is not UTF-8) to each further call, and [`Parser::next_token`] says so.
 ///
 /// ```
 /// use raspteal::{Error, Parser, Token};

@@ -3,11 +3,11 @@ use crate::error::{Error, InsertError};
 use crate::ffi::safe;
 use crate::{Code, Mapping, MappingData, Uuid, LINE_MAX};
 
-/// The lines held under their UUIDs, in two buffers of at most 65535 bytes: an index, of which each line takes 21 bytes, and a
-/// text. Fresh buffers are all 0.
+/// The lines held under their UUIDs, in two buffers of at most 65535 bytes: an index, of which each line takes 21
+/// bytes, and a text. Fresh buffers are all 0.
 ///
-/// The buffers are owned (`Vec<u8>`, arrays) or lent (`&mut [u8]`); a store over `&[u8]` can only be looked up. Keep them as
-/// they are between calls, in a file or in shared memory: the store has no other state.
+/// The buffers are owned (`Vec<u8>`, arrays) or lent (`&mut [u8]`); a store over `&[u8]` can only be looked up. Keep
+/// them as they are between calls, in a file or in shared memory: the store has no other state.
 ///
 /// ```
 /// use raspteal::{Store, Uuid};
@@ -30,7 +30,8 @@ pub struct Store<B = Vec<u8>> {
 }
 
 impl Store {
-    /// A fresh store that owns buffers of these lengths. Over 65535 bytes each of its calls is refused: 19, or 23 for a clear.
+    /// A fresh store that owns buffers of these lengths. Over 65535 bytes each of its calls is refused: 19, or 23 for
+    /// a clear.
     pub fn new(index_len: usize, text_len: usize) -> Store {
         Store { index: vec![0; index_len], text: vec![0; text_len] }
     }
@@ -77,8 +78,8 @@ impl<B: AsRef<[u8]>> Store<B> {
         Ok(Some(line))
     }
 
-    /// Copies the line held under a UUID to the start of a buffer and hands back its length, 0 where none is held or the store
-    /// is not sound. `None`, and the buffer as it was, where it is shorter than the line.
+    /// Copies the line held under a UUID to the start of a buffer and hands back its length, 0 where none is held or
+    /// the store is not sound. `None`, and the buffer as it was, where it is shorter than the line.
     pub fn get_into(&self, id: Uuid, out: &mut [u8]) -> Option<usize> {
         let w = safe::store_get(self.index(), self.text(), id.into(), out);
         w.fits.then(|| w.next)
@@ -100,9 +101,9 @@ impl<B: AsRef<[u8]> + AsMut<[u8]>> Store<B> {
         Error::check(safe::store_clear(self.index.as_mut(), self.text.as_mut()))
     }
 
-    /// Files the lines of a text that are for Linux and start with a UUID, each in place of the one under its UUID, and hands
-    /// back the number of lines walked. Refusals: 19 and 10 with nothing changed; 20 and 21 stop at one line, and
-    /// those before it are filed.
+    /// Files the lines of a text that are for Linux and start with a UUID, each in place of the one under its UUID,
+    /// and hands back the number of lines walked. Refusals: 19 and 10 with nothing changed; 20 and 21 stop at one
+    /// line, and those before it are filed.
     pub fn insert(&mut self, lines: impl AsRef<[u8]>) -> Result<usize, InsertError> {
         let inserted = safe::store_insert(self.index.as_mut(), self.text.as_mut(), lines.as_ref());
         let count = inserted.count;
@@ -110,9 +111,9 @@ impl<B: AsRef<[u8]> + AsMut<[u8]>> Store<B> {
         Ok(count)
     }
 
-    /// Builds the line of what staff have bound, as [`MappingData::build`] does, and files it under the UUID. Looked up with
-    /// the same lists it reads back as the map that this call hands back. Refusals, with nothing changed: those of
-    /// build, then 22, 19, 21.
+    /// Builds the line of what staff have bound, as [`MappingData::build`] does, and files it under the UUID. Looked
+    /// up with the same lists it reads back as the map that this call hands back. Refusals, with nothing changed:
+    /// those of build, then 22, 19, 21.
     pub fn save(
         &mut self,
         data: &MappingData,

@@ -81,8 +81,8 @@ pub fn index_len(n: usize) -> usize {
     safe::index_len(n)
 }
 
-/// Writes `n` in base ten at place `at`, and hands back the place after its last digit; where it does not fit, nothing is
-/// written.
+/// Writes `n` in base ten at place `at`, and hands back the place after its last digit; where it does not fit,
+/// nothing is written.
 ///
 /// ```
 /// let mut out = *b"....";

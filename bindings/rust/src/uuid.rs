@@ -27,7 +27,8 @@ impl Uuid {
     /// All bits 0.
     pub const NIL: Uuid = Uuid { high: 0, low: 0 };
 
-    /// The UUID that a text spells: 32 hexadecimal digits, the form with hyphens, that form in braces, or after `urn:uuid:`.
+    /// The UUID that a text spells: 32 hexadecimal digits, the form with hyphens, that form in braces, or after
+    /// `urn:uuid:`.
     pub fn parse_str(s: impl AsRef<[u8]>) -> Result<Uuid, ParseUuidError> {
         let parsed = safe::uuid_parse_str(s.as_ref());
         if parsed.valid {
@@ -37,8 +38,8 @@ impl Uuid {
         }
     }
 
-    /// Writes the 32 digits at place `at` of a buffer, and hands back the place after them; where they do not fit, nothing
-    /// is written.
+    /// Writes the 32 digits at place `at` of a buffer, and hands back the place after them; where they do not fit,
+    /// nothing is written.
     ///
     /// ```
     /// let mut out = *b"....................................";

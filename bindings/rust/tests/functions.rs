@@ -50,7 +50,9 @@ fn all_elements() {
         }
         match e.ident() {
             Some(name) => assert_eq!(AxisOrBtn::from_key(name), Some(e)),
-            None => assert!(ffi::Element::from(e).number == 0 || matches!(e, AxisOrBtn::Axis(Axis::DPadX | Axis::DPadY))),
+            None => {
+                assert!(ffi::Element::from(e).number == 0 || matches!(e, AxisOrBtn::Axis(Axis::DPadX | Axis::DPadY)))
+            }
         }
     }
     assert_eq!(AxisOrBtn::from_key("left"), None);
@@ -85,7 +87,13 @@ fn uuids() {
     let id = Uuid::from_u128(0xf81d4fae7dec11d0a76500a0c91e6bf6);
     let simple = "f81d4fae7dec11d0a76500a0c91e6bf6";
     let hyphens = "f81d4fae-7dec-11d0-a765-00a0c91e6bf6";
-    for spelt in [simple.into(), simple.to_uppercase(), hyphens.into(), format!("{{{hyphens}}}"), format!("urn:uuid:{hyphens}")] {
+    for spelt in [
+        simple.into(),
+        simple.to_uppercase(),
+        hyphens.into(),
+        format!("{{{hyphens}}}"),
+        format!("urn:uuid:{hyphens}"),
+    ] {
         assert_eq!(spelt.parse(), Ok(id));
     }
     for spelt in ["", "xinput", &simple[1..], &format!("{{{simple}}}"), &format!("URN:UUID:{hyphens}")] {
@@ -112,7 +120,9 @@ fn maps() {
 
     let buttons: Vec<Code> = Button::ALL.iter().filter_map(|b| b.to_nec()).collect();
     let map = Mapping::default_of(&buttons, &[]).unwrap();
-    assert!(map.is_default() && map.iter().all(|(code, e)| AxisOrBtn::Btn(Button::East) == e || buttons.contains(&code)));
+    assert!(
+        map.is_default() && map.iter().all(|(code, e)| AxisOrBtn::Btn(Button::East) == e || buttons.contains(&code))
+    );
     assert_eq!((map.len(), map.name_range()), (19, 0..0));
     assert!(format!("{map:?}").starts_with("Mapping { entries: [(Code(65840), Btn(South))"));
 }
@@ -160,7 +170,11 @@ fn samples() {
     ];
     for (line, hats, entries) in accepted {
         let map = Mapping::parse_sdl_mapping(line, &buttons, &axes).unwrap();
-        assert_eq!((map.iter().collect::<Vec<_>>(), map.hats_mapped(), map.is_default()), (entries, hats, false), "{line}");
+        assert_eq!(
+            (map.iter().collect::<Vec<_>>(), map.hats_mapped(), map.is_default()),
+            (entries, hats, false),
+            "{line}"
+        );
         assert_eq!(map.name_in(line), if line.is_empty() { "" } else { "T" });
     }
     let refused = [

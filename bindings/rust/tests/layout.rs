@@ -1,4 +1,5 @@
-//! The structs that cross, against the C header's: sizes, alignments and the place of each field, as gcc lays them out.
+//! The structs that cross, against the C header's: sizes, alignments and the place of each field, as gcc lays them
+//! out.
 use raspteal::ffi;
 use std::fmt::Write;
 use std::path::Path;
@@ -82,7 +83,8 @@ fn as_in_c() {
     c += "printf(\"kinds %d %d %d %d %d %d %d %d\\n\", RASPTEAL_END, RASPTEAL_REFUSED, RASPTEAL_UUID, \
           RASPTEAL_PLATFORM, RASPTEAL_NAME, RASPTEAL_AXIS, RASPTEAL_BUTTON, RASPTEAL_HAT);\n}\n";
     std::fs::write(&source, c).unwrap();
-    let built = Command::new("gcc").args(["-std=c11", "-Wall", "-Werror", "-o"]).args([&program, &source]).output().unwrap();
+    let built =
+        Command::new("gcc").args(["-std=c11", "-Wall", "-Werror", "-o"]).args([&program, &source]).output().unwrap();
     assert!(built.status.success(), "{}", String::from_utf8_lossy(&built.stderr));
     let printed = String::from_utf8(Command::new(&program).output().unwrap().stdout).unwrap();
 

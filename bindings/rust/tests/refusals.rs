@@ -156,7 +156,8 @@ fn stores_19() {
 fn inserts_20_and_21() {
     let mut store = Store::new(63, 65535);
     let long = format!("{U},{}", "n".repeat(4097 - 33));
-    let refused = store.insert(format!("# list\n00000000000000000000000000000001,T\n{long}\nnever reached")).unwrap_err();
+    let refused =
+        store.insert(format!("# list\n00000000000000000000000000000001,T\n{long}\nnever reached")).unwrap_err();
     expect(refused.error, 20, None, None);
     assert_eq!(refused.count, 2);
     assert!(store.found(Uuid::from_u128(1)).unwrap() && !store.found(Uuid::NIL).unwrap());

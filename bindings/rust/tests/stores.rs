@@ -86,7 +86,8 @@ fn lines_wanted() {
     assert_eq!(store.get(Uuid::from_u128(1)).unwrap().unwrap(), b"00000000000000000000000000000001,no platform,");
 }
 
-/// Each single byte of a store damaged in turn: a call says 19, or answers for the lines that the bytes encode. Never more.
+/// Each single byte of a store damaged in turn: a call says 19, or answers for the lines that the bytes encode. Never
+/// more.
 #[test]
 fn damaged() {
     let mut store = Store::new(3 * RECORD_LEN, 120);

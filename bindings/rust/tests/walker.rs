@@ -5,7 +5,8 @@ const U: &str = "00000000000000000000000000000000";
 
 #[test]
 fn tokens() {
-    let line = "f81d4fae7dec11d0a76500a0c91e6bf6,Pad é,a:b3,-leftx:+a4~,lefty:-a5,righty:a6,+dpup:h0.1,platform:Linux";
+    let line =
+        "f81d4fae7dec11d0a76500a0c91e6bf6,Pad é,a:b3,-leftx:+a4~,lefty:-a5,righty:a6,+dpup:h0.1,platform:Linux";
     let found: Vec<Token> = Parser::new(line).collect::<Result<_, _>>().unwrap();
     assert_eq!(
         found,

@@ -1,5 +1,5 @@
-//! Each function of the library on slices. What makes the calls sound: a slice's pointer is never null and reaches over its
-//! length, the compiler keeps a `&mut` slice apart from all others, and every input is taken.
+//! Each function of the library on slices. What makes the calls sound: a slice's pointer is never null and reaches
+//! over its length, the compiler keeps a `&mut` slice apart from all others, and every input is taken.
 use super::*;
 use crate::Code as EventCode;
 
@@ -174,7 +174,9 @@ pub fn from_data(
     out: &mut [u8],
 ) -> Built {
     let ((b, b_len), (a, a_len)) = (list(buttons), list(axes));
-    unsafe { raspteal_from_data(data, b, b_len, a, a_len, name.as_ptr(), name.len(), id, out.as_mut_ptr(), out.len()) }
+    unsafe {
+        raspteal_from_data(data, b, b_len, a, a_len, name.as_ptr(), name.len(), id, out.as_mut_ptr(), out.len())
+    }
 }
 
 pub fn default(buttons: &[EventCode], axes: &[EventCode]) -> Answer {
