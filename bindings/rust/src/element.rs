@@ -10,7 +10,7 @@ pub struct Code(pub u32);
 
 impl Code {
     pub(crate) fn found(c: ffi::Code) -> Option<Code> {
-        c.found.then(|| Code(c.code))
+        c.found.then_some(Code(c.code))
     }
 }
 

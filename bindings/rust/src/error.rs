@@ -113,7 +113,7 @@ impl Error {
             8 => Error::EmptyValue { place },
             9 => Error::InvalidParserState { place },
             10 => Error::NotUtf8 { place },
-            11 => Error::TooManyCodes { place: r.has_place.then(|| place) },
+            11 => Error::TooManyCodes { place: r.has_place.then_some(place) },
             12 => Error::ListTooLong,
             13 => Error::InvalidName,
             14 => Error::UnknownElement,

@@ -82,7 +82,7 @@ impl<B: AsRef<[u8]>> Store<B> {
     /// the store is not sound. `None`, and the buffer as it was, where it is shorter than the line.
     pub fn get_into(&self, id: Uuid, out: &mut [u8]) -> Option<usize> {
         let w = safe::store_get(self.index(), self.text(), id.into(), out);
-        w.fits.then(|| w.next)
+        w.fits.then_some(w.next)
     }
 
     /// The map of the line held under a UUID, by the lists of the pad's codes. Refusals: 19, then those of

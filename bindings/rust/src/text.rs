@@ -18,7 +18,7 @@ pub fn same_bytes(a: &[u8], b: &[u8]) -> bool {
 /// ```
 pub fn find_byte(s: &[u8], b: u8) -> Option<usize> {
     let place = safe::find_byte(s, b);
-    (place < s.len()).then(|| place)
+    (place < s.len()).then_some(place)
 }
 
 /// Whether `len` bytes fit from place `at` on into a buffer of `room` bytes.
@@ -40,7 +40,7 @@ pub fn fits(room: usize, at: usize, len: usize) -> bool {
 /// ```
 pub fn write_bytes(out: &mut [u8], at: usize, v: &[u8]) -> Option<usize> {
     let w = safe::write_bytes(out, at, v);
-    w.fits.then(|| w.next)
+    w.fits.then_some(w.next)
 }
 
 /// The length of the longest run of whole UTF-8 characters from the first byte on.
@@ -69,7 +69,7 @@ pub fn is_utf8(s: &[u8]) -> bool {
 /// ```
 pub fn parse_u16(s: impl AsRef<[u8]>) -> Option<u16> {
     let parsed = safe::parse_u16(s.as_ref());
-    parsed.valid.then(|| parsed.number)
+    parsed.valid.then_some(parsed.number)
 }
 
 /// How many digits [`write_index`] writes.
@@ -91,5 +91,5 @@ pub fn index_len(n: usize) -> usize {
 /// ```
 pub fn write_index(out: &mut [u8], at: usize, n: usize) -> Option<usize> {
     let w = safe::write_index(out, at, n);
-    w.fits.then(|| w.next)
+    w.fits.then_some(w.next)
 }

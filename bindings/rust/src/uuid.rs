@@ -49,7 +49,7 @@ impl Uuid {
     /// ```
     pub fn write_simple(self, out: &mut [u8], at: usize) -> Option<usize> {
         let w = safe::uuid_write_simple(self.into(), out, at);
-        w.fits.then(|| w.next)
+        w.fits.then_some(w.next)
     }
 
     /// The UUID of a number, its highest byte first.
