@@ -2,6 +2,7 @@
 // the next state.
 mod advance;
 mod pair;
+pub mod tokens;
 mod value;
 
 use crate::ev::AxisOrBtn;
