@@ -13,6 +13,7 @@ pub mod FieldLaws
 pub mod WalkLaws
 pub mod SliceLaws
 pub mod ParserLaws
+pub mod TokenLaws
 pub mod ReadingLaws
 pub mod RefusalLaws
 -- what a built line reads as

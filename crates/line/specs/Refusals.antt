@@ -9,6 +9,8 @@ use Rattle.line.specs.declared.parser.ErrorKind.the-variants as Ek
 use Rattle.line.specs.declared.parser.Error.{Error}
 use Rattle.line.specs.declared.parser.Answer.{Answer}
 use Rattle.line.specs.declared.parser.Answer.the-variants as An
+use Rattle.line.specs.declared.parser.tokens.LastRefusal.{LastRefusal}
+use Rattle.line.specs.declared.parser.tokens.LastRefusal.the-variants as Lr
 use Rattle.line.specs.declared.reading.ParseSdlMappingError.{ParseSdlMappingError}
 use Rattle.line.specs.declared.reading.ParseSdlMappingError.the-variants as Pe
 use Rattle.line.specs.declared.reading.SdlAnswer.{SdlAnswer}
@@ -60,6 +62,10 @@ abbrev pub answerOutcome : Answer → Outcome
 answerOutcome (An.Found t) = Passes
 answerOutcome (An.Refused e) = Refuses (errorRefusal e)
 answerOutcome An.End = Passes
+
+abbrev pub lastOutcome : LastRefusal → Outcome
+lastOutcome (Lr.Is e) = Refuses (errorRefusal e)
+lastOutcome Lr.Nothing = Passes
 
 -- ---- a put's: 11, whose place is the pair's, known to the reading
 abbrev pub putOutcome : PutResult → Outcome
