@@ -27,11 +27,11 @@ use denote.Enum.Laws as EL
 use denote.Struct.Declared.{Declared}
 use denote.Struct.Laws as LL
 use Rattle.line.specs.declared.parser.Parser.{Parser}
-use Rattle.line.specs.declared.parser.Moved.{Moved}
+use Rattle.line.specs.declared.parser.Stepped.{Stepped}
 use Rattle.line.proofs.parser.Parser as Pr
 use Rattle.line.proofs.parser.Parser.Laws as T′
-use Rattle.line.proofs.parser.Moved as S
-use Rattle.line.proofs.parser.Moved.Laws as S′
+use Rattle.line.proofs.parser.Stepped as S
+use Rattle.line.proofs.parser.Stepped.Laws as S′
 use Rattle.line.proofs.parser.State as St
 use Rattle.line.proofs.parser.State.Laws as St′
 
@@ -45,7 +45,7 @@ D κ′ = Pr.the-type (α κ′)
 abbrev pub L : (κ′ : Lft) → LL.Laws (D κ′)
 L κ′ = T′.the-laws (α κ′)
 
--- the machine values: the struct's, data's, the position's, the state's, and that of where a step leads
+-- the machine values: the struct's, data's, the position's, the state's, and a step's
 abbrev pub mach : Lft → Parser → Val
 mach κ′ p = LL.val (D κ′) (L κ′) p
 
@@ -58,34 +58,34 @@ at-pos h = vint w64 (h .pos)
 abbrev pub st : Parser → Val
 st h = EL.val St.the-type St′.the-laws (h .state)
 
-abbrev pub reached : Moved → Val
+abbrev pub reached : Stepped → Val
 reached r = LL.val S.the-type S′.the-laws r
 
 -- the struct after the step r, and with r's place and its own state
-abbrev pub h′ : Parser → Moved → Parser
+abbrev pub h′ : Parser → Stepped → Parser
 h′ h r = record { «data» = h .«data»; pos = r .pos; state = r .state }
 
-abbrev pub placed : Parser → Moved → Parser
+abbrev pub placed : Parser → Stepped → Parser
 placed h r = record { «data» = h .«data»; pos = r .pos; state = h .state }
 
 -- a value of a local's type
 abbrev pub Fits : Ty → Val → Type 0
 Fits τ w = T (hasTy τ w) × WT w
 
--- the statements: local n is loaded from field f of the struct that _1 refers to; field f is stored from field g of _5
+-- the statements: local n is loaded from field f of the struct that _1 refers to; field f is stored from field f of _5
 abbrev loading : ℕ → ℕ → Body → Body
 loading n f k = seq (assign (place n []) (rvOpd (copy (place 1 (deref (T′.mir erased) ∷ field f ∷ []))))) k
 
-abbrev storing : ℕ → ℕ → Body → Body
-storing f g k = seq (assign (place 1 (deref (T′.mir erased) ∷ field f ∷ [])) (rvOpd (copy (place 5 (field g ∷ []))))) k
+abbrev storing : ℕ → Body → Body
+storing f k = seq (assign (place 1 (deref (T′.mir erased) ∷ field f ∷ [])) (rvOpd (copy (place 5 (field f ∷ []))))) k
 
 -- what is known of a step's fields
-module _ (r : Moved) (u : Val) (is : Is S.the-row r (u ∷ [])) where
+module _ (r : Stepped) (u : Val) (is : Is S.the-row r (u ∷ [])) where
   pub pos-is : Is usize (r .pos) (vint w64 (r .pos) ∷ [])
-  pos-is = LL.owed S.the-type S′.the-laws r (u ∷ []) is .0
+  pos-is = LL.owed S.the-type S′.the-laws r (u ∷ []) is .1 .0
 
   pub state-is : Is St.the-row (r .state) (EL.vals St.the-type St′.the-laws (r .state))
-  state-is = LL.owed S.the-type S′.the-laws r (u ∷ []) is .1 .0
+  state-is = LL.owed S.the-type S′.the-laws r (u ∷ []) is .1 .1 .0
 
 module _ {M : Type 1} (𝓤 : URA M) where
   -- the struct's cell
@@ -149,8 +149,8 @@ module _ {M : Type 1} (𝓤 : URA M) (H : Heap 𝓤) (A : Atoms 𝓤) (W : Given
         (look-in ! 0 (sub ! 2 refl (whole !))))) (from ! (stop !)) (init ! 9 refl fits₄) $
         k
 
-  -- what `moved_to` gave is stored in the struct
-  module _ (Q : Val → SProp 𝓤) (τ₀ τ₁ τ₂ τ₃ τ₄ : Ty) (l₀ l₁ l₂ l₃ l₄ l₅ : ℕ) (r : Moved) (u : Val)
+  -- what `step` gave is stored in the struct
+  module _ (Q : Val → SProp 𝓤) (τ₀ τ₁ τ₂ τ₃ τ₄ : Ty) (l₀ l₁ l₂ l₃ l₄ l₅ : ℕ) (r : Stepped) (u : Val)
       (is : Is S.the-row r (u ∷ [])) where
     abbrev E′ : Env 𝓤 H
     E′ = (τ₀, l₀) ∷ (τ₁, l₁) ∷ (τ₂, l₂) ∷ (τ₃, l₃) ∷ (τ₄, l₄) ∷ (S′.mir, l₅) ∷ []
@@ -163,9 +163,9 @@ module _ {M : Type 1} (𝓤 : URA M) (H : Heap 𝓤) (A : Atoms 𝓤) (W : Given
         → Sq W (j₀ ∷ j₁ ∷ j₂ ∷ cell 𝓤 κ′ b o h ∷ j₄ ∷ j₅ ∷ j₆ ∷ j₇ ∷ ‵ (fat fullShare S′.mir l₅ 0 (reached r)) ∷ j₉ ∷
         j₁₀ ∷
         j₁₁ ∷ j₁₂ ∷ j₁₃ ∷ j₁₄ ∷ j₁₅ ∷ ‵ (fat fullShare τ₁ l₁ 0 (vptr b o)) ∷ Γ)
-        (runs C Λ E′ (storing 1 0 rest) (atRet E′ Q))
+        (runs C Λ E′ (storing 1 rest) (atRet E′ Q))
     stores-pos k =
-        assigns ! (of-opd ! (load ! (from ! (fld ! refl (stop !))) (look-in ! 8 (sub ! 0 refl (whole !)))))
+        assigns ! (of-opd ! (load ! (from ! (fld ! refl (stop !))) (look-in ! 8 (sub ! 1 refl (whole !)))))
         (from ! (hop ! (look ! 16 refl) (fld ! refl (stop !))))
         (store-in ! 3 (sub ! 1 refl (whole !)) (tt, record { fits = pos-is r u is .1 })) $
         k
@@ -178,9 +178,9 @@ module _ {M : Type 1} (𝓤 : URA M) (H : Heap 𝓤) (A : Atoms 𝓤) (W : Given
         → Sq W (j₀ ∷ j₁ ∷ j₂ ∷ cell 𝓤 κ′ b o (placed h r) ∷ j₄ ∷ j₅ ∷ j₆ ∷ j₇ ∷ ‵
         (fat fullShare S′.mir l₅ 0 (reached r)) ∷ j₉
         ∷ j₁₀ ∷ j₁₁ ∷ j₁₂ ∷ j₁₃ ∷ j₁₄ ∷ j₁₅ ∷ ‵ (fat fullShare τ₁ l₁ 0 (vptr b o)) ∷ Γ)
-        (runs C Λ E′ (storing 2 1 rest) (atRet E′ Q))
+        (runs C Λ E′ (storing 2 rest) (atRet E′ Q))
     stores-state k =
-        assigns ! (of-opd ! (load ! (from ! (fld ! refl (stop !))) (look-in ! 8 (sub ! 1 refl (whole !)))))
+        assigns ! (of-opd ! (load ! (from ! (fld ! refl (stop !))) (look-in ! 8 (sub ! 2 refl (whole !)))))
         (from ! (hop ! (look ! 16 refl) (fld ! refl (stop !))))
         (store-in ! 3 (sub ! 2 refl (whole !))
         (EL.lawful St.the-type St′.the-laws 𝓤 H A W tt .typed (r .state) _ (state-is r u is) .0)) $

@@ -8,7 +8,6 @@ use denote.Ref.{RefT, now}
 use Rattle.text.specs.Bytes.{pick}
 use Rattle.line.specs.declared.parser.Answer.{Answer}
 use Rattle.line.specs.declared.parser.Answer.the-variants as An
-use Rattle.line.specs.declared.parser.Moved.{Moved}
 use Rattle.line.specs.declared.parser.Parser.{Parser}
 use Rattle.line.specs.declared.parser.State.{State}
 use Rattle.line.specs.declared.parser.Stepped.{Stepped}

@@ -1,12 +1,10 @@
 // The walker over one mapping line: a step from a position and a state to a token or a refusal, the next position and
 // the next state.
-mod advance;
 mod pair;
 pub mod tokens;
 mod value;
 
 use crate::ev::AxisOrBtn;
-use crate::parser::advance::moved_to;
 use crate::parser::pair::read_pair;
 use text::bytes::find_byte;
 use text::bytes::same_bytes;
@@ -103,12 +101,6 @@ pub struct Stepped {
     pub state: State,
 }
 
-// Where a step leads.
-pub struct Moved {
-    pub pos: usize,
-    pub state: State,
-}
-
 // The walker: the line, a position and a state.
 pub struct Parser<'a> {
     pub data: &'a [u8],
@@ -129,17 +121,17 @@ impl<'a> Parser<'a> {
         }
     }
 
-    // One step: where it leads is stored before its answer is made, so that the answer is the result at once.
+    // One step.
     pub fn next_token(&mut self) -> Answer
         ensures { λ r. ⌜ (r ≡ stepFrom (now (self .entry)) .answer) × (now (self .exit) ≡ moved (now (self .entry))) ⌝ }
     {
         let data = self.data;
         let pos = self.pos;
         let state = self.state;
-        let to = moved_to(data, pos, state);
-        self.pos = to.pos;
-        self.state = to.state;
-        answer_at(data, pos, state)
+        let next = step(data, pos, state);
+        self.pos = next.pos;
+        self.state = next.state;
+        next.answer
     }
 }
 
@@ -149,14 +141,6 @@ pub fn first_token(line: &[u8]) -> Answer
 {
     let mut p = Parser::new(line);
     p.next_token()
-}
-
-// What a step answers.
-fn answer_at(line: &[u8], pos: usize, state: State) -> Answer
-    ensures { λ r. ⌜ r ≡ stepOf (now (line .entry)) pos state .answer ⌝ }
-{
-    let next = step(line, pos, state);
-    next.answer
 }
 
 // The state of a walker that is made over a line.

@@ -9,6 +9,7 @@ use crate::codes::first;
 use crate::line_cases::map_text;
 use crate::line_cases::said;
 use crate::line_cases::spelled;
+use crate::line_cases::unhexed;
 use crate::slot_cases::refusal;
 use crate::slot_cases::slots_of;
 use crate::written::Text;
@@ -40,12 +41,6 @@ fn first_byte(s: &[u8]) -> u8 {
     let mut space = [0u8; 1];
     unhex(s, &mut space);
     space[0]
-}
-
-fn unhexed(s: &[u8]) -> Text {
-    let mut space = [0u8; 512];
-    let n = unhex(s, &mut space);
-    Text::new().text(&space[..n])
 }
 
 // The name that a case spells: as it stands; `*2048 6E` is 2048 times the byte 6E; `\2CFF` is those bytes.

@@ -1,4 +1,4 @@
-// Cases of the walker and of reading. In a case the first field `U` stands for 32 zeros.
+// Cases of the walker and of reading. In a case the first field `U` stands for 32 zeros, and `\41C3` is those bytes.
 // A token is written `U<low half>`, `N<start>+<len>`, `P<start>+<len>`, or `A<axis>`, `B<button>`, `H<hat>.<direction>`
 // with `><element>`, the input and the output range, `F`, `U` or `L`, and `~` where inverted; a refusal
 // `!<number>@<place>`; the end `E`; a map `<name start>+<name len>;<hat flags>;<code>=<element>,..`.
@@ -17,6 +17,12 @@ use line::parser::Error;
 use line::parser::ErrorKind;
 use line::parser::Ranges;
 use line::parser::Token;
+use line::parser::first_token;
+use line::parser::start_state;
+use line::parser::tokens::LastRefusal;
+use line::parser::tokens::Tokens;
+use line::parser::tokens::count_tokens;
+use line::parser::tokens::token_at;
 use line::reading::ParseSdlMappingError;
 use line::reading::SdlAnswer;
 use line::reading::SdlMapping;
@@ -29,8 +35,21 @@ const BUTTONS: [u32; 2] = [0x10130, 0x10131];
 
 const AXES: [u32; 1] = [0x30000];
 
+// The bytes that hexadecimal digits spell.
+pub fn unhexed(s: &[u8]) -> Text {
+    let mut space = [0u8; 512];
+    let n = unhex(s, &mut space);
+    Text::new().text(&space[..n])
+}
+
 // The line that a case spells.
 pub fn spelled(s: &[u8]) -> Text {
+    if s.len() == 0 {
+        return Text::new();
+    }
+    if s[0] == b'\\' {
+        return unhexed(&s[1..]);
+    }
     if same_bytes(before(s, b','), b"U") {
         let nil = Text::new().text(&NIL);
         if s.len() == 1 {
@@ -120,14 +139,14 @@ fn answered(out: Text, answer: Answer) -> Text {
     }
 }
 
-// So many steps, with `/` after each.
-fn walk(line: &[u8], steps: usize) -> Text {
+// So many calls of the walker, with `/` after each.
+fn walk(line: &[u8], calls: usize) -> Text {
     let mut out = Text::new();
     let mut pos: usize = 0;
-    let mut state = line::parser::start_state(line);
-    let mut left = steps;
+    let mut state = start_state(line);
+    let mut left = calls;
     while 0 < left {
-        let next = line::parser::step(line, pos, state);
+        let next = token_at(line, pos, state);
         let answer = next.answer;
         out = answered(out, answer).byte(b'/');
         pos = next.pos;
@@ -150,19 +169,33 @@ fn slashes(s: &[u8]) -> usize {
     n
 }
 
-// `walk ANSWERS TEXT`: a step for each slash.
+// `walk ANSWERS TEXT`: a call for each slash; the first also of a walker that is made anew.
 pub fn walk_case(args: &[u8]) -> bool {
     let line = spelled(rest(args));
     let bytes = line.bytes;
     let len = line.len;
-    walk(written(&bytes, len), slashes(word(args))).is(word(args))
+    let first = first_token(written(&bytes, len));
+    if answered(Text::new(), first).is(before(word(args), b'/')) {
+        return walk(written(&bytes, len), slashes(word(args))).is(word(args));
+    }
+    false
 }
 
-// `walk-hex ANSWERS BYTES`
-pub fn walk_hex_case(args: &[u8]) -> bool {
-    let mut space = [0u8; 512];
-    let n = unhex(rest(args), &mut space);
-    walk(&space[..n], slashes(word(args))).is(word(args))
+fn tallied(tokens: Tokens) -> Text {
+    let last = tokens.last;
+    let out = Text::new().number(tokens.count);
+    match last {
+        LastRefusal::Is(e) => refused(out, e),
+        LastRefusal::Nothing => out,
+    }
+}
+
+// `count ANSWER TEXT`: the number of tokens, and the last refusal.
+pub fn count_case(args: &[u8]) -> bool {
+    let line = spelled(rest(args));
+    let bytes = line.bytes;
+    let len = line.len;
+    tallied(count_tokens(written(&bytes, len))).is(word(args))
 }
 
 fn entries(out: Text, map: Mapping) -> Text {
@@ -214,11 +247,4 @@ pub fn read_case(args: &[u8]) -> bool {
     let bytes = line.bytes;
     let len = line.len;
     said(parse_sdl_mapping(written(&bytes, len), &BUTTONS, &AXES)).is(word(args))
-}
-
-// `read-hex ANSWER BYTES`
-pub fn read_hex_case(args: &[u8]) -> bool {
-    let mut space = [0u8; 512];
-    let n = unhex(rest(args), &mut space);
-    said(parse_sdl_mapping(&space[..n], &BUTTONS, &AXES)).is(word(args))
 }

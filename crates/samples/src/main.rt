@@ -107,20 +107,14 @@ fn run_case(line: &[u8]) -> bool {
     if same_bytes(kind, b"walk") {
         return line_cases::walk_case(args);
     }
-    if same_bytes(kind, b"walk-hex") {
-        return line_cases::walk_hex_case(args);
+    if same_bytes(kind, b"count") {
+        return line_cases::count_case(args);
     }
     if same_bytes(kind, b"read") {
         return line_cases::read_case(args);
     }
-    if same_bytes(kind, b"read-hex") {
-        return line_cases::read_hex_case(args);
-    }
     if same_bytes(kind, b"many") {
         return many_cases::many_case(args);
-    }
-    if same_bytes(kind, b"many-hex") {
-        return many_cases::many_hex_case(args);
     }
     run_map_case(kind, args)
 }

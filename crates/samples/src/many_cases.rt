@@ -1,7 +1,6 @@
 // Cases of reading with long lines and long lists.
 use crate::cases::number;
 use crate::cases::rest;
-use crate::cases::unhex;
 use crate::cases::word;
 use crate::codes::first;
 use crate::codes::numbered;
@@ -49,17 +48,6 @@ pub fn many_case(args: &[u8]) -> bool {
     let more = rest(rest(lists));
     let tail = rest(more);
     let line = line_of(word(tail), number(word(more)), rest(tail));
-    let list = numbered();
-    let reading = read(line, &list, number(word(lists)), number(word(rest(lists))));
-    counted(reading).is(word(args))
-}
-
-// `many-hex ANSWER BUTTONS AXES BYTES`
-pub fn many_hex_case(args: &[u8]) -> bool {
-    let mut space = [0u8; 512];
-    let lists = rest(args);
-    let n = unhex(rest(rest(lists)), &mut space);
-    let line = Text::new().text(&space[..n]);
     let list = numbered();
     let reading = read(line, &list, number(word(lists)), number(word(rest(lists))));
     counted(reading).is(word(args))

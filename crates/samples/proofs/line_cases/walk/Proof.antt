@@ -1,4 +1,4 @@
--- Each turn is one step.
+-- Each turn is one call.
 -- Assumes nothing.
 use borrow.Author.Needs.{needs}
 use native.Mathlib.Omega.{arith}
@@ -6,10 +6,10 @@ use Rattle.samples.proofs.line_cases.walk.Statement.{statement}
 use Rattle.samples.proofs.line_cases.walk.Tie as tie
 
 abbrev Inv-loop : tie.InvT-loop
-Inv-loop line steps out₀ pos₀ state₀ left₀ out pos state left = Unit {0}
+Inv-loop line calls out₀ pos₀ state₀ left₀ out pos state left = Unit {0}
 
 abbrev μ-loop : tie.MeasureT-loop
-μ-loop line steps out₀ pos₀ state₀ left₀ out pos state left = left
+μ-loop line calls out₀ pos₀ state₀ left₀ out pos state left = left
 
 new-requires : tie.Need-new-requires Inv-loop μ-loop
 new-requires c κs = search needs
@@ -20,8 +20,8 @@ start-state-requires c κs = search needs
 loop-holds : tie.Need-loop-holds Inv-loop μ-loop
 loop-holds c = tt
 
-step-requires : tie.Need-step-requires Inv-loop μ-loop
-step-requires c κs = search needs
+token-at-requires : tie.Need-token-at-requires Inv-loop μ-loop
+token-at-requires c κs = search needs
 
 answered-requires : tie.Need-answered-requires Inv-loop μ-loop
 answered-requires c κs = search needs
@@ -50,7 +50,7 @@ walk-spec =
     new-requires
     start-state-requires
     loop-holds
-    step-requires
+    token-at-requires
     answered-requires
     byte-requires
     sub-left

@@ -1,11 +1,11 @@
--- `parser::Parser::next_token` meets its contract: a walk of its MIR, by hand. The borrow is opened, `moved_to` is
--- called on the fields, the position and the state are stored beside the slice, `answer_at` is called, and the borrow
+-- `parser::Parser::next_token` meets its contract: a walk of its MIR, by hand. The borrow is opened, `step` is called on
+-- the fields, the position and the state are stored beside the slice, the answer is taken out of the step, and the borrow
 -- is closed at the struct that `moved` says.
 -- The struct is Copy: what it owns is had twice, one copy is what a callee asks, and the other, with the facts of the
 -- new position and state, is what the moved struct owns.
 -- The machine value of an enum is `EL.val`, which does not compute at a value that is not known; so the struct's is
 -- `LL.val` and not `lowered`. One law a part of the walk, each for any types of the locals that it does not look into:
--- written out with the types, the whole walk is over the checker's limit for one declaration.
+-- so each is within the checker's limit for one declaration.
 -- Assumes nothing.
 use mathlib.Core.Path.{_≡_, refl, ap}
 use Prim.Native.Nat.{ℕ}
@@ -28,7 +28,8 @@ use contract.Running.{givenOf, tables, tablesOf}
 use types.Kit.{Given, Item, Sq, allocs, params′, runs, atRet, ‵, raw, _⊛_, given, ⋆, some, later, _$_, _∵_, !, qed}
 use types.Kit.{by, move, drop, use1, use2, split, join, learn, pick, rewrite, fsplit, fsplit3, fjoin, fjoin3}
 use types.Kit.{feqI, suffices, frame, await, done}
-use types.Run.{look, init, stop, from, load, and-then, no-more, land}
+use types.Part.{whole, sub, look-in}
+use types.Run.{look, init, stop, fld, from, load, of-opd, and-then, no-more, assigns, land}
 use types.Run.{enter, alloc1, alloc0, params1, pass1, pass0}
 use types.SemTy.{Body}
 use sound.WpLaws.{FmC, fmOf, WpFn-mono}
@@ -54,28 +55,23 @@ use denote.Triple.Table.{entered, cited}
 use denote.Triple.Walked.{says, Stays, stay-ref, walkOf, goes-ref, Walks, ends-at, walked, walk-meets}
 use denote.Triple.Clauses.{ensured, lasts}
 use Rattle.line.specs.Walker.{stepOf}
-use Rattle.line.specs.Walks.{leads}
 use Rattle.line.specs.declared.parser.Parser.{Parser}
-use Rattle.line.specs.declared.parser.Moved.{Moved}
+use Rattle.line.specs.declared.parser.Stepped.{Stepped}
 use Rattle.line.specs.declared.parser.Answer.{Answer}
 use Rattle.line.proofs.ParserLaws.{α, D, L, mach, bytes, at-pos, st, h′, placed, cell, reached, Fits}
 use Rattle.line.proofs.ParserLaws.{frameOf, heldIn, pos-is, state-is, leaves, loads, stores-pos, stores-state}
 use Rattle.line.proofs.parser.Parser as Pr
 use Rattle.line.proofs.parser.Parser.Laws as T′
-use Rattle.line.proofs.parser.Moved as S
-use Rattle.line.proofs.parser.Moved.Laws as S′
+use Rattle.line.proofs.parser.Stepped as S
+use Rattle.line.proofs.parser.Stepped.Laws as S′
 use Rattle.line.proofs.parser.State as St
 use Rattle.line.proofs.parser.State.Laws as St′
 use Rattle.line.proofs.parser.Answer as An
 use Rattle.line.proofs.parser.Answer.Laws as An′
-use Rattle.line.proofs.parser.advance.moved_to as step
-use Rattle.line.proofs.parser.advance.moved_to.Symbol as step-def
-use Rattle.line.proofs.parser.advance.moved_to.Symbol.{name as #line·moved-to}
-use Rattle.line.proofs.parser.advance.moved_to.Met as step-thm
-use Rattle.line.proofs.parser.answer_at as answer-at
-use Rattle.line.proofs.parser.answer_at.Symbol as answer-def
-use Rattle.line.proofs.parser.answer_at.Symbol.{name as #line·answer-at}
-use Rattle.line.proofs.parser.answer_at.Met as answer-thm
+use Rattle.line.proofs.parser.step as step
+use Rattle.line.proofs.parser.step.Symbol as step-def
+use Rattle.line.proofs.parser.step.Symbol.{name as #line·step}
+use Rattle.line.proofs.parser.step.Met as step-thm
 use Rattle.line.proofs.parser.Parser.next_token.Key.{name as #line·next-token}
 use Rattle.line.proofs.parser.Parser.next_token as next-token
 use Rattle.line.proofs.parser.Parser.next_token.Statement as stated
@@ -98,9 +94,6 @@ module _ {M : Type 1} (𝓤 : URA M) (H : Heap 𝓤) (A : Atoms 𝓤) (at-mem : 
   abbrev StepAt : Contract 𝓤
   StepAt = tripleOf 𝓤 H A step.signature (step.spec 𝓤 H A at-mem run)
 
-  abbrev AnswerAt : Contract 𝓤
-  AnswerAt = tripleOf 𝓤 H A answer-at.signature (answer-at.spec 𝓤 H A at-mem run)
-
 module _ {M : Type 1} (𝓤 : URA M) (H : Heap 𝓤) (A : Atoms 𝓤) (W : Given 𝓤 H A) (at-mem : Memory → SProp 𝓤)
     (run : Routine → Fun 𝓤) (κ κ′ : Lft) (q q′ : Share)
     (bounds : AllOutlive 2 (next-token.signature .outlives) (κ, (κ′, tt))) (b o : ℕ) (γ : GName) (h : Parser) where
@@ -110,14 +103,15 @@ module _ {M : Type 1} (𝓤 : URA M) (H : Heap 𝓤) (A : Atoms 𝓤) (W : Given
   abbrev at : List Val × Unit {0}
   at = (vptr b o ∷ [], tt)
 
-  abbrev found : Moved
-  found = leads (stepOf (now (h .«data»)) (h .pos) (h .state))
-
-  abbrev told : Answer
-  told = stepOf (now (h .«data»)) (h .pos) (h .state) .answer
+  abbrev found : Stepped
+  found = stepOf (now (h .«data»)) (h .pos) (h .state)
 
   abbrev token : Item 𝓤
   token = ‵ (flft κ′ q′) ⊛ ‵ ftrue
+
+  -- the machine value of a step's answer
+  abbrev told : Stepped → Val
+  told r = EL.val An.the-type An′.the-laws (r .answer)
 
   -- an answer is a value of the result's local
   abbrev Answers : Ty → Type 0
@@ -146,16 +140,6 @@ module _ {M : Type 1} (𝓤 : URA M) (H : Heap 𝓤) (A : Atoms 𝓤) (W : Given
       ((‵ (flft κ′ q′) ⊛ ‵ ftrue) ∷ ‵ (owns (ShrSlice (named 0) κ′ u8 ∷ usize ∷ St.the-row ∷ [])
       (h .«data», (h .pos, (h .state, tt))) passed) ∷ []) ∵ join ! $ frame ! $ done !
 
-  -- a call of `answer_at`, which takes what `moved_to` takes
-  abbrev to₂ : AnswerAt 𝓤 H A at-mem run .Ghost
-  to₂ = (((κ′, tt), (q′, tt), tt, (h .«data», (h .pos, (h .state, tt))), passed), tt)
-
-  asked₂ : ent 𝓤 (onEntry 𝓤 H A answer-at.signature (κ′, tt) (q′, tt) (h .«data», (h .pos, (h .state, tt))) passed)
-      (AnswerAt 𝓤 H A at-mem run .pre to₂)
-  asked₂ = qed W
-      ((‵ (flft κ′ q′) ⊛ ‵ ftrue) ∷ ‵ (owns (ShrSlice (named 0) κ′ u8 ∷ usize ∷ St.the-row ∷ [])
-      (h .«data», (h .pos, (h .state, tt))) passed) ∷ []) ∵ join ! $ frame ! $ done !
-
   -- what the struct owns gives what a callee asks of its fields, and is kept
   apart : (P : SProp 𝓤)
       → ent 𝓤 (onEntry 𝓤 H A step.signature (κ′, tt) (q′, tt) (h .«data», (h .pos, (h .state, tt))) passed) P
@@ -171,28 +155,21 @@ module _ {M : Type 1} (𝓤 : URA M) (H : Heap 𝓤) (A : Atoms 𝓤) (W : Given
       move ! (2 ∷ 0 ∷ []) $ use2 W (raw P) asks $ frame ! $ done !)
 
   -- of the callee's `ensured`, the clause alone: it has no `&mut`, so what is said of last values is dropped
-  said : (r : Moved)
+  said : (r : Stepped)
       → ent 𝓤 (ensured 𝓤 H A step.ended (step.clauses 𝓤 H A at-mem run) (κ′, tt) (h .«data», (h .pos, (h .state, tt)))
       tt r) (fact 𝓤 (r ≡ found))
   said r = exE 𝓤 _
       (λ ws. snd∗ 𝓤 (sem 𝓤 H A (lasts step.ended (κ′, tt) (h .«data», (h .pos, (h .state, tt))) ws))
       (fact 𝓤 (r ≡ found)))
 
-  said₂ : (a : Answer)
-      → ent 𝓤 (ensured 𝓤 H A answer-at.ended (answer-at.clauses 𝓤 H A at-mem run) (κ′, tt)
-      (h .«data», (h .pos, (h .state, tt))) tt a) (fact 𝓤 (a ≡ told))
-  said₂ a =
-      exE 𝓤 _ (λ ws. snd∗ 𝓤 (sem 𝓤 H A (lasts answer-at.ended (κ′, tt) (h .«data», (h .pos, (h .state, tt))) ws))
-      (fact 𝓤 (a ≡ told)))
-
   -- what the walk has at its end gives Q
   abbrev Ends : (Val → SProp 𝓤) → Type 1
-  Ends Q = (r : Moved) (u : Val) → Is S.the-row r (u ∷ []) → r ≡ found → (a : Answer) (w : Val) → a ≡ told
+  Ends Q = (r : Stepped) (u : Val) → Is S.the-row r (u ∷ []) → r ≡ found
       → ent 𝓤 (⋆ 𝓤 H A (‵ (fobs γ (B κ′ .coded .code (h′ h r))) ∷ ‵ (fbor κ (Body (mem (B κ′)) b o γ)) ∷ ‵ (flft κ q) ∷
-      ‵ (An.the-row .own a (w ∷ [])) ∷ (‵ (flft κ′ q′) ⊛ ‵ ftrue) ∷ [])) (Q w)
+      ‵ (An.the-row .own (r .answer) (told r ∷ [])) ∷ (‵ (flft κ′ q′) ⊛ ‵ ftrue) ∷ [])) (Q (told r))
 
   -- what is known of a step's fields
-  module _ (r : Moved) (u : Val) (is : Is S.the-row r (u ∷ [])) where
+  module _ (r : Stepped) (u : Val) (is : Is S.the-row r (u ∷ [])) where
     -- what data owns is kept, and the facts of pos and of state are made anew
     again : ent 𝓤 (sem 𝓤 H A (Own h)) (sem 𝓤 H A (Own (h′ h r)))
     again =
@@ -206,19 +183,19 @@ module _ {M : Type 1} (𝓤 : URA M) (H : Heap 𝓤) (A : Atoms 𝓤) (W : Given
         by ! (own-put 𝓤 H A W (D κ′) (L κ′) 2 (h .«data», (r .pos, (h .state, tt))) (r .state) (mach κ′ (placed h r)))
 
   exits : Ends Post
-  exits r u is e a w e₂ =
+  exits r u is e =
       qed W (‵ (fobs γ (B κ′ .coded .code (h′ h r))) ∷ ‵ (fbor κ (Body (mem (B κ′)) b o γ)) ∷ ‵ (flft κ q) ∷ ‵
-      (An.the-row .own a (w ∷ [])) ∷ (‵ (flft κ′ q′) ⊛ ‵ ftrue) ∷ []) ∵
+      (An.the-row .own (r .answer) (told r ∷ [])) ∷ (‵ (flft κ′ q′) ⊛ ‵ ftrue) ∷ []) ∵
       suffices ! _
       (ends-at 𝓤 H A next-token.ended stayed (next-token.clauses 𝓤 H A at-mem run) W
-      (((κ, (κ′, tt)), (q, (q′, tt)), bounds, x, at), tt) w a (h′ h r, tt) (tt, tt)) $ says ! (e₂, λ i. h′ h (e i)) $
+      (((κ, (κ′, tt)), (q, (q′, tt)), bounds, x, at), tt) (told r) (r .answer) (h′ h r, tt) (tt, tt)) $
+      says ! (λ i. e i .answer, λ i. h′ h (e i)) $
       move ! (2 ∷ 4 ∷ []) $ join ! $
       frame ! $ feqI ! (List Val) (vptr b o ∷ []) (vptr b o ∷ []) refl $ fjoin3 ! $ nothing ! $ move ! (1 ∷ 0 ∷ []) $
       fjoin ! $ done !
 
   module _ (C : Calls 𝓤 H) (Λ : Loops 𝓤 H) (fm : FmC 𝓤 H (W .laws) C)
-      (known : Triple 𝓤 (C #line·moved-to) (StepAt 𝓤 H A at-mem run))
-      (known₂ : Triple 𝓤 (C #line·answer-at) (AnswerAt 𝓤 H A at-mem run)) where
+      (known : Triple 𝓤 (C #line·step) (StepAt 𝓤 H A at-mem run)) where
     -- the frame: six locals of any types, the result's last, and what else the walk has, which stays as it is
     module _ (Q : Val → SProp 𝓤) (τ₀ τ₁ τ₂ τ₃ τ₄ τ₅ : Ty) (l₀ l₁ l₂ l₃ l₄ l₅ : ℕ) where
       abbrev E : Env 𝓤 H
@@ -227,33 +204,9 @@ module _ {M : Type 1} (𝓤 : URA M) (H : Heap 𝓤) (A : Atoms 𝓤) (W : Given
       abbrev Held : Item 𝓤 → Val → Val → Val → Val → Val → List (Item 𝓤)
       Held = heldIn 𝓤 τ₀ τ₁ τ₂ τ₃ τ₄ τ₅ l₀ l₁ l₂ l₃ l₄ l₅
 
-      -- the call of `answer_at`: its answer lands in the result
-      tells : {i₂ i₃ i₄ i₅ i₆ : Item 𝓤} {v₁ v₅ : Val} → Answers τ₀
-          → ((a : Answer) (w : Val) → a ≡ told
-          → Sq W (‵ (An.the-row .own a (w ∷ [])) ∷ token ∷ ‵ (Own h) ∷ i₂ ∷ i₃ ∷ i₄ ∷ i₅ ∷ i₆ ∷ Held
-          (‵ (fat fullShare τ₀ l₀ 0 w)) v₁ (bytes h) (at-pos h) (st h) v₅) (runs C Λ E listed.t-8 (atRet E Q)))
-          → Sq W (token ∷ ‵ (Own h) ∷ i₂ ∷ i₃ ∷ i₄ ∷ i₅ ∷ i₆ ∷ Held (‵ (froom τ₀ l₀ 0)) v₁ (bytes h) (at-pos h) (st h)
-          v₅)
-          (runs C Λ E listed.t-7 (atRet E Q))
-      tells fits k =
-          use2 W (raw (AnswerAt 𝓤 H A at-mem run .pre to₂) ⊛ ‵ (Own h)) (apart _ asked₂) $ split ! $
-          calls-at ! fm (AnswerAt 𝓤 H A at-mem run) known₂ to₂
-          (and-then ! (load ! (from ! (stop !)) (look ! 13 refl))
-          (and-then ! (load ! (from ! (stop !)) (look ! 11 refl))
-          (and-then ! (load ! (from ! (stop !)) (look ! 9 refl)) (no-more !)))) (λ w.
-          use1 W (later (some (λ (a : Answer). (token ⊛ ‵ (An.the-row .own a (w ∷ []))) ⊛ raw
-          (ensured 𝓤 H A answer-at.ended (answer-at.clauses 𝓤 H A at-mem run) (κ′, tt)
-          (h .«data», (h .pos, (h .state, tt))) tt a)))) (id⊢ 𝓤 _) $ await ! tt $ pick ! (λ a.
-          split ! $ move ! (1 ∷ []) $ use1 W (raw (fact 𝓤 (a ≡ told))) (said₂ a) $ heard ! (a ≡ told)
-          (λ e₂. split ! $ move ! (1 ∷ []) $
-          -- [the answer; 'a's token; what a Parser owns; the struct's cell; the open borrow; obs; auth; …;
-          -- _5; …; _4; …; _3; …; _2; …; _1; …; room for _0; …]
-          peeks ! An.the-row (Is An.the-row) (shows 𝓤 H A An.the-row) a (w ∷ []) (λ is₂.
-          land ! (from ! (stop !)) (init ! 18 refl (fits a w is₂)) $ k a w e₂))))
-
-      -- the call of `moved_to`
-      moves : {j₀ j₂ j₃ j₄ j₆ j : Item 𝓤} {v₁ : Val} → ((r : Moved) (u : Val) → Is S.the-row r (u ∷ []) → Fits τ₅ u)
-          → ((r : Moved) (u : Val) → Is S.the-row r (u ∷ []) → r ≡ found
+      -- the call of `step`
+      moves : {j₀ j₂ j₃ j₄ j₆ j : Item 𝓤} {v₁ : Val} → ((r : Stepped) (u : Val) → Is S.the-row r (u ∷ []) → Fits τ₅ u)
+          → ((r : Stepped) (u : Val) → Is S.the-row r (u ∷ []) → r ≡ found
           → Sq W (‵ (S.the-row .own r (u ∷ [])) ∷ token ∷ ‵ (Own h) ∷ j₀ ∷ j₂ ∷ j₃ ∷ j₄ ∷ j₆ ∷ Held j v₁ (bytes h)
           (at-pos h) (st h)
           (reached r)) (runs C Λ E listed.t-5 (atRet E Q)))
@@ -268,32 +221,46 @@ module _ {M : Type 1} (𝓤 : URA M) (H : Heap 𝓤) (A : Atoms 𝓤) (W : Given
           (and-then ! (load ! (from ! (stop !)) (look ! 13 refl))
           (and-then ! (load ! (from ! (stop !)) (look ! 11 refl))
           (and-then ! (load ! (from ! (stop !)) (look ! 9 refl)) (no-more !)))) (λ u.
-          use1 W (later (some (λ (r : Moved). (token ⊛ ‵ (S.the-row .own r (u ∷ []))) ⊛ raw
+          use1 W (later (some (λ (r : Stepped). (token ⊛ ‵ (S.the-row .own r (u ∷ []))) ⊛ raw
           (ensured 𝓤 H A step.ended (step.clauses 𝓤 H A at-mem run) (κ′, tt) (h .«data», (h .pos, (h .state, tt)))
           tt r)))) (id⊢ 𝓤 _) $ await ! tt $ pick ! (λ r.
           split ! $ move ! (1 ∷ []) $ use1 W (raw (fact 𝓤 (r ≡ found))) (said r) $ heard ! (r ≡ found)
           (λ e. split ! $ move ! (1 ∷ []) $
-          -- [where the step leads; 'a's token; what a Parser owns; the struct's cell; the open borrow; obs; auth; …;
+          -- [what the step owns; 'a's token; what a Parser owns; the struct's cell; the open borrow; obs; auth; …;
           -- _5; …; _4; …; _3; …; _2; …; _1; …; room for _0; …]
           peeks ! S.the-row (Is S.the-row) (shows 𝓤 H A S.the-row) r (u ∷ []) (λ is.
           land ! (from ! (stop !)) (init ! 8 refl (fits₅ r u is)) $ rewrite ! 8
           (λ (w : Val). ‵ (fat fullShare τ₅ l₅ 0 w)) (ap only (LL.tells S.the-type S′.the-laws r _ is)) refl $ k r
           u is e))))
 
-      -- from the second call on: the answer, the borrow is closed at the moved struct, the return
-      finishes : {g₁ g₂ : Gv} {i : Item 𝓤} {v₁ v₅ : Val} → Answers τ₀ → Ends Q
-          → (r : Moved) (u : Val) → Is S.the-row r (u ∷ []) → r ≡ found
-          → Sq W (token ∷ ‵ (Own h) ∷ cell 𝓤 κ′ b o (h′ h r) ∷ ‵ (fobor κ q (Body (mem (B κ′)) b o γ)) ∷ ‵ (fobs γ g₁)
-          ∷ ‵
-          (fauth γ g₂) ∷ i
-          ∷ Held (‵ (froom τ₀ l₀ 0)) v₁ (bytes h) (at-pos h) (st h) v₅) (runs C Λ E listed.t-7 (atRet E Q))
+    -- from the stores on: the answer is taken out of the step, the borrow is closed at the moved struct, the return
+    module _ (Q : Val → SProp 𝓤) (τ₀ τ₁ τ₂ τ₃ τ₄ : Ty) (l₀ l₁ l₂ l₃ l₄ l₅ : ℕ) where
+      abbrev E₅ : Env 𝓤 H
+      E₅ = frameOf 𝓤 H τ₀ τ₁ τ₂ τ₃ τ₄ S′.mir l₀ l₁ l₂ l₃ l₄ l₅
+
+      abbrev Held₅ : Item 𝓤 → Val → Val → Val → Val → Val → List (Item 𝓤)
+      Held₅ = heldIn 𝓤 τ₀ τ₁ τ₂ τ₃ τ₄ S′.mir l₀ l₁ l₂ l₃ l₄ l₅
+
+      finishes : {g₁ g₂ : Gv} {i : Item 𝓤} {v₁ : Val} → Answers τ₀ → Ends Q
+          → (r : Stepped) (u : Val) → Is S.the-row r (u ∷ []) → r ≡ found
+          → Sq W (‵ (S.the-row .own r (u ∷ [])) ∷ token ∷ ‵ (Own h) ∷ cell 𝓤 κ′ b o (h′ h r) ∷ ‵
+          (fobor κ q (Body (mem (B κ′)) b o γ)) ∷ ‵ (fobs γ g₁) ∷ ‵ (fauth γ g₂) ∷ i
+          ∷ Held₅ (‵ (froom τ₀ l₀ 0)) v₁ (bytes h) (at-pos h) (st h) (reached r)) (runs C Λ E₅ listed.t-7 (atRet E₅ Q))
       finishes fits ends r u is e =
-          tells fits (λ a w e₂.
+          assigns ! (of-opd ! (load ! (from ! (fld ! refl (stop !))) (look-in ! 8 (sub ! 0 refl (whole !)))))
+          (from ! (stop !)) (init ! 18 refl (fits (r .answer) (told r) (LL.owed S.the-type S′.the-laws r (u ∷ []) is .0)))
+          $
+          use1 W (given (u ∷ [] ≡ reached r ∷ [])
+          (‵ (all-own (S.the-type .parts) S′.the-laws (r .answer, (r .pos, (r .state, tt))))))
+          (own-open 𝓤 H A W S.the-type S′.the-laws (r .answer, (r .pos, (r .state, tt))) u) $ learn ! (λ _.
+          fsplit ! $ move ! (1 ∷ []) $ drop ! $
+          -- [what the answer owns; 'a's token; what a Parser owns; the struct's cell; the open borrow; obs; auth; …;
+          -- _5; …; _4; …; _3; …; _2; …; _1; …; _0; …]
           move ! (2 ∷ []) $ use1 W (‵ (Own (h′ h r))) (again r u is) $ move ! (3 ∷ []) $ use1 W
           (‵ (cellAt fullShare (B κ′ .mir) (mach κ′ (h′ h r) ∷ []) b o))
           (W .laws .at-raw fullShare (T′.mir erased) b o (mach κ′ (h′ h r))) $
           move ! (0 ∷ 1 ∷ 4 ∷ 5 ∷ 6 ∷ []) $ closes ! tt (B κ′) (h′ h r) (mach κ′ (h′ h r) ∷ []) b o $
-          leaves 𝓤 H A W C Λ κ′ b o h Q τ₀ τ₁ τ₂ τ₃ τ₄ τ₅ l₀ l₁ l₂ l₃ l₄ l₅ (ends r u is e a w e₂))
+          leaves 𝓤 H A W C Λ κ′ b o h Q τ₀ τ₁ τ₂ τ₃ τ₄ S′.mir l₀ l₁ l₂ l₃ l₄ l₅ (ends r u is e))
 
     -- the walk, for any type τ of the result's local and any Q to be shown: so neither is written out at each step
     module _ (τ : Ty) (fits : Answers τ) (Q : Val → SProp 𝓤) (ends : Ends Q) where
@@ -325,7 +292,7 @@ module _ {M : Type 1} (𝓤 : URA M) (H : Heap 𝓤) (A : Atoms 𝓤) (W : Given
           (λ r u is e.
           stores-pos 𝓤 H A W C Λ κ′ b o h Q _ _ _ _ _ l₀ l₁ l₂ l₃ l₄ l₅ r u is
           (stores-state 𝓤 H A W C Λ κ′ b o h Q _ _ _ _ _ l₀ l₁ l₂ l₃ l₄ l₅ r u is (
-          drop ! $ finishes Q _ _ _ _ _ _ l₀ l₁ l₂ l₃ l₄ l₅ fits ends r u is e))))))))))))
+          finishes Q _ _ _ _ _ l₀ l₁ l₂ l₃ l₄ l₅ fits ends r u is e))))))))))))
 
     walk : ent 𝓤 (onEntry 𝓤 H A next-token.signature (κ, (κ′, tt)) (q, (q′, tt)) x at)
         (WpFn 𝓤 H C Λ code.function (vptr b o ∷ []) Post)
@@ -337,23 +304,23 @@ module _ {M : Type 1} (𝓤 : URA M) (H : Heap 𝓤) (A : Atoms 𝓤) (W : Given
 module _ {M : Type 1} (𝓤 : URA M) (H : Heap 𝓤) (A : Atoms 𝓤) (W : Given 𝓤 H A) (mem : Memory → SProp 𝓤)
     (run : Routine → Fun 𝓤) where
   next-token-walks : (C : Calls 𝓤 H) (Λ : Loops 𝓤 H) → FmC 𝓤 H (W .laws) C
-      → Triple 𝓤 (C #line·moved-to) (StepAt 𝓤 H A mem run) → Triple 𝓤 (C #line·answer-at) (AnswerAt 𝓤 H A mem run)
+      → Triple 𝓤 (C #line·step) (StepAt 𝓤 H A mem run)
       → Walks 𝓤 H A next-token.ended stayed (WpFn 𝓤 H C Λ code.function) (next-token.clauses 𝓤 H A mem run)
-  next-token-walks C Λ fm known known₂ =
+  next-token-walks C Λ fm known =
       walked 𝓤 H A next-token.ended stayed (next-token.clauses 𝓤 H A mem run) (WpFn 𝓤 H C Λ code.function)
       (λ κs. (ptr-vals, tt)) (λ κs. (mut-tells (named 0) (κs .0) (B (κs .1 .0)), tt))
       (λ κs qs bounds a g are. via 𝓤 _ (fst∗ 𝓤 _ (emp 𝓤))
       (walk 𝓤 H A W mem run (κs .0) (κs .1 .0) (qs .0) (qs .1 .0) bounds (a .0 .ptr .0) (a .0 .ptr .1)
-      (a .0 .name) (a .0 .now) C Λ fm known known₂))
+      (a .0 .name) (a .0 .now) C Λ fm known))
 
 next-token-meets : {M : Type 1} (𝓤 : URA M) (H : Heap 𝓤) (A : Atoms 𝓤) (W : Given 𝓤 H A) (mem : Memory → SProp 𝓤)
     (run : Routine → Fun 𝓤) (𝓣 : Tables 𝓤 H)
-    → Triple 𝓤 (𝓣 .C #line·moved-to) (StepAt 𝓤 H A mem run) → Triple 𝓤 (𝓣 .C #line·answer-at) (AnswerAt 𝓤 H A mem run)
+    → Triple 𝓤 (𝓣 .C #line·step) (StepAt 𝓤 H A mem run)
     → Meets 𝓤 H A next-token.signature (WpFn 𝓤 H (𝓣 .C) (𝓣 .Λ) code.function) (next-token.spec 𝓤 H A mem run)
-next-token-meets 𝓤 H A W mem run 𝓣 known-step known-answer =
+next-token-meets 𝓤 H A W mem run 𝓣 known =
     walk-meets 𝓤 H A next-token.ended stayed W (goes-ref 𝓤 H A W 2 0 tt behind, tt) (next-token.clauses 𝓤 H A mem run)
     (WpFn 𝓤 H (𝓣 .C) (𝓣 .Λ) code.function) (WpFn-mono 𝓤 H (W .laws) 𝓣 code.function)
-    (next-token-walks 𝓤 H A W mem run (𝓣 .C) (𝓣 .Λ) (fmOf 𝓤 H (W .laws) 𝓣) known-step known-answer)
+    (next-token-walks 𝓤 H A W mem run (𝓣 .C) (𝓣 .Λ) (fmOf 𝓤 H (W .laws) 𝓣) known)
 
 pub next-token-spec : {M : Type 1} → stated.statement M
 unfolding code.routine tablesOf
@@ -361,7 +328,5 @@ next-token-spec 𝓤 H 𝓜 𝓖 𝓡 =
     entered 𝓤 H (tripleOf 𝓤 H (𝓖 .A) next-token.signature (next-token.spec 𝓤 H (𝓖 .A) (𝓜 .mem) (𝓡 .run)))
     (tables 𝓤 H 𝓜 𝓡 code.env .C) (tables 𝓤 H 𝓜 𝓡 code.env .Λ) #line·next-token code.function (code.unfolded 𝓤 H 𝓜 𝓡)
     (next-token-meets 𝓤 H (𝓖 .A) (givenOf 𝓤 H 𝓜 𝓖) (𝓜 .mem) (𝓡 .run) (tablesOf 𝓤 H 𝓜 (tables 𝓤 H 𝓜 𝓡 code.env))
-    (cited 𝓤 H (StepAt 𝓤 H (𝓖 .A) (𝓜 .mem) (𝓡 .run)) 𝓜 𝓡 code.env #line·moved-to step-def.routine
-    code.calls-line·parser·advance·moved-to (step-thm.met 𝓤 H 𝓜 𝓖 𝓡))
-    (cited 𝓤 H (AnswerAt 𝓤 H (𝓖 .A) (𝓜 .mem) (𝓡 .run)) 𝓜 𝓡 code.env #line·answer-at answer-def.routine
-    code.calls-line·parser·answer-at (answer-thm.met 𝓤 H 𝓜 𝓖 𝓡)))
+    (cited 𝓤 H (StepAt 𝓤 H (𝓖 .A) (𝓜 .mem) (𝓡 .run)) 𝓜 𝓡 code.env #line·step step-def.routine
+    code.calls-line·parser·step (step-thm.met 𝓤 H 𝓜 𝓖 𝓡)))
