@@ -72,7 +72,7 @@ module _ (s : List ℕ) (p : ℕ) (st : State) (t : Tokens) (h : p < length s) (
       }
 
 -- before the first call
-pub counted-first : (s : List ℕ) (st : State) → st ≡ startOf s → Counted s 0 st (record { count = 0; last = Lr.Nothing })
+pub counted-first : (s : List ℕ) (st : State) → st ≡ startOf s
+    → Counted s 0 st (record { count = 0; last = Lr.Nothing })
 unfolding tokensOf
-counted-first s st e =
-    rw e (record { fuel = length s; enough = omega arith; few = omega arith; is = refl })
+counted-first s st e = rw e (record { fuel = length s; enough = omega arith; few = omega arith; is = refl })

@@ -1,6 +1,6 @@
--- `parser::Parser::next_token` meets its contract: a walk of its MIR, by hand. The borrow is opened, `step` is called on
--- the fields, the position and the state are stored beside the slice, the answer is taken out of the step, and the borrow
--- is closed at the struct that `moved` says.
+-- `parser::Parser::next_token` meets its contract: a walk of its MIR, by hand. The borrow is opened, `step` is called
+-- on the fields, the position and the state are stored beside the slice, the answer is taken out of the step, and the
+-- borrow is closed at the struct that `moved` says.
 -- The struct is Copy: what it owns is had twice, one copy is what a callee asks, and the other, with the facts of the
 -- new position and state, is what the moved struct owns.
 -- The machine value of an enum is `EL.val`, which does not compute at a value that is not known; so the struct's is
@@ -248,7 +248,8 @@ module _ {M : Type 1} (𝓤 : URA M) (H : Heap 𝓤) (A : Atoms 𝓤) (W : Given
           ∷ Held₅ (‵ (froom τ₀ l₀ 0)) v₁ (bytes h) (at-pos h) (st h) (reached r)) (runs C Λ E₅ listed.t-7 (atRet E₅ Q))
       finishes fits ends r u is e =
           assigns ! (of-opd ! (load ! (from ! (fld ! refl (stop !))) (look-in ! 8 (sub ! 0 refl (whole !)))))
-          (from ! (stop !)) (init ! 18 refl (fits (r .answer) (told r) (LL.owed S.the-type S′.the-laws r (u ∷ []) is .0)))
+          (from ! (stop !))
+          (init ! 18 refl (fits (r .answer) (told r) (LL.owed S.the-type S′.the-laws r (u ∷ []) is .0)))
           $
           use1 W (given (u ∷ [] ≡ reached r ∷ [])
           (‵ (all-own (S.the-type .parts) S′.the-laws (r .answer, (r .pos, (r .state, tt))))))

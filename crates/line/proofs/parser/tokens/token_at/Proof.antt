@@ -1,7 +1,7 @@
 -- `parser::tokens::token_at` meets its contract: a walk of its MIR, by hand. A `Parser` is made of the parameters in a
 -- local, the local is lent by `&mut` to `next_token`, and its fields are read once it is back.
--- The loan is as in `first_token`: for the lifetime ν ∷ κ, of a new atom ν and the line's κ. The struct is Copy, so what
--- it owns is had twice: one is lent, and the other is what the parameters own at exit.
+-- The loan is as in `first_token`: for the lifetime ν ∷ κ, of a new atom ν and the line's κ. The struct is Copy, so
+-- what it owns is had twice: one is lent, and the other is what the parameters own at exit.
 -- The walk is for any types of the locals of the answer and of the result, and any Q to be shown: so none of them is
 -- written out at each step.
 -- Assumes nothing.
@@ -23,11 +23,12 @@ use contract.BorrowLft.{meet-⊑-right}
 use contract.Lifetimes.{Lfts}
 use contract.Monad.{Fun, fact}
 use contract.Running.{givenOf, tables, tablesOf}
-use types.Kit.{Given, Item, Sq, allocs, params′, runs, atRet, ‵, raw, _⊛_, given, ⋆, some, later, _$_, _∵_, !, qed, by, move, keep, use1, use2, use3, split}
+use types.Kit.{Given, Item, Sq, allocs, params′, runs, atRet, ‵, raw, _⊛_, given, ⋆, some, later, _$_, _∵_, !, qed}
+use types.Kit.{by, move, keep, drop, use1, use2, use3, split}
 use types.Kit.{join, learn, pick, rewrite, fsplit, fjoin, suffices, frame, await, done}
 use types.Part.{agg, whole, sub, look-in}
-use types.Run.{look, init, forget, stop, fld, from, load, addr, of-opd, and-then, no-more, assigns, land, returns, enter}
-use types.Run.{alloc1, alloc0, params1, pass1, pass0, free1, free0}
+use types.Run.{look, init, forget, stop, fld, from, load, addr, of-opd, and-then, no-more, assigns, land, returns}
+use types.Run.{enter, alloc1, alloc0, params1, pass1, pass0, free1, free0}
 use types.SemTy.{Body}
 use types.Tokens.{lft-new}
 use sound.WpLaws.{FmC, fmOf, WpFn-mono}
@@ -173,23 +174,18 @@ module _ {M : Type 1} (𝓤 : URA M) (H : Heap 𝓤) (A : Atoms 𝓤) (W : Given
 
     -- what the walk has at its end gives Q
     abbrev Ends : (Val → SProp 𝓤) → Type 1
-    Ends Q = Said t p′
-        → ent 𝓤 (⋆ 𝓤 H A (‵ (An.the-row .own t (EL.vals An.the-type An′.the-laws t)) ∷ token ∷ ‵ Owns ∷ []))
-        (Q (LL.val Sp.the-type Sp′.the-laws got))
+    Ends Q = Said t p′ → ent 𝓤 (⋆ 𝓤 H A (token ∷ ‵ Owns ∷ [])) (Q (LL.val Sp.the-type Sp′.the-laws got))
 
     exits : Ends Post
     exits e =
-        qed W (‵ (An.the-row .own t (EL.vals An.the-type An′.the-laws t)) ∷ token ∷ ‵ Owns ∷ []) ∵
+        qed W (token ∷ ‵ Owns ∷ []) ∵
         suffices ! _
         (ends-at 𝓤 H A token-at.ended stayed (token-at.clauses 𝓤 H A mem run) W
         (((κ, tt), (q, tt), tt, args, passed), tt) (LL.val Sp.the-type Sp′.the-laws got) got (tt, (tt, (tt, tt)))
         (tt, (tt, (tt, tt)))) $
         says ! (λ i. record { answer = e .0 i; pos = e .1 i .pos; state = e .1 i .state }) $
-        move ! (1 ∷ []) $ frame ! $ move ! (1 ∷ []) $ frame ! $
-        nothing ! $ owned ! St.the-row (Is St.the-row) (EL.makes St.the-type St′.the-plain 𝓤 H A) (p′ .state) _ state-is
-        $ fjoin ! $
-        owned ! usize (Is usize) (uint-makes 𝓤 H A W w64) (p′ .pos) _ pos-is $ fjoin ! $ move ! (1 ∷ 0 ∷ []) $ fjoin !
-        $ by ! (own-shut 𝓤 H A W Sp.the-type Sp′.the-laws (t, (p′ .pos, (p′ .state, tt))))
+        frame ! $ frame ! $
+        owned ! Sp.the-row (Is Sp.the-row) (LL.makes Sp.the-type Sp′.the-plain 𝓤 H A) got _ got-is $ done !
 
   module _ (C : Calls 𝓤 H) (Λ : Loops 𝓤 H) (fm : FmC 𝓤 H (W .laws) C)
       (known : Triple 𝓤 (C #line·next) (Next 𝓤 H A mem run)) where
@@ -230,8 +226,8 @@ module _ {M : Type 1} (𝓤 : URA M) (H : Heap 𝓤) (A : Atoms 𝓤) (W : Given
           (init ! 10 refl (LL.lawful (T.the-type αᵉ) (T′.the-laws αᵉ) 𝓤 H A W .typed h _ is .0)) $
           -- the local is lent
           move ! (10 ∷ 0 ∷ []) $ use2 W (‵ (partAt R fullShare h l₄ 0))
-          (part-in-at 𝓤 H A W R refl fullShare h l₄ 0 (T′.mir erased) refl (mach κ h)) $ lft-new ! tt (λ ν. move ! (1 ∷ [])
-          $
+          (part-in-at 𝓤 H A W R refl fullShare h l₄ 0 (T′.mir erased) refl (mach κ h)) $ lft-new ! tt (λ ν. move !
+          (1 ∷ []) $
           use1 W (later (some (λ (γ : GName). ‵ (Lent ν l₄ γ) ⊛ ‵ (flent (ν ∷ κ) (Body (memory R) l₄ 0 γ)))))
           (lends-ref 𝓤 H A W R (named 0) (ν ∷ κ) h l₄ 0) $ await ! tt $ pick ! (λ γ. split ! $
           -- [the reference; the way back; ν's token; what the parameters own; room for _8; …; _7; …; _6; …; _5; …; …;
@@ -256,46 +252,44 @@ module _ {M : Type 1} (𝓤 : URA M) (H : Heap 𝓤) (A : Atoms 𝓤) (W : Given
           (fact 𝓤 (Said t (zs .0))))) (id⊢ 𝓤 _) $ pick ! (λ zs.
           split ! $ move ! (1 ∷ []) $ heard ! (Said t (zs .0))
           (λ e. fsplit ! $ move ! (2 ∷ []) $ split ! $ move ! (1 ∷ []) $
-          -- [the answer; the tokens; the last value; …; ν's rest; the way back; what the parameters own; room for _8; …;
-          -- _7; …; _6; …; _5; …; …; _3; …; _2; …; _1; …; room for _0; …]
+          -- [the answer; the tokens; the last value; …; ν's rest; the way back; what the parameters own; room for _8;
+          -- …; _7; …; _6; …; _5; …; …; _3; …; _2; …; _1; …; room for _0; …]
           peeks ! An.the-row (Is An.the-row) (shows 𝓤 H A An.the-row) t (w ∷ []) (λ is₂.
-          land ! (from ! (stop !)) (init ! 13 refl (fits₅ t w is₂)) $
-          rewrite ! 13 (λ (u : Val). ‵ (fat fullShare τ₅ l₅ 0 u))
+          drop ! $ land ! (from ! (stop !)) (init ! 12 refl (fits₅ t w is₂)) $
+          rewrite ! 12 (λ (u : Val). ‵ (fat fullShare τ₅ l₅ 0 u))
           (ap only (EL.tells An.the-type An′.the-laws t _ is₂)) refl $
-          rewrite ! 0 (λ (u : Val). ‵ (An.the-row .own t (u ∷ []))) (ap only (EL.tells An.the-type An′.the-laws t _ is₂))
-          refl $
           -- the loan is ended, and the local is back
-          move ! (1 ∷ []) $ split ! $ move ! (0 ∷ 5 ∷ []) $ use2 W
-          (later (‵ (fdead (ν ∷ κ)) ⊛ ‵ (flft κ (PosShare·left q)))) (within-end 𝓤 H A W ν κ (PosShare·left q)) $
+          split ! $ move ! (0 ∷ 4 ∷ []) $ use2 W (later (‵ (fdead (ν ∷ κ)) ⊛ ‵ (flft κ (PosShare·left q))))
+          (within-end 𝓤 H A W ν κ (PosShare·left q)) $
           await ! tt $ split ! $
-          move ! (0 ∷ 6 ∷ 4 ∷ []) $ use3 W (later (‵ (partAt R fullShare (zs .0) l₄ 0)))
+          move ! (0 ∷ 5 ∷ 3 ∷ []) $ use3 W (later (‵ (partAt R fullShare (zs .0) l₄ 0)))
           (ref-back 𝓤 H A W R (ν ∷ κ) γ (zs .0) l₄ 0) $ await ! tt $
           use1 W (some (λ (z : Val). ‵ (fat fullShare (T′.mir erased) l₄ 0 z) ⊛ ‵ (R .own (zs .0) (z ∷ []))))
           (part-out-at 𝓤 H A W R refl fullShare (zs .0) l₄ 0 (T′.mir erased) refl) $ pick ! (λ z. split ! $
-          move ! (3 ∷ []) $ split ! $ move ! (4 ∷ 0 ∷ []) $ use2 W (‵ (flft κ q)) (W .lfts .lft-join κ q) $ join ! $
-          -- [what the struct owns; the token; _4; the answer; …; what the parameters own; room for _8; …; _7; …; _6; …;
-          -- _5; …; …; _3; …; _2; …; _1; …; room for _0; …]
-          move ! (2 ∷ []) $ peeks ! R (Is R) (shows 𝓤 H A R) (zs .0) (z ∷ []) (λ was.
-          rewrite ! 2 (λ (u : Val). ‵ (fat fullShare (T′.mir erased) l₄ 0 u))
+          move ! (1 ∷ []) $ peeks ! R (Is R) (shows 𝓤 H A R) (zs .0) (z ∷ []) (λ was. drop ! $
+          rewrite ! 0 (λ (u : Val). ‵ (fat fullShare (T′.mir erased) l₄ 0 u))
           (ap only (LL.tells (D κ) (L κ) (zs .0) _ was)) refl $
-          assigns ! (of-opd ! (load ! (from ! (fld ! refl (stop !))) (look-in ! 2 (sub ! 1 refl (whole !)))))
-          (from ! (stop !)) (init ! 8 refl (tt, record { fits = pos-is t w is₂ (zs .0) z was .1 })) $
-          assigns ! (of-opd ! (load ! (from ! (fld ! refl (stop !))) (look-in ! 2 (sub ! 2 refl (whole !)))))
+          move ! (2 ∷ []) $ split ! $ move ! (3 ∷ 0 ∷ []) $ use2 W (‵ (flft κ q)) (W .lfts .lft-join κ q) $ join ! $
+          -- [the token; _4; …; what the parameters own; room for _8; …; _7; …; _6; …; _5; …; …; _3; …; _2; …; _1; …;
+          -- room for _0; …]
+          assigns ! (of-opd ! (load ! (from ! (fld ! refl (stop !))) (look-in ! 1 (sub ! 1 refl (whole !)))))
+          (from ! (stop !)) (init ! 6 refl (tt, record { fits = pos-is t w is₂ (zs .0) z was .1 })) $
+          assigns ! (of-opd ! (load ! (from ! (fld ! refl (stop !))) (look-in ! 1 (sub ! 2 refl (whole !)))))
           (from ! (stop !))
-          (init ! 6 refl (EL.lawful St.the-type St′.the-laws 𝓤 H A W tt .typed (zs .0 .state) _
+          (init ! 4 refl (EL.lawful St.the-type St′.the-laws 𝓤 H A W tt .typed (zs .0 .state) _
           (state-is t w is₂ (zs .0) z was) .0)) $
           assigns !
-          (agg ! (and-then ! (load ! (from ! (stop !)) (look ! 12 refl))
-          (and-then ! (load ! (from ! (stop !)) (look ! 8 refl))
-          (and-then ! (load ! (from ! (stop !)) (look ! 6 refl)) (no-more !)))))
+          (agg ! (and-then ! (load ! (from ! (stop !)) (look ! 10 refl))
+          (and-then ! (load ! (from ! (stop !)) (look ! 6 refl))
+          (and-then ! (load ! (from ! (stop !)) (look ! 4 refl)) (no-more !)))))
           (from ! (stop !))
-          (init ! 21 refl (fits₀ (got t w is₂ (zs .0) z was) (got-is t w is₂ (zs .0) z was))) $
-          returns ! (look ! 21 refl) $ forget ! 2 refl $ forget ! 6 refl $ forget ! 8 refl $ forget ! 10 refl $
-          forget ! 12 refl $ forget ! 15 refl $ forget ! 17 refl $ forget ! 19 refl $ forget ! 21 refl $
-          move ! (21 ∷ 22 ∷ []) $ free1 ! $ move ! (19 ∷ 20 ∷ []) $ free1 ! $ move ! (17 ∷ 18 ∷ []) $ free1 ! $ move !
-          (15 ∷ 16 ∷ []) $ free1 ! $ move ! (2 ∷ 14 ∷ []) $ free1 ! $ move ! (11 ∷ 12 ∷ []) $ free1 ! $ move !
-          (9 ∷ 10 ∷ []) $ free1 ! $ move ! (7 ∷ 8 ∷ []) $ free1 ! $ move ! (5 ∷ 6 ∷ []) $ free1 ! $ free0 ! $
-          keep ! (2 ∷ 1 ∷ 4 ∷ []) $ by ! (ends t w is₂ (zs .0) z was e)))))))))))))))))))))
+          (init ! 19 refl (fits₀ (got t w is₂ (zs .0) z was) (got-is t w is₂ (zs .0) z was))) $
+          returns ! (look ! 19 refl) $ forget ! 1 refl $ forget ! 4 refl $ forget ! 6 refl $ forget ! 8 refl $
+          forget ! 10 refl $ forget ! 13 refl $ forget ! 15 refl $ forget ! 17 refl $ forget ! 19 refl $
+          move ! (19 ∷ 20 ∷ []) $ free1 ! $ move ! (17 ∷ 18 ∷ []) $ free1 ! $ move ! (15 ∷ 16 ∷ []) $ free1 ! $ move !
+          (13 ∷ 14 ∷ []) $ free1 ! $ move ! (1 ∷ 12 ∷ []) $ free1 ! $ move ! (9 ∷ 10 ∷ []) $ free1 ! $ move !
+          (7 ∷ 8 ∷ []) $ free1 ! $ move ! (5 ∷ 6 ∷ []) $ free1 ! $ move ! (3 ∷ 4 ∷ []) $ free1 ! $ free0 ! $
+          keep ! (0 ∷ 2 ∷ []) $ by ! (ends t w is₂ (zs .0) z was e)))))))))))))))))))))
 
     walk : Is (ShrSlice (named 0) κ u8) s (bytes h ∷ []) → Is usize p (at-pos h ∷ []) → Is St.the-row state (st h ∷ [])
         → ent 𝓤 (onEntry 𝓤 H A token-at.signature (κ, tt) (q, tt) args passed)
