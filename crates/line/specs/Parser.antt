@@ -40,14 +40,14 @@ answersFrom (suc n) s p st =
     []
 
 -- one answer more: a token is counted, a refusal is kept
-abbrev pub countedOf : Tokens → Answer → Tokens
-countedOf t (An.Found k) = record { count = t .count + 1; last = t .last }
-countedOf t (An.Refused e) = record { count = t .count; last = Lr.Is e }
-countedOf t An.End = t
+abbrev pub withAnswer : Tokens → Answer → Tokens
+withAnswer t (An.Found k) = record { count = t .count + 1; last = t .last }
+withAnswer t (An.Refused e) = record { count = t .count; last = Lr.Is e }
+withAnswer t An.End = t
 
 unfoldable pub countAll : Tokens → List Answer → Tokens
 countAll t [] = t
-countAll t (a ∷ rest) = countAll (countedOf t a) rest
+countAll t (a ∷ rest) = countAll (withAnswer t a) rest
 
 -- all of a line's: a call that leads on takes a byte at least, so that there are no more calls than bytes
 unfoldable pub tokensOf : List ℕ → Tokens

@@ -9,15 +9,9 @@ use Rattle.line.specs.declared.parser.State.{State}
 use Rattle.line.specs.declared.parser.Token.the-variants as Tk
 use Rattle.line.specs.declared.parser.Answer.{Answer}
 use Rattle.line.specs.declared.parser.Answer.the-variants.{Found}
-use Rattle.line.specs.declared.parser.Stepped.{Stepped}
-use Rattle.line.specs.declared.parser.Moved.{Moved}
 use Rattle.line.specs.Fields.{fieldsOf}
 use Rattle.line.specs.Pairs.{pairOf}
 use Rattle.line.specs.Walker.{stepOf}
-
--- where a step leads
-abbrev pub leads : Stepped → Moved
-leads s = record { pos = s .pos; state = s .state }
 
 -- the fields after the first comma: the name and the pairs
 abbrev pub laterFields : List ℕ → List (List ℕ)

@@ -8,7 +8,7 @@ use crate::parser::start_state;
 ghost use mathlib.Core.Path.{_≡_};
 ghost use Prim.Native.Nat.{_<_, _^_};
 ghost use Rattle.line.specs.Walker.{stepOf};
-ghost use Rattle.line.specs.Parser.{countedOf, tokensOf};
+ghost use Rattle.line.specs.Parser.{withAnswer, tokensOf};
 
 pub enum LastRefusal {
     Is(Error),
@@ -64,7 +64,7 @@ pub fn count_tokens(line: &[u8]) -> Tokens
 // One answer more.
 fn counted(tokens: Tokens, answer: Answer) -> Tokens
     requires { ⌜ tokens .count < 2 ^ 63 ⌝ }
-    ensures { λ r. ⌜ r ≡ countedOf tokens answer ⌝ }
+    ensures { λ r. ⌜ r ≡ withAnswer tokens answer ⌝ }
 {
     let last = tokens.last;
     match answer {
