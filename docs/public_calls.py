@@ -11,6 +11,7 @@ TYPES = {"AxisOrBtn": "element", "MappingData": "data"}
 CROSSES_AS = {
     "start_state": "raspteal_parser_start",
     "step": "raspteal_parser_step",
+    "token_at": "raspteal_parser_step",
     # A walker holds a reference, which does not cross: its position and state do.
     "Parser::new": "raspteal_parser_start",
     "Parser::next_token": "raspteal_parser_step",

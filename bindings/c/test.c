@@ -109,6 +109,12 @@ static void lines(void) {
     t = raspteal_first_token(TEXT("T\xff"));
     CHECK(t.kind == RASPTEAL_REFUSED && t.refusal.number == 10 && t.refusal.place == 1);
     CHECK(raspteal_first_token(TEXT("")).kind == RASPTEAL_END);
+    raspteal_tokens n = raspteal_count_tokens(TEXT(line));
+    CHECK(n.count == 3 && n.last.number == 0);
+    n = raspteal_count_tokens(TEXT(U ",T,a:,b:b1,"));
+    CHECK(n.count == 3 && n.last.number == 8 && n.last.place == 35);
+    n = raspteal_count_tokens(TEXT("q,T"));
+    CHECK(n.count == 0 && n.last.number == 1 && n.last.place == 0);
 
     raspteal_answer r = raspteal_parse_sdl_mapping(TEXT(line), LIST(buttons), LIST(axes));
     CHECK(r.refusal.number == 0 && r.map.count == 2 && r.map.hats_mapped == 1);

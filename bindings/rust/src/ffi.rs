@@ -154,6 +154,13 @@ pub struct Step {
 
 #[repr(C)]
 #[derive(Clone, Copy, Debug, PartialEq, Eq)]
+pub struct Tokens {
+    pub count: usize,
+    pub last: Refusal,
+}
+
+#[repr(C)]
+#[derive(Clone, Copy, Debug, PartialEq, Eq)]
 pub struct Slot {
     pub filled: bool,
     pub code: u32,
@@ -226,6 +233,7 @@ extern "C" {
     pub fn raspteal_parser_start(line: *const u8, line_len: usize) -> u8;
     pub fn raspteal_parser_step(line: *const u8, line_len: usize, pos: usize, state: u8) -> Step;
     pub fn raspteal_first_token(line: *const u8, line_len: usize) -> Token;
+    pub fn raspteal_count_tokens(line: *const u8, line_len: usize) -> Tokens;
     pub fn raspteal_parse_sdl_mapping(
         line: *const u8,
         line_len: usize,

@@ -44,7 +44,7 @@ pub use data::{Built, MappingData};
 pub use element::{Axis, AxisOrBtn, Button, Code};
 pub use error::{Error, InsertError, ParseUuidError};
 pub use mapping::Mapping;
-pub use parser::{first_token, AxisRange, Parser, Token};
+pub use parser::{count_tokens, first_token, AxisRange, Parser, Token};
 pub use store::Store;
 pub use uuid::Uuid;
 

@@ -138,6 +138,21 @@ pub fn first_token<'a>(line: &'a (impl AsRef<[u8]> + ?Sized)) -> Result<Option<T
     token(line, safe::first_token(line))
 }
 
+/// How many tokens a line has, up to its end or to a refusal after which the walker doesn't go on (1, 2, 10); and the
+/// last refusal on the way.
+///
+/// ```
+/// use raspteal::{count_tokens, Error};
+///
+/// let line = "00000000000000000000000000000000,Pad,a:b0,q:b1,";
+/// assert_eq!(count_tokens(line), (3, Some(Error::UnknownButton { place: 42 })));
+/// assert_eq!(count_tokens(""), (0, None));
+/// ```
+pub fn count_tokens(line: &(impl AsRef<[u8]> + ?Sized)) -> (usize, Option<Error>) {
+    let tokens = safe::count_tokens(line.as_ref());
+    (tokens.count, Error::check(tokens.last).err())
+}
+
 fn token(line: &[u8], t: ffi::Token) -> Result<Option<Token<'_>>, Error> {
     Error::check(t.refusal)?;
     let text = || {

@@ -55,6 +55,7 @@ fn rows() -> Vec<Row> {
         row!(Pair, "raspteal_pair", step.token.pair, from, direction, to, input, output, inverted),
         row!(Token, "raspteal_token", step.token, kind, refusal, id, start, len, pair),
         row!(Step, "raspteal_step", step, token, pos, state),
+        row!(Tokens, "raspteal_tokens", safe::count_tokens(b""), count, last),
         row!(Slot, "raspteal_slot", slot, filled, code),
         row!(MappingData, "raspteal_data", changed.slots, buttons, axes),
         row!(Changed, "raspteal_changed", changed, former, slots),

@@ -16,11 +16,13 @@ use Rattle.line.specs.declared.parser.Answer.{Answer}
 use Rattle.line.specs.declared.parser.Answer.the-variants as An
 use Rattle.line.specs.declared.parser.Stepped.{Stepped}
 use Rattle.line.specs.Refusals as Rf
-use Rattle.line.specs.Refusals.{Outcome, errorRefusal}
+use Rattle.line.specs.declared.parser.tokens.Tokens.{Tokens}
+use Rattle.line.specs.Refusals.{Outcome, errorRefusal, lastOutcome}
 use Rattle.exports.specs.declared.flat.FlatUuid.{FlatUuid}
 use Rattle.exports.specs.declared.flat_token.FlatPair.{FlatPair}
 use Rattle.exports.specs.declared.flat_token.FlatToken.{FlatToken}
 use Rattle.exports.specs.declared.parser_calls.FlatStep.{FlatStep}
+use Rattle.exports.specs.declared.parser_calls.FlatTokens.{FlatTokens}
 use Rattle.exports.specs.Flat.{flatElement, flatUuid, flatOutcome}
 
 abbrev pub rangeNumber : AxisRange → ℕ
@@ -94,3 +96,6 @@ flatAnswer An.End = bareToken 0
 
 abbrev pub flatStep : Stepped → FlatStep
 flatStep s = record { token = flatAnswer (s .answer); pos = s .pos; state = stateNumber (s .state) }
+
+abbrev pub flatTokens : Tokens → FlatTokens
+flatTokens t = record { count = t .count; last = flatOutcome (lastOutcome (t .last)) }

@@ -10,16 +10,17 @@ use crate::flat_token::flat_answer;
 use crate::flat_token::flat_error;
 use crate::flat_token::state_number;
 use crate::flat_token::state_of;
+use line::parser::tokens::LastRefusal;
 use line::reading::ParseSdlMappingError;
 use line::reading::SdlAnswer;
 ghost use mathlib.Core.Path.{_≡_};
 ghost use Rattle.line.specs.Walker.{startOf, stepOf};
-ghost use Rattle.line.specs.Parser.{parserOf, stepFrom};
+ghost use Rattle.line.specs.Parser.{parserOf, stepFrom, tokensOf};
 ghost use Rattle.line.specs.Reading.{readingOf};
-ghost use Rattle.line.specs.Refusals.{readingOutcome, readingRefusal};
+ghost use Rattle.line.specs.Refusals.{lastOutcome, readingOutcome, readingRefusal};
 ghost use Rattle.line.specs.Refusals as Refusals;
 ghost use Rattle.exports.specs.Flat.{flatOutcome};
-ghost use Rattle.exports.specs.FlatTokens.{stateNumber, stateIn, flatAnswer, flatStep};
+ghost use Rattle.exports.specs.FlatTokens.{stateNumber, stateIn, flatAnswer, flatStep, flatTokens};
 ghost use Rattle.exports.specs.FlatMaps.{flatReading};
 
 // A step of the walker: its answer, and where it goes on.
@@ -28,6 +29,13 @@ pub struct FlatStep {
     pub token: FlatToken,
     pub pos: usize,
     pub state: u8,
+}
+
+// The number of tokens of a line, and the last refusal.
+#[repr(C)]
+pub struct FlatTokens {
+    pub count: usize,
+    pub last: FlatRefusal,
 }
 
 // A refused reading has the empty map.
@@ -48,7 +56,7 @@ pub extern "C" fn raspteal_parser_start(line: &[u8]) -> u8
 pub extern "C" fn raspteal_parser_step(line: &[u8], pos: usize, state: u8) -> FlatStep
     ensures { λ r. ⌜ r ≡ flatStep (stepOf (now (line .entry)) pos (stateIn state)) ⌝ }
 {
-    let next = line::parser::step(line, pos, state_of(state));
+    let next = line::parser::tokens::token_at(line, pos, state_of(state));
     let answer = next.answer;
     let after = next.state;
     FlatStep {
@@ -66,6 +74,18 @@ pub extern "C" fn raspteal_first_token(line: &[u8]) -> FlatToken
 }
 
 #[no_mangle]
+pub extern "C" fn raspteal_count_tokens(line: &[u8]) -> FlatTokens
+    ensures { λ r. ⌜ r ≡ flatTokens (tokensOf (now (line .entry))) ⌝ }
+{
+    let tokens = line::parser::tokens::count_tokens(line);
+    let last = tokens.last;
+    FlatTokens {
+        count: tokens.count,
+        last: flat_last(last),
+    }
+}
+
+#[no_mangle]
 pub extern "C" fn raspteal_parse_sdl_mapping(
     line: &[u8],
     buttons: &[u32],
@@ -79,6 +99,15 @@ pub extern "C" fn raspteal_parse_sdl_mapping(
     FlatReading {
         refusal: flat_sdl_answer(answer),
         map: flat_mapping(map),
+    }
+}
+
+fn flat_last(l: LastRefusal) -> FlatRefusal
+    ensures { λ r. ⌜ r ≡ flatOutcome (lastOutcome l) ⌝ }
+{
+    match l {
+        LastRefusal::Is(e) => flat_error(e),
+        LastRefusal::Nothing => flat_no_refusal(),
     }
 }
 

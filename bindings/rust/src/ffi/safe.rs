@@ -115,6 +115,10 @@ pub fn first_token(line: &[u8]) -> Token {
     unsafe { raspteal_first_token(line.as_ptr(), line.len()) }
 }
 
+pub fn count_tokens(line: &[u8]) -> Tokens {
+    unsafe { raspteal_count_tokens(line.as_ptr(), line.len()) }
+}
+
 /// A list of codes as it crosses: `Code` has the layout of a `u32`.
 fn list(codes: &[EventCode]) -> (*const u32, usize) {
     (codes.as_ptr().cast(), codes.len())
