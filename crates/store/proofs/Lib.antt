@@ -3,6 +3,10 @@
 pub mod BoolLaws
 pub mod HeldLaws
 pub mod BufferLaws
+pub mod EightLaws
+pub mod ChainLaws
+pub mod OrderLaws
+pub mod OnceLaws
 pub mod RecordLaws
 pub mod RowLaws
 pub mod FindLaws

@@ -6,7 +6,7 @@ use mathlib.Core.Option.{Option, none, some}
 use mathlib.Core.List.{List, [], _∷_, _++_}
 use Prim.Native.Nat.{ℕ, _+_, _/_, _%_, _≤_, _<_}
 use lib.Dec.{eqb, ltb}
-use lib.ListN.{length, drop, take, replicate, getD}
+use lib.ListN.{length, drop, take, replicate, getD, set}
 use Rattle.text.specs.Bytes.{pick, firstOf}
 use Rattle.text.specs.declared.uuid.Uuid.{Uuid}
 use Rattle.store.specs.declared.records.Head.{Head}
@@ -31,6 +31,13 @@ use Rattle.store.specs.Saves.{refusedSave, acceptedSave}
 -- every byte of a buffer is one
 abbrev pub Bytes : List ℕ → Type 0
 Bytes s = (k : ℕ) → getD s k 0 < 256
+
+-- the eight bytes at j, stored at i
+abbrev pub eight : List ℕ → ℕ → ℕ → List ℕ
+eight p i j =
+    set (set (set (set (set (set (set (set p i (getD p j 0)) (i + 1) (getD p (j + 1) 0)) (i + 2) (getD p (j + 2) 0))
+    (i + 3) (getD p (j + 3) 0)) (i + 4) (getD p (j + 4) 0)) (i + 5) (getD p (j + 5) 0)) (i + 6) (getD p (j + 6) 0))
+    (i + 7) (getD p (j + 7) 0)
 
 -- ---- records
 

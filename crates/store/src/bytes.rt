@@ -5,7 +5,7 @@ ghost use Prim.Native.Nat.{ℕ, suc, _+_, _-_, _≤_, _<_};
 ghost use lib.ListN.{length, take, drop, getD, replicate};
 ghost use Rattle.text.specs.Bytes.{written};
 ghost use Rattle.store.specs.Decode.{zeroes, word, word4, word8};
-ghost use Rattle.store.specs.Inner.{be2, be4, be8};
+ghost use Rattle.store.specs.Inner.{eight, be2, be4, be8};
 
 // The byte at k, and 0 past the end.
 fn byte_at(s: &[u8], k: usize) -> u8
@@ -17,8 +17,47 @@ fn byte_at(s: &[u8], k: usize) -> u8
     0
 }
 
-// Closes a gap of that many bytes at the front, and zeroes the tail: what a part that is lent onward goes through.
-pub fn close_gap(part: &mut [u8], gap: usize)
+// Copies the eight bytes at j to i. All are read first: then they make one load and one store.
+fn move_eight(part: &mut [u8], i: usize, j: usize)
+    requires { ⌜ (i ≤ j) × (j + 8 ≤ length (now part)) ⌝ }
+    ensures { λ r. ⌜ now (part .exit) ≡ eight (now (part .entry)) i j ⌝ }
+{
+    let a = part[j];
+    let b = part[j + 1];
+    let c = part[j + 2];
+    let d = part[j + 3];
+    let e = part[j + 4];
+    let f = part[j + 5];
+    let g = part[j + 6];
+    let h = part[j + 7];
+    part[i] = a;
+    part[i + 1] = b;
+    part[i + 2] = c;
+    part[i + 3] = d;
+    part[i + 4] = e;
+    part[i + 5] = f;
+    part[i + 6] = g;
+    part[i + 7] = h;
+}
+
+// Moves bytes down over the gap, eight at a time, and returns how many.
+fn close_front(part: &mut [u8], gap: usize) -> usize
+    requires { ⌜ gap ≤ length (now part) ⌝ }
+    ensures { λ r. ⌜
+        (r + gap ≤ length (now (part .entry)))
+        × (now (part .exit)
+        ≡ take r (drop gap (now (part .entry)) ++ replicate gap 0) ++ drop r (now (part .entry))) ⌝ }
+{
+    let mut i = 0;
+    while gap + 8 <= part.len() - i {
+        move_eight(part, i, i + gap);
+        i += 8;
+    }
+    i
+}
+
+// Closes a gap byte by byte: what `close_front` leaves.
+fn close_end(part: &mut [u8], gap: usize)
     requires { ⌜ gap ≤ length (now part) ⌝ }
     ensures { λ r. ⌜ now (part .exit) ≡ drop gap (now (part .entry)) ++ replicate gap 0 ⌝ }
 {
@@ -29,11 +68,35 @@ pub fn close_gap(part: &mut [u8], gap: usize)
     }
 }
 
+// Closes a gap of that many bytes at the front, and zeroes the tail: what a part that is lent onward goes through.
+pub fn close_gap(part: &mut [u8], gap: usize)
+    requires { ⌜ gap ≤ length (now part) ⌝ }
+    ensures { λ r. ⌜ now (part .exit) ≡ drop gap (now (part .entry)) ++ replicate gap 0 ⌝ }
+{
+    let from = close_front(part, gap);
+    close_end(&mut part[from..], gap);
+}
+
+// A number of bytes at the front that are 0, found eight at a time.
+fn zero_front(s: &[u8]) -> usize
+    ensures { λ r. ⌜
+        (r ≤ length (now (s .entry))) × (zeroes (now (s .entry)) ≡ zeroes (drop r (now (s .entry)))) ⌝ }
+{
+    let mut i = 0;
+    while i + 8 <= s.len() {
+        if u64_at(s, i) != 0 {
+            return i;
+        }
+        i += 8;
+    }
+    i
+}
+
 // Whether every byte is 0.
 pub fn all_zero(s: &[u8]) -> bool
     ensures { λ r. ⌜ r ≡ zeroes (now (s .entry)) ⌝ }
 {
-    let mut i = 0;
+    let mut i = zero_front(s);
     while i < s.len() {
         if s[i] != 0 {
             return false;
@@ -47,8 +110,11 @@ pub fn all_zero(s: &[u8]) -> bool
 pub fn zero_all(s: &mut [u8])
     ensures { λ r. ⌜ now (s .exit) ≡ replicate (length (now (s .entry))) 0 ⌝ }
 {
-    let n = s.len();
-    close_gap(s, n);
+    let mut i = 0;
+    while i < s.len() {
+        s[i] = 0;
+        i += 1;
+    }
 }
 
 // The numbers in the two, four and eight bytes at k, high byte first.

@@ -1,8 +1,10 @@
 // The store: two lent buffers, index and text, that encode a list of lines (document 01, 'Records' and 'Store').
 mod bytes;
 pub mod calls;
+mod chains;
 mod filing;
 mod lines;
+mod order;
 mod records;
 mod saving;
 mod soundness;

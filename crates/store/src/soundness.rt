@@ -1,5 +1,8 @@
 // Whether two buffers are a sound store.
 use crate::bytes::all_zero;
+use crate::chains::SLOTS;
+use crate::chains::Verdict;
+use crate::order::check_keys;
 use crate::records::Head;
 use crate::records::find;
 use crate::records::read_head;
@@ -11,6 +14,7 @@ ghost use lib.ListN.{length, take, drop};
 ghost use Rattle.store.specs.Decode.{headFits, walk, decode};
 ghost use Rattle.store.specs.Inner.{known};
 ghost use Rattle.store.specs.Inner.{Holds, Once};
+ghost use Rattle.store.specs.Keys.{slots, keyAt, Lists};
 
 // The most bytes of a line, and of a buffer.
 pub const LINE_MAX: usize = 4096;
@@ -64,8 +68,8 @@ fn has_key(index: &[u8], key: Uuid) -> bool
     spot.head.size != 0
 }
 
-// Whether no key stands in two records.
-fn each_once(index: &[u8]) -> bool
+// Whether no key stands in two records: each is compared with every later one.
+fn compare_all(index: &[u8]) -> bool
     ensures { λ r. ⌜ Once (now (index .entry)) r ⌝ }
 {
     let mut at = 0;
@@ -80,6 +84,46 @@ fn each_once(index: &[u8]) -> bool
         if has_key(&index[at..], key) {
             return false;
         }
+    }
+}
+
+// Writes down the keys of the records, and counts them; more than `SLOTS` where not all are written down.
+fn read_keys(index: &[u8], highs: &mut [u64; SLOTS], lows: &mut [u64; SLOTS]) -> usize
+    requires { ⌜ (length (now highs) ≡ slots) × (length (now lows) ≡ slots) ⌝ }
+    ensures { λ r. ⌜ Lists (now (index .entry)) (keyAt (now (highs .exit)) (now (lows .exit))) r ⌝ }
+{
+    let mut at = 0;
+    let mut n = 0;
+    while n < SLOTS {
+        let head = read_head(&index[at..]);
+        let size = head.size;
+        if size == 0 {
+            return n;
+        }
+        let key = head.key;
+        highs[n] = key.high;
+        lows[n] = key.low;
+        at += size;
+        n += 1;
+    }
+    SLOTS + 1
+}
+
+// Whether no key stands in two records. Chains show it, or else an order; `compare_all` says what is asked.
+fn each_once(index: &[u8]) -> bool
+    ensures { λ r. ⌜ Once (now (index .entry)) r ⌝ }
+{
+    let mut highs = [0u64; SLOTS];
+    let mut lows = [0u64; SLOTS];
+    let n = read_keys(index, &mut highs, &mut lows);
+    if SLOTS < n {
+        return compare_all(index);
+    }
+    let verdict = check_keys(&highs, &lows, n);
+    match verdict {
+        Verdict::Apart => true,
+        Verdict::Twice => false,
+        Verdict::Unsure => compare_all(index),
     }
 }
 

@@ -1,5 +1,5 @@
 -- The rest's answer is the whole's.
-use mathlib.Core.Path.{_≡_, refl, sym, _∙_}
+use mathlib.Core.Path.{_≡_, sym, _∙_}
 use Prim.Native.Nat.{_-_, _≤_}
 use lib.ListN.{length, drop}
 use borrow.Author.Needs.{needs}
@@ -14,15 +14,18 @@ Inv-loop s i₀ i = (i ≤ length s) × (zeroes s ≡ zeroes (drop i s))
 abbrev μ-loop : tie.MeasureT-loop
 μ-loop s i₀ i = length s - i
 
+zero-front-requires : tie.Need-zero-front-requires Inv-loop μ-loop
+zero-front-requires c κs = search needs
+
 loop-holds : tie.Need-loop-holds Inv-loop μ-loop
-loop-holds c = (search needs, refl)
+loop-holds c = c .zero-front .ensures
 
 shared-slice-read-if1 : tie.Need-shared-slice-read-if1 Inv-loop μ-loop
 shared-slice-read-if1 c = search needs
 
 returns : tie.Need-returns Inv-loop μ-loop
 returns c =
-    let args = c .before .before .before .before .args in
+    let args = c .before .before .before .before .before .before .args in
     let loop = c .before .before .before .loop in
     sym (loop .inv .1 ∙ zeroes-stop (args .s .now) (loop .i) (search needs) (c .if1 .taken))
 
@@ -34,13 +37,13 @@ loop-less c = search needs
 
 loop-again : tie.Need-loop-again Inv-loop μ-loop
 loop-again c =
-    let args = c .before .before .before .before .args in
+    let args = c .before .before .before .before .before .before .args in
     let loop = c .before .before .before .loop in
     (search needs, loop .inv .1 ∙ zeroes-turn (args .s .now) (loop .i) (search needs) (c .if1 .left))
 
 returns-2 : tie.Need-returns-2 Inv-loop μ-loop
 returns-2 c =
-    let args = c .before .before .args in
+    let args = c .before .before .before .before .args in
     let loop = c .before .loop in
     sym (loop .inv .1 ∙ zeroes-end (args .s .now) (loop .i) (search needs))
 
@@ -50,6 +53,7 @@ all-zero-spec =
     (tie.spec
     Inv-loop
     μ-loop
+    zero-front-requires
     loop-holds
     shared-slice-read-if1
     returns

@@ -1,24 +1,59 @@
--- A gap as long as the buffer leaves zeroes only.
-use mathlib.Core.List.{List, _++_}
-use mathlib.Core.Path.{ap, _∙_}
-use Prim.Native.Nat.{ℕ}
-use lib.ListN.{length, replicate}
-use lib.Seq.{drop-length}
+-- The loop's invariant: the first i bytes are 0, the others as they were.
+use Rattle.store.proofs.EightLaws.{zero-length, zero-turn, zero-all}
+use Prim.Native.Nat.{_≤_, _-_, _+_}
+use native.Mathlib.Omega.{arith}
+use mathlib.Core.Path.{_≡_, refl}
+use lib.ListN.{length, drop, take, replicate}
+use mathlib.Core.List.{_++_}
 use borrow.Author.Needs.{needs}
 use Rattle.store.proofs.bytes.zero_all.Statement.{statement}
 use Rattle.store.proofs.bytes.zero_all.Tie as tie
 
-close-gap-requires : tie.Need-close-gap-requires
-close-gap-requires c κs = search needs
+abbrev Inv-loop : tie.InvT-loop
+Inv-loop s₀ i₀ s i = (i ≤ length s₀) × (s ≡ take i (replicate (length s₀) 0) ++ drop i s₀)
 
-same-length : tie.Need-same-length
-same-length c = search needs
+abbrev μ-loop : tie.MeasureT-loop
+μ-loop s₀ i₀ s i = length s₀ - i
 
-returns : tie.Need-returns
-returns c =
-    let args = c .before .before .before .before .before .args in
-    let close-gap = c .before .before .close-gap in
-    close-gap .ensures ∙ ap (λ (q : List ℕ). q ++ replicate (length (args .s .now)) 0) (drop-length (args .s .now))
+loop-holds : tie.Need-loop-holds Inv-loop μ-loop
+loop-holds c = (search needs, refl)
+
+slice-write-s : tie.Need-slice-write-s Inv-loop μ-loop
+slice-write-s c = search needs
+
+add-i : tie.Need-add-i Inv-loop μ-loop
+add-i c = search needs
+
+loop-less : tie.Need-loop-less Inv-loop μ-loop
+loop-less c =
+    let args = c .before .before .args in
+    let loop = c .before .loop in
+    let t : loop .i + 1 ≤ length (args .s .now)
+    = zero-turn (args .s .now) _ (loop .i) (loop .inv .1) (search needs) .0 in
+    omega arith
+
+loop-again : tie.Need-loop-again Inv-loop μ-loop
+loop-again c =
+    let args = c .before .before .args in
+    let loop = c .before .loop in
+    zero-turn (args .s .now) _ (loop .i) (loop .inv .1) (search needs)
+
+same-length : tie.Need-same-length Inv-loop μ-loop
+same-length c = zero-length (c .before .before .args .s .now) _ (c .before .loop .i) (c .before .loop .inv .1)
+
+returns : tie.Need-returns Inv-loop μ-loop
+returns c = zero-all (c .before .before .args .s .now) _ (c .before .loop .i) (c .before .loop .inv .1) (search needs)
 
 pub zero-all-spec : {M : Type 1} → statement M
-zero-all-spec = tie.close (tie.spec close-gap-requires same-length returns)
+zero-all-spec =
+    tie.close
+    (tie.spec
+    Inv-loop
+    μ-loop
+    loop-holds
+    slice-write-s
+    add-i
+    loop-less
+    loop-again
+    same-length
+    returns)

@@ -1,0 +1,133 @@
+-- Chains of numbers, one for each bucket: each is linked to the last one of its bucket before it, and a chain holds
+-- every number of its key. Nothing here knows where a key is read from.
+-- Assumes nothing.
+use mathlib.Core.Bool.{Bool, true, false, _&&_}
+use mathlib.Core.List.{List}
+use mathlib.Core.Logic.{⊎-elim}
+use mathlib.Core.Path.{_≡_, refl, sym, ap, _∙_, subst}
+use Prim.Native.Nat.{ℕ, _+_, _-_, _≤_, _<_}
+use native.Mathlib.Nat.{eq-or-lt-of-le}
+use native.Mathlib.Omega.{arith}
+use lib.Dec.{eqb, ltb}
+use lib.ListN.{length, getD, set, replicate, getD-replicate, length-replicate, length-set}
+use lib.Seq.{getD-set-same, getD-set-other}
+use borrow.Author.Count.{below-more}
+use borrow.Author.Tests.{ltb-true, ltb-false, eqb-true, eqb-false, eq-eqb, ne-eqb}
+use Rattle.store.specs.Held.{Key, sameKey}
+use Rattle.store.specs.Keys.{slots, bucket, AllApart, Twice, NotIn, Kin, Last, Linked, Headed}
+use Rattle.store.specs.Keys.{Chained, Seeks, Sought}
+use Rattle.store.proofs.HeldLaws.{same-refl, same-eq}
+
+pub unlike : (a b : Key) → sameKey a b ≡ false → a ≡ b → ⊥
+unlike a b n e =
+    let t : true ≡ false = sym (subst (λ (x : Key). sameKey a x ≡ true) e (same-refl a)) ∙ n in
+    let z : _≡_ {A = ℕ} 0 1 = cc in
+    omega arith
+
+-- what is left to seek at c
+pub record Seeking (K : ℕ → Key) (k m c : ℕ) : Type 0 where
+  pub passed : NotIn K k c m
+  pub kin : Kin K k c
+  pub within : c ≤ k
+
+pub seek-turn : (K : ℕ → Key) (next : List ℕ) (k m c d : ℕ) → Linked K next k → Seeking K k m c → 0 < c
+    → sameKey (K (c - 1)) (K k) ≡ false → d ≡ getD next (c - 1) 0 → Seeking K k m d × (d < c)
+seek-turn K next k m c d links s pos ne hd = (
+  record {
+    passed = λ j l h e. go j l h e (ltb j (c - 1)) refl;
+    kin = λ p. last .kin p ∙ s .kin pos;
+    within = omega (arith, last .within, s .within);
+  },
+  omega (arith, last .within),
+)
+  where
+    last : Last K (bucket (K (c - 1))) (c - 1) d
+    last = subst (Last K (bucket (K (c - 1))) (c - 1)) (sym hd) (links (c - 1) (omega (arith, s .within)))
+
+    go : (j : ℕ) → d ≤ j → j < m → K j ≡ K k → (t : Bool) → ltb j (c - 1) ≡ t → ⊥
+    go j l h e true t = last .near j l (ltb-true j (c - 1) t) (ap bucket e ∙ sym (s .kin pos))
+    go j l h e false t =
+        ⊎-elim (λ q. unlike (K (c - 1)) (K k) ne (ap K q ∙ e)) (λ lt. s .passed j (omega arith) h e)
+        (eq-or-lt-of-le (ltb-false j (c - 1) t))
+
+pub chained-none : (K : ℕ → Key) → Chained K (replicate slots 0) (replicate slots 0) 0
+chained-none K = record {
+  links = λ a l. absurd (omega arith);
+  ends = λ b l. subst (Last K b 0) (sym (getD-replicate {A = ℕ} slots b 0 0 l))
+      (record { near = λ j m n e. omega arith; kin = λ p. absurd (omega arith); within = omega arith });
+  heads-long = length-replicate {A = ℕ} slots 0;
+  next-long = length-replicate {A = ℕ} slots 0;
+}
+
+-- number k, of bucket h, is linked to c, the head of its chain
+module _ (K : ℕ → Key) (heads next : List ℕ) (k h c : ℕ) (s : Chained K heads next k) (hh : h ≡ bucket (K k))
+    (hl : h < slots) (hc : c ≡ getD heads h 0) (kl : k < slots) where
+  pub here : Last K (bucket (K k)) k c
+  here = subst (λ (b : ℕ). Last K b k c) hh (subst (Last K h k) (sym hc) (s .ends h hl))
+
+  -- what the chain says, all numbers below k say
+  pub sought : (r : ℕ) → Seeks K k c r → Sought K k r
+  sought r q = record { clear = λ l j a b e. go l j a b e (ltb j c) refl; hit = q .hit }
+    where
+      go : r ≤ k → (j : ℕ) → r ≤ j → j < k → K j ≡ K k → (t : Bool) → ltb j c ≡ t → ⊥
+      go l j a b e true t = q .clear l j a (ltb-true j c t) e
+      go l j a b e false t = here .near j (ltb-false j c t) b (ap bucket e)
+
+  module _ (v : ℕ) (hv : v ≡ k + 1) where
+    links-turn : Linked K (set next k c) (k + 1)
+    links-turn =
+        below-more (λ (a : ℕ). Last K (bucket (K a)) a (getD (set next k c) a 0)) k
+        (λ a l. subst (Last K (bucket (K a)) a) (sym (getD-set-other next k a c 0 (λ e. omega arith))) (s .links a l))
+        (subst (Last K (bucket (K k)) k) (sym (getD-set-same next k c 0 (omega (arith, s .next-long)))) here)
+
+    heads-turn : Headed K (set heads h v) (k + 1)
+    heads-turn b l = go (eqb b h) refl
+      where
+        go : (t : Bool) → eqb b h ≡ t → Last K b (k + 1) (getD (set heads h v) b 0)
+        go true t =
+            let e : b ≡ h = eqb-true b h t in
+            let at : getD (set heads h v) b 0 ≡ k + 1
+            = ap (λ (x : ℕ). getD (set heads h v) x 0) e ∙ getD-set-same heads h v 0 (omega (arith, s .heads-long))
+            ∙ hv in
+            let one : k ≡ k + 1 - 1 = omega arith in
+            subst (Last K b (k + 1)) (sym at) (record {
+              near = λ j m n q. omega arith;
+              kin = λ p. ap (λ (x : ℕ). bucket (K x)) (sym one) ∙ sym hh ∙ sym e;
+              within = omega arith;
+            })
+        go false t =
+            let n : b ≡ h → ⊥ = eqb-false b h t in
+            subst (Last K b (k + 1)) (sym (getD-set-other heads h b v 0 n)) (record {
+              near = λ j m l′.
+                  below-more (λ (x : ℕ). getD heads b 0 ≤ x → bucket (K x) ≡ b → ⊥) k
+                  (λ x lx mx. s .ends b l .near x mx lx) (λ mx q. n (sym q ∙ sym hh)) j l′ m;
+              kin = s .ends b l .kin;
+              within = omega (arith, s .ends b l .within);
+            })
+
+    pub chained-turn : Chained K (set heads h v) (set next k c) (k + 1)
+    chained-turn = record {
+      links = links-turn;
+      ends = heads-turn;
+      heads-long = length-set heads h v ∙ s .heads-long;
+      next-long = length-set next k c ∙ s .next-long;
+    }
+
+-- the first k are apart, and so is the next one
+pub apart-turn : (K : ℕ → Key) (k r : ℕ) → AllApart K k → Sought K k r → r ≤ 0 → AllApart K (k + 1)
+apart-turn K k r s q z a b l m =
+    below-more (λ (x : ℕ). a < x → K a ≡ K x → ⊥) k (λ x lx ax. s a x ax lx)
+    (λ ax e. q .clear (omega arith) a (omega arith) ax e) b m l
+
+pub found-twice : (K : ℕ → Key) (n k r : ℕ) → k < n → Sought K k r → r ≤ k → 0 < r → Twice K n
+found-twice K n k r h q l p =
+    record { a = r - 1; b = k; less = omega arith; below = h; same = q .hit p l }
+
+-- the test of two keys: the high halves first
+pub same-unless : (a b : Key) → (a .high ≡ b .high → ⊥) → false ≡ sameKey a b
+unfolding sameKey
+same-unless a b n = sym (ap (λ (t : Bool). t && eqb (a .low) (b .low)) (ne-eqb (a .high) (b .high) n))
+
+pub same-when : (a b : Key) → a .high ≡ b .high → eqb (a .low) (b .low) ≡ sameKey a b
+unfolding sameKey
+same-when a b e = sym (ap (λ (t : Bool). t && eqb (a .low) (b .low)) (eq-eqb (a .high) (b .high) e))
