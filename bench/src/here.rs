@@ -129,20 +129,23 @@ pub enum Call {
     Get,
 }
 
-/// Look-ups, one that is held and one that is not, in turn. In a store that isn't sound, none is found.
+/// Look-ups of a UUID that is held and of one that is not, in several stores by turns. In stores that aren't sound, none
+/// is found.
 pub struct Look {
-    pub store: Store,
+    pub stores: Vec<Store>,
+    pub lists: Vec<Vec<Uuid>>,
     pub sound: bool,
     pub call: Call,
-    pub held: Vec<Uuid>,
     pub absent: Vec<Uuid>,
     pub turn: usize,
     pub out: Vec<u8>,
 }
 
 impl Look {
-    fn one(&mut self, u: Uuid) -> bool {
-        let (i, t, out) = (black_box(&self.store.index), &self.store.text, &mut self.out);
+    /// A look-up in store k.
+    fn one(&mut self, k: usize, u: Uuid) -> bool {
+        let store = black_box(&self.stores[k]);
+        let (i, t, out) = (&store.index, &store.text, &mut self.out);
         let u = id(&black_box(u));
         if self.call == Call::Found {
             let look = unsafe { ffi::raspteal_store_found(i.as_ptr(), i.len(), t.as_ptr(), t.len(), u) };
@@ -164,15 +167,20 @@ impl Work for Look {
         self.turn += 1;
     }
     fn go(&mut self) {
-        let held = self.one(self.held[self.turn % self.held.len()]);
-        let absent = self.one(self.absent[self.turn % self.absent.len()]);
+        let n = self.stores.len();
+        // no store twice in a row, and places all over it
+        let (here, other) = (self.turn % n, (self.turn + n / 2) % n);
+        let list = &self.lists[here];
+        let (held, absent) = (list[self.turn * 7919 % list.len()], self.absent[self.turn % self.absent.len()]);
+        let (held, absent) = (self.one(here, held), self.one(other, absent));
         assert!(held == self.sound && !absent, "look-ups answer rightly");
     }
 }
 
-/// Save under the UUID of the first record, in a store that is put back before each call.
+/// Save under the UUID of the first record, in one store after the other, which are put back before each call.
 pub struct Save {
-    before: Store,
+    before: Vec<(Store, Uuid)>,
+    turn: usize,
     store: Store,
     data: ffi::MappingData,
     form: Form,
@@ -180,10 +188,12 @@ pub struct Save {
 }
 
 impl Save {
-    pub fn of(before: &Store, form: &Form, pad: &Pad) -> Self {
+    /// Stores, each with the UUID of its first record.
+    pub fn of(before: Vec<(Store, Uuid)>, form: &Form, pad: &Pad) -> Self {
         Save {
-            before: before.clone(),
-            store: before.clone(),
+            store: before[0].0.clone(),
+            before,
+            turn: 0,
             data: data(&form.slots),
             form: form.clone(),
             pad: pad.clone(),
@@ -196,7 +206,10 @@ impl Work for Save {
         1
     }
     fn prepare(&mut self) {
-        put_back(&mut self.store, &self.before);
+        self.turn += 1;
+        let (store, first) = &self.before[self.turn % self.before.len()];
+        put_back(&mut self.store, store);
+        self.form.uuid = *first;
     }
     fn go(&mut self) {
         let (s, n) = (&mut self.store, self.form.name.as_bytes());

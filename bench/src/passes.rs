@@ -13,30 +13,30 @@ fn sum(bytes: &[u8]) -> u64 {
 /// Passes in one go: a single copy is short beside a reading of the clock.
 const PASSES: usize = 8;
 
-/// Summing passes over both buffers.
-pub struct SumPass(pub Store);
+/// Summing passes over both buffers, one store after the other.
+pub struct SumPass(pub Vec<Store>);
 
 impl Work for SumPass {
     fn calls(&self) -> usize {
         PASSES
     }
     fn go(&mut self) {
-        for _ in 0..PASSES {
-            let s = black_box(&self.0);
+        for s in self.0.iter().cycle().take(PASSES) {
+            let s = black_box(s);
             black_box(sum(&s.index) + sum(&s.text));
         }
     }
 }
 
-/// Copies of both buffers.
+/// Copies of both buffers, one store after the other.
 pub struct CopyPass {
-    from: Store,
+    from: Vec<Store>,
     to: Store,
 }
 
 impl CopyPass {
-    pub fn of(from: Store) -> Self {
-        CopyPass { to: from.clone(), from }
+    pub fn of(from: Vec<Store>) -> Self {
+        CopyPass { to: from[0].clone(), from }
     }
 }
 
@@ -45,8 +45,8 @@ impl Work for CopyPass {
         PASSES
     }
     fn go(&mut self) {
-        for _ in 0..PASSES {
-            let from = black_box(&self.from);
+        for from in self.from.iter().cycle().take(PASSES) {
+            let from = black_box(from);
             self.to.index.copy_from_slice(&from.index);
             self.to.text.copy_from_slice(&from.text);
             black_box(&self.to);

@@ -68,10 +68,10 @@ fn case(label: String, port: impl Work + 'static, gilrs: impl Work + 'static) ->
     Case { family: String::new(), label, works: vec![(Side::Port, Box::new(port)), (Side::Gilrs, Box::new(gilrs))] }
 }
 
-/// The case with passes over a store beside it.
-fn with_passes(mut c: Case, s: &Store) -> Case {
-    c.works.push((Side::Sum, Box::new(SumPass(s.clone()))));
-    c.works.push((Side::Copy, Box::new(CopyPass::of(s.clone()))));
+/// The case with passes over the stores beside it.
+fn with_passes(mut c: Case, stores: Vec<Store>) -> Case {
+    c.works.push((Side::Sum, Box::new(SumPass(stores.clone()))));
+    c.works.push((Side::Copy, Box::new(CopyPass::of(stores))));
     c
 }
 
@@ -95,7 +95,7 @@ fn forms(lists: &[List]) -> Vec<Form> {
     let (buttons, axes) = (inputs::buttons(32), inputs::axes(16));
     let lines: Vec<&str> = lists.iter().flat_map(|l| inputs::mappings(&l.text)).collect();
     let names: Vec<&str> = lines.iter().filter_map(|l| l.split(',').nth(1)).collect();
-    let uuids = uuids::pads(64);
+    let uuids = uuids::pads(64, 0);
     let mut form = |uuid: &Uuid| {
         let (b, a) = (r.below(buttons.len()), r.below(axes.len()));
         let mut slots: Vec<(u16, u32)> = (1..20).map(|k| (k, buttons[(b + 5 * k as usize) % buttons.len()])).collect();
@@ -120,7 +120,7 @@ fn insert(lists: &[List]) -> Vec<Case> {
         let label = format!("{}, {} lines, {} bytes", l.name, text.lines().count(), text.len());
         let gilrs = rust::Insert::of("", &text);
         let port = here::Insert { before: fresh.clone(), store: fresh.clone(), text };
-        with_passes(case(label, port, gilrs), &fresh)
+        with_passes(case(label, port, gilrs), vec![fresh.clone()])
     };
     lists.iter().map(one).collect()
 }
@@ -144,7 +144,7 @@ fn filled(held: &[Uuid], list: &[Uuid], more: usize) -> Case {
 /// The list stays as it is: 56 lines that are held, from all over the store, and 8 new ones.
 fn insert_held(_: &[List]) -> Vec<Case> {
     let one = |n: &usize| {
-        let (held, new) = (uuids::pads(*n), uuids::random(8));
+        let (held, new) = (uuids::pads(*n, 0), uuids::random(8, 0));
         let mut r = Rng::new(8);
         let list: Vec<Uuid> =
             (0..64).map(|k| if k % 8 == 7 { new[k / 8] } else { held[(k * n / 64 + r.below(n / 64)) % n] }).collect();
@@ -156,7 +156,7 @@ fn insert_held(_: &[List]) -> Vec<Case> {
 /// The list grows with the store: the lines held in their order, and after each fifteen a new one.
 fn insert_again(_: &[List]) -> Vec<Case> {
     let one = |n: &usize| {
-        let (held, new) = (uuids::pads(*n), uuids::random(n / 16));
+        let (held, new) = (uuids::pads(*n, 0), uuids::random(n / 16, 0));
         let (mut list, mut next) = (Vec::new(), new.iter());
         for (k, u) in held.iter().enumerate().take(n - n / 16) {
             list.push(*u);
@@ -169,31 +169,29 @@ fn insert_again(_: &[List]) -> Vec<Case> {
     AGAIN.iter().map(one).collect()
 }
 
-fn look(call: Call, uuids: &[Uuid], store: Store, label: String) -> Case {
-    let n = uuids.len();
+/// Look-ups in several stores in turn, as many as have the records of four full ones: in a single small store, the
+/// processor would learn the branches of a sort by heart.
+fn look(call: Call, family: &Family, n: usize, buffers: [usize; 2], label: String) -> Case {
+    let lists: Vec<Vec<Uuid>> = (0..4 * FULL / n).map(|seed| (family.list)(n, seed as u64)).collect();
+    let stores: Vec<Store> = lists.iter().map(|l| inputs::store(l, 21, buffers[0], buffers[1])).collect();
     let mut r = Rng::new(10);
-    let held: Vec<Uuid> = (0..LOOKS).map(|_| r.pick(uuids)).collect();
-    let absent: Vec<Uuid> = uuids::random(n + LOOKS).split_off(n);
-    let gilrs = rust::Look::of(&text_of(uuids), &held, &absent);
-    let sound = uuids.iter().collect::<HashSet<_>>().len() == n;
-    let port = here::Look { store: store.clone(), sound, call, held, absent, turn: 0, out: vec![0; 4096] };
-    with_passes(case(label, port, gilrs), &store)
+    let held: Vec<Uuid> = (0..LOOKS).map(|_| r.pick(&lists[0])).collect();
+    let absent = uuids::random(LOOKS, 99);
+    let gilrs = rust::Look::of(&text_of(&lists[0]), &held, &absent);
+    let sound = lists[0].iter().collect::<HashSet<_>>().len() == n;
+    let port = here::Look { stores: stores.clone(), lists, sound, call, absent, turn: 0, out: vec![0; 4096] };
+    with_passes(case(label, port, gilrs), stores)
 }
 
 /// Full stores: 3120 records, buffers of 65535 bytes.
 fn full(call: Call, families: &[Family]) -> Vec<Case> {
-    let one = |f: &Family| {
-        let uuids = (f.list)(FULL);
-        look(call, &uuids, inputs::store(&uuids, 21, BUFFER, BUFFER), f.name.to_string())
-    };
-    families.iter().map(one).collect()
+    families.iter().map(|f| look(call, f, FULL, [BUFFER; 2], f.name.to_string())).collect()
 }
 
 /// Stores of doubling size; each one's buffers are full.
 fn growing(call: Call, families: &[Family]) -> Vec<Case> {
     let sized = |f: &Family, n: usize| {
-        let uuids = (f.list)(n);
-        let mut c = look(call, &uuids, inputs::store(&uuids, 21, RECORD * n, 21 * n), n.to_string());
+        let mut c = look(call, f, n, [RECORD * n, 21 * n], n.to_string());
         c.family = f.name.to_string();
         c.works.truncate(1);
         c
@@ -202,13 +200,14 @@ fn growing(call: Call, families: &[Family]) -> Vec<Case> {
 }
 
 fn save(lists: &[List]) -> Vec<Case> {
-    let uuids = uuids::pads(FULL);
-    let store = inputs::store(&uuids, 20, BUFFER, BUFFER);
+    let held: Vec<Vec<Uuid>> = (0..4).map(|seed| uuids::pads(FULL, seed)).collect();
+    let stores: Vec<Store> = held.iter().map(|l| inputs::store(l, 20, BUFFER, BUFFER)).collect();
     let mut form = forms(lists).swap_remove(0);
-    form.uuid = uuids[0];
-    let gilrs = rust::Save::of(&text_of(&uuids), &form, &pad());
-    let c = case("25 slots".to_string(), here::Save::of(&store, &form, &pad()), gilrs);
-    vec![with_passes(c, &store)]
+    form.uuid = held[0][0];
+    let gilrs = rust::Save::of(&text_of(&held[0]), &form, &pad());
+    let before = stores.iter().cloned().zip(held.iter().map(|l| l[0])).collect();
+    let c = case("25 slots".to_string(), here::Save::of(before, &form, &pad()), gilrs);
+    vec![with_passes(c, stores)]
 }
 
 /// A map of n codes, asked for each in mixed order and, once in eight, for a code that it lacks.

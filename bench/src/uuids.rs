@@ -2,9 +2,10 @@
 use harness::gen::Rng;
 use harness::plain::Uuid;
 
+/// Lists of one kind: of that many UUIDs, another one for each seed.
 pub struct Family {
     pub name: &'static str,
-    pub list: fn(usize) -> Vec<Uuid>,
+    pub list: fn(usize, u64) -> Vec<Uuid>,
 }
 
 pub const ORDINARY: [Family; 3] = [
@@ -14,17 +15,17 @@ pub const ORDINARY: [Family; 3] = [
 ];
 
 pub const CONSTRUCTED: [Family; 6] = [
-    Family { name: "one bucket", list: |n| one_bucket(n, multiple) },
-    Family { name: "one bucket, first halves alike", list: |n| one_bucket(n, |_| 0) },
+    Family { name: "one bucket", list: |n, seed| one_bucket(n, seed, multiple) },
+    Family { name: "one bucket, first halves alike", list: |n, seed| one_bucket(n, seed, |_| 0) },
     Family { name: "long chains", list: long_chains },
-    Family { name: "long chains, one too long", list: |n| too_long(n, multiple) },
-    Family { name: "long chains, one too long, first halves alike", list: |n| too_long(n, |_| 0) },
+    Family { name: "long chains, one too long", list: |n, seed| too_long(n, seed, multiple) },
+    Family { name: "long chains, one too long, first halves alike", list: |n, seed| too_long(n, seed, |_| 0) },
     Family { name: "one bucket, the last UUID twice", list: twice },
 ];
 
 /// As SDL makes them: bus, vendor, product and version, low byte first, each followed by two zeros.
-pub fn pads(n: usize) -> Vec<Uuid> {
-    let mut r = Rng::new(2);
+pub fn pads(n: usize, seed: u64) -> Vec<Uuid> {
+    let mut r = Rng::new(1000 + seed);
     let vendors: Vec<u16> = (0..n / 12 + 1).map(|_| r.next() as u16).collect();
     (0..n)
         .map(|i| {
@@ -39,13 +40,13 @@ pub fn pads(n: usize) -> Vec<Uuid> {
 }
 
 /// Version 4, as a generator makes them.
-pub fn random(n: usize) -> Vec<Uuid> {
-    let mut r = Rng::new(3);
+pub fn random(n: usize, seed: u64) -> Vec<Uuid> {
+    let mut r = Rng::new(2000 + seed);
     (0..n).map(|_| halves(r.next() << 11 ^ r.next(), r.next() << 11 ^ r.next())).collect()
 }
 
-fn ascending(n: usize) -> Vec<Uuid> {
-    (0..n as u128).map(u128::to_be_bytes).collect()
+fn ascending(n: usize, seed: u64) -> Vec<Uuid> {
+    (0..n as u128).map(|k| (seed as u128 * n as u128 + k).to_be_bytes()).collect()
 }
 
 /// The UUID whose first and last eight bytes are these numbers, high byte first.
@@ -64,31 +65,31 @@ fn multiple(r: &mut Rng) -> u64 {
 }
 
 /// All in bucket 0: the sort, at once. Where first halves are alike, each comparison has to look at both.
-fn one_bucket(n: usize, first: fn(&mut Rng) -> u64) -> Vec<Uuid> {
-    let mut r = Rng::new(4);
+fn one_bucket(n: usize, seed: u64, first: fn(&mut Rng) -> u64) -> Vec<Uuid> {
+    let mut r = Rng::new(3000 + seed);
     (0..n).map(|_| halves(first(&mut r), multiple(&mut r))).collect()
 }
 
 /// The store is damaged: look-ups refuse it, at the end of the sort.
-fn twice(n: usize) -> Vec<Uuid> {
-    let mut u = one_bucket(n - 1, multiple);
+fn twice(n: usize, seed: u64) -> Vec<Uuid> {
+    let mut u = one_bucket(n - 1, seed, multiple);
     u.extend(u.last().copied());
     u
 }
 
 /// As many as can be in each bucket: each UUID is compared with all before it there, and nothing is sorted.
-fn long_chains(n: usize) -> Vec<Uuid> {
-    chains(n, n.div_ceil(CHAIN), multiple)
+fn long_chains(n: usize, seed: u64) -> Vec<Uuid> {
+    chains(n, n.div_ceil(CHAIN), seed, multiple)
 }
 
 /// The same, and one more in the first bucket at the end: all the comparisons, and then the sort.
-fn too_long(n: usize, first: fn(&mut Rng) -> u64) -> Vec<Uuid> {
-    let mut u = chains(n - 1, (n - 1).div_ceil(CHAIN), first);
+fn too_long(n: usize, seed: u64, first: fn(&mut Rng) -> u64) -> Vec<Uuid> {
+    let mut u = chains(n - 1, (n - 1).div_ceil(CHAIN), seed, first);
     u.push(halves(0, 0));
     u
 }
 
-fn chains(n: usize, buckets: usize, first: fn(&mut Rng) -> u64) -> Vec<Uuid> {
-    let mut r = Rng::new(5);
+fn chains(n: usize, buckets: usize, seed: u64, first: fn(&mut Rng) -> u64) -> Vec<Uuid> {
+    let mut r = Rng::new(4000 + seed);
     (0..n).map(|k| halves(first(&mut r), multiple(&mut r) + (k % buckets) as u64)).collect()
 }
