@@ -129,8 +129,8 @@ pub enum Call {
     Get,
 }
 
-/// Look-ups of a UUID that is held and of one that is not, in several stores by turns. In stores that aren't sound, none
-/// is found.
+/// Look-ups of a UUID that is held and of one that is not, in several stores by turns. In stores that aren't sound,
+/// none is found.
 pub struct Look {
     pub stores: Vec<Store>,
     pub lists: Vec<Vec<Uuid>>,
