@@ -1,0 +1,160 @@
+// The commands that look into a store: find, list, check.
+use crate::fields::section;
+use crate::files::HALF;
+use crate::files::load;
+use crate::say::DONE;
+use crate::say::REFUSED;
+use crate::say::TROUBLE;
+use crate::say::complain;
+use crate::say::refused;
+use crate::say::say;
+use crate::say::say_number;
+use store::calls::Look;
+use store::calls::found;
+use store::calls::get;
+use text::uuid::Uuid;
+use text::uuid::UuidParse;
+
+// The bytes of a record of the index, and the place of the line's length in it.
+const RECORD: usize = 21;
+
+const LENGTH: usize = 19;
+
+// The lines held, their bytes, and the end of their records.
+struct Extent {
+    lines: usize,
+    bytes: usize,
+    records: usize,
+}
+
+pub fn no_uuid(key: &[u8]) -> u8 {
+    complain(key);
+    complain(b": no UUID; it has 32 hexadecimal digits, or 36 characters with hyphens\n");
+    TROUBLE
+}
+
+// Prints the line held under a UUID.
+pub fn say_line(index: &[u8], text: &[u8], id: Uuid) -> u8 {
+    let look = found(index, text, id);
+    match look {
+        Look::Found => {
+            say(get(index, text, id));
+            say(b"\n");
+            DONE
+        }
+        Look::Missing => {
+            say(b"none\n");
+            REFUSED
+        }
+        Look::Unsound => refused(19),
+    }
+}
+
+fn find_held(store: &[u8], id: Uuid) -> u8 {
+    let mut index = [0u8; HALF];
+    let mut text = [0u8; HALF];
+    let status = load(store, &mut index, &mut text);
+    if status != DONE {
+        return status;
+    }
+    say_line(&index, &text, id)
+}
+
+// `hub find STORE UUID`
+pub fn find_line(store: &[u8], key: &[u8]) -> u8 {
+    let parsed = Uuid::parse_str(key);
+    match parsed {
+        UuidParse::Parsed(id) => find_held(store, id),
+        UuidParse::Invalid => no_uuid(key),
+    }
+}
+
+fn word(high: u8, low: u8) -> usize {
+    (high as usize) * 256 + low as usize
+}
+
+// The length of the line whose record starts at `at`.
+fn line_len(index: &[u8], at: usize) -> usize {
+    let record = section(index, at, RECORD);
+    if record.len() == RECORD {
+        return word(record[LENGTH], record[LENGTH + 1]);
+    }
+    0
+}
+
+// Goes through the records of a sound store; `shown`: prints each line.
+fn held(index: &[u8], text: &[u8], shown: bool) -> Extent {
+    let mut lines: usize = 0;
+    let mut bytes: usize = 0;
+    let mut at: usize = 0;
+    while at < index.len() {
+        let len = line_len(index, at);
+        if len == 0 {
+            return Extent {
+                lines,
+                bytes,
+                records: at,
+            };
+        }
+        if shown {
+            say(section(text, bytes, len));
+            say(b"\n");
+        }
+        lines = std::num::wrapping_add_usize(lines, 1);
+        bytes = std::num::wrapping_add_usize(bytes, len);
+        if index.len() - at < RECORD {
+            return Extent {
+                lines,
+                bytes,
+                records: at,
+            };
+        }
+        at += RECORD;
+    }
+    Extent {
+        lines,
+        bytes,
+        records: at,
+    }
+}
+
+fn left(room: usize, used: usize) -> usize {
+    if used < room {
+        return room - used;
+    }
+    0
+}
+
+fn say_held(held: Extent) {
+    say_number(held.lines);
+    say(b" lines held, of ");
+    say_number(held.bytes);
+    say(b" bytes; room for ");
+    say_number(left(HALF, held.records) / RECORD);
+    say(b" more lines and ");
+    say_number(left(HALF, held.bytes));
+    say(b" more bytes\n");
+}
+
+pub fn say_store(index: &[u8], text: &[u8], shown: bool) -> u8 {
+    let look = found(index, text, Uuid::NIL);
+    if let Look::Unsound = look {
+        return refused(19);
+    }
+    if !shown {
+        say(b"sound: ");
+    }
+    say_held(held(index, text, shown));
+    DONE
+}
+
+// `hub list STORE` where the lines are shown, `hub check STORE` where not.
+pub fn list_store(store: &[u8], shown: bool) -> u8 {
+    let mut index = [0u8; HALF];
+    let mut text = [0u8; HALF];
+    let status = load(store, &mut index, &mut text);
+    if status != DONE {
+        return status;
+    }
+    say_store(&index, &text, shown)
+}

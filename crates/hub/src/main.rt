@@ -1,0 +1,117 @@
+// The command line for support staff, with a hall's store file and lists of mapping lines.
+mod fields;
+mod files;
+mod filing;
+mod help;
+mod holding;
+mod say;
+
+use files::ARG_ROOM;
+use help::wrong_use;
+use say::TROUBLE;
+use say::complain;
+use text::bytes::same_bytes;
+
+fn nth(at: usize, n: usize) -> usize {
+    std::num::wrapping_add_usize(at, n)
+}
+
+// How many arguments stand after the one at `at`.
+fn given_after(at: usize) -> usize {
+    let count = os::arg_count();
+    if at < count {
+        return count - at - 1;
+    }
+    0
+}
+
+// Whether it is that command, with so many arguments.
+fn is(command: &[u8], name: &[u8], given: usize, wanted: usize) -> bool {
+    if given != wanted {
+        return false;
+    }
+    same_bytes(command, name)
+}
+
+fn run_command(command: &[u8], given: usize, a: &[u8], b: &[u8]) -> u8 {
+    if is(command, b"find", given, 2) {
+        return holding::find_line(a, b);
+    }
+    if is(command, b"insert", given, 2) {
+        return filing::insert_list(a, b);
+    }
+    if is(command, b"list", given, 1) {
+        return holding::list_store(a, true);
+    }
+    if is(command, b"check", given, 1) {
+        return holding::list_store(a, false);
+    }
+    if is(command, b"new", given, 1) {
+        return filing::new_store(a);
+    }
+    if is(command, b"clear", given, 1) {
+        return filing::clear_store(a);
+    }
+    if is(command, b"help", given, 1) {
+        return help::help_on(a);
+    }
+    if is(command, b"help", given, 0) {
+        return help::help();
+    }
+    wrong_use(command)
+}
+
+// Runs the command at argument `at`.
+fn run(at: usize) -> u8 {
+    let given = given_after(at);
+    let mut command = [0u8; ARG_ROOM];
+    let n = os::arg(at, &mut command);
+    let mut a = [0u8; ARG_ROOM];
+    let an = os::arg(nth(at, 1), &mut a);
+    let mut b = [0u8; ARG_ROOM];
+    let bn = os::arg(nth(at, 2), &mut b);
+    if os::arg_count() <= at {
+        return help::help();
+    }
+    run_command(&command[..n], given, &a[..an], &b[..bn])
+}
+
+// Whether an argument is no longer than the most.
+fn has_room(i: usize) -> bool {
+    let mut space = [0u8; ARG_ROOM];
+    os::arg(i, &mut space);
+    os::errno() != libc::ENAMETOOLONG
+}
+
+// Whether all arguments are.
+fn all_have_room() -> bool {
+    let count = os::arg_count();
+    let mut i: usize = 1;
+    while i < count {
+        if !has_room(i) {
+            return false;
+        }
+        i += 1;
+    }
+    true
+}
+
+fn run_all(at: usize) -> u8 {
+    if all_have_room() {
+        return run(at);
+    }
+    complain(b"an argument may have at most 16384 bytes\n");
+    TROUBLE
+}
+
+// A Rattle program ends with status 0. After `--status` the command's status is written to descriptor 3, from which the
+// script `hub` takes it.
+fn main() {
+    let mut space = [0u8; ARG_ROOM];
+    let n = os::arg(1, &mut space);
+    if same_bytes(&space[..n], b"--status") {
+        io::print_decimal(3, run_all(2) as u64);
+        return;
+    }
+    run_all(1);
+}
