@@ -1,10 +1,17 @@
-// The command line for support staff, with a hall's store file and lists of mapping lines.
+// The command line for support staff, with a hall's store file, lists of mapping lines and a pad's codes.
+mod codes;
+mod demo;
+mod elements;
 mod fields;
 mod files;
 mod filing;
 mod help;
 mod holding;
+mod lint;
+mod mappings;
 mod say;
+mod slots;
+mod table;
 
 use files::ARG_ROOM;
 use help::wrong_use;
@@ -33,7 +40,29 @@ fn is(command: &[u8], name: &[u8], given: usize, wanted: usize) -> bool {
     same_bytes(command, name)
 }
 
-fn run_command(command: &[u8], given: usize, a: &[u8], b: &[u8]) -> u8 {
+// The same, with that many or more.
+fn is_long(command: &[u8], name: &[u8], given: usize, wanted: usize) -> bool {
+    if given < wanted {
+        return false;
+    }
+    same_bytes(command, name)
+}
+
+// The commands on mappings, whose further arguments are pairs.
+fn run_long(command: &[u8], at: usize, given: usize, a: &[u8], b: &[u8]) -> u8 {
+    if is_long(command, b"save", given, 3) {
+        return mappings::save_mapping(a, b, nth(at, 3));
+    }
+    if is_long(command, b"show", given, 2) {
+        return mappings::show_mapping(a, b, nth(at, 3));
+    }
+    if is_long(command, b"default", given, 0) {
+        return mappings::default_mapping(nth(at, 1));
+    }
+    wrong_use(command)
+}
+
+fn run_command(command: &[u8], at: usize, given: usize, a: &[u8], b: &[u8]) -> u8 {
     if is(command, b"find", given, 2) {
         return holding::find_line(a, b);
     }
@@ -52,13 +81,19 @@ fn run_command(command: &[u8], given: usize, a: &[u8], b: &[u8]) -> u8 {
     if is(command, b"clear", given, 1) {
         return filing::clear_store(a);
     }
+    if is(command, b"lint", given, 1) {
+        return lint::lint_list(a);
+    }
+    if is(command, b"demo", given, 0) {
+        return demo::demo();
+    }
     if is(command, b"help", given, 1) {
         return help::help_on(a);
     }
     if is(command, b"help", given, 0) {
         return help::help();
     }
-    wrong_use(command)
+    run_long(command, at, given, a, b)
 }
 
 // Runs the command at argument `at`.
@@ -73,7 +108,7 @@ fn run(at: usize) -> u8 {
     if os::arg_count() <= at {
         return help::help();
     }
-    run_command(&command[..n], given, &a[..an], &b[..bn])
+    run_command(&command[..n], at, given, &a[..an], &b[..bn])
 }
 
 // Whether an argument is no longer than the most.
