@@ -3,7 +3,7 @@ use crate::fields::after;
 use crate::fields::after_part;
 use crate::fields::before;
 use crate::fields::part_at;
-use crate::files::ARG_ROOM;
+use crate::files::arg_space;
 use crate::say::complain;
 use text::bytes::same_bytes;
 use text::bytes::write_bytes;
@@ -26,13 +26,6 @@ pub enum CodeParse {
     Invalid,
 }
 
-fn narrowed(n: u64) -> CodeParse {
-    if n < 0x100000000 {
-        return CodeParse::Parsed(n as u32);
-    }
-    CodeParse::Invalid
-}
-
 // The number that 1 to 8 hexadecimal digits spell. Behind enough zeros they are a UUID, and its reader reads them.
 pub fn parse_code(s: &[u8]) -> CodeParse {
     if s.len() == 0 {
@@ -44,10 +37,12 @@ pub fn parse_code(s: &[u8]) -> CodeParse {
     let mut digits = [b'0'; 32];
     write_bytes(&mut digits, 32 - s.len(), s);
     let parsed = Uuid::parse_str(&digits);
-    match parsed {
-        UuidParse::Parsed(id) => narrowed(id.low),
-        UuidParse::Invalid => CodeParse::Invalid,
+    if let UuidParse::Parsed(id) = parsed {
+        if id.low < 0x100000000 {
+            return CodeParse::Parsed(id.low as u32);
+        }
     }
+    CodeParse::Invalid
 }
 
 // One code more; none past the end.
@@ -116,7 +111,7 @@ fn with_parts(codes: Codes, s: &[u8]) -> Codes {
 
 // Argument `i` after the codes, where it is `KEY=CODES`.
 fn with_arg(codes: Codes, key: &[u8], i: usize) -> Codes {
-    let mut space = [0u8; ARG_ROOM];
+    let mut space = arg_space();
     let n = os::arg(i, &mut space);
     let pair = &space[..n];
     if same_bytes(before(pair, b'='), key) {

@@ -1,5 +1,5 @@
 // The main job in one go, on a store in memory and a small list. Each step is headed by the command that does the same.
-use crate::files::HALF;
+use crate::files::half;
 use crate::filing::say_inserted;
 use crate::holding::say_line;
 use crate::holding::say_store;
@@ -49,8 +49,8 @@ fn save_pad(index: &mut [u8], text: &mut [u8]) -> u8 {
 
 // `hub demo`
 pub fn demo() -> u8 {
-    let mut index = [0u8; HALF];
-    let mut text = [0u8; HALF];
+    let mut index = half();
+    let mut text = half();
     say(b"1. hub new STORE: a fresh store\n\n");
     say_store(&index, &text, false);
     say(b"\n2. hub insert STORE FILE: a list of four lines\n\n");

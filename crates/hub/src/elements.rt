@@ -13,11 +13,36 @@ use line::tables::ident_of;
 use text::bytes::same_bytes;
 
 // The source's names, by number.
-const BUTTON_NAMES: [u8; 159] =
-    *b"Unknown,South,East,C,North,West,Z,LeftTrigger,RightTrigger,LeftTrigger2,RightTrigger2,Select,Start,Mode,LeftThumb,RightThumb,DPadUp,DPadDown,DPadLeft,DPadRight";
+const BUTTON_NAMES: [u8; 159] = *b"Unknown
+South
+East
+C
+North
+West
+Z
+LeftTrigger
+RightTrigger
+LeftTrigger2
+RightTrigger2
+Select
+Start
+Mode
+LeftThumb
+RightThumb
+DPadUp
+DPadDown
+DPadLeft
+DPadRight";
 
-const AXIS_NAMES: [u8; 78] =
-    *b"Unknown,LeftStickX,LeftStickY,LeftZ,RightStickX,RightStickY,RightZ,DPadX,DPadY";
+const AXIS_NAMES: [u8; 78] = *b"Unknown
+LeftStickX
+LeftStickY
+LeftZ
+RightStickX
+RightStickY
+RightZ
+DPadX
+DPadY";
 
 const NOWHERE: u16 = 65535;
 
@@ -26,11 +51,11 @@ fn name_place(names: &[u8], key: &[u8]) -> u16 {
     let mut at: usize = 0;
     let mut i: u16 = 0;
     while at < names.len() {
-        if same_bytes(part_at(names, at, b','), key) {
+        if same_bytes(part_at(names, at, b'\n'), key) {
             return i;
         }
         i = std::num::wrapping_add_u16(i, 1);
-        at = after_part(names, at, b',');
+        at = after_part(names, at, b'\n');
     }
     NOWHERE
 }
@@ -70,10 +95,10 @@ fn say_ident(e: AxisOrBtn) {
 pub fn say_element(e: AxisOrBtn) {
     match e {
         AxisOrBtn::Btn(b) => {
-            say(nth_part(&BUTTON_NAMES, b.0 as usize, b','));
+            say(nth_part(&BUTTON_NAMES, b.0 as usize, b'\n'));
         }
         AxisOrBtn::Axis(a) => {
-            say(nth_part(&AXIS_NAMES, a.0 as usize, b','));
+            say(nth_part(&AXIS_NAMES, a.0 as usize, b'\n'));
         }
     }
     say_ident(e);

@@ -71,6 +71,14 @@ pub fn line_at(s: &[u8], at: usize) -> &[u8] {
     &s[..0]
 }
 
+// What is left of `a` after `b`, or nothing.
+pub fn less(a: usize, b: usize) -> usize {
+    if b < a {
+        return a - b;
+    }
+    0
+}
+
 // Part `n` of those that end at a `b`, from 0 on; nothing past the last.
 pub fn nth_part(s: &[u8], n: usize, b: u8) -> &[u8] {
     let mut at: usize = 0;

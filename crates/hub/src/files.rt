@@ -1,6 +1,8 @@
 // Files: a store is the index and then the text, HALF bytes each. A new store is written beside the old one, into
-// STORE.new, and takes its place by a rename. STORE.new is made before the store is read, so that of two hubs at work on
-// one store the second is turned away.
+// STORE.new, and takes its place by a rename. STORE.new is made before the store is read, so that of two hubs at work
+// on one store the second is turned away.
+ghost use mathlib.Core.Path.{_≡_};
+ghost use lib.ListN.{length};
 use crate::fields::first;
 use crate::say::DONE;
 use crate::say::TROUBLE;
@@ -11,12 +13,32 @@ use text::bytes::write_bytes;
 pub const HALF: usize = 65535;
 
 // The most bytes of a list.
-pub const LIST_ROOM: usize = 262144;
+pub const LIST_ROOM: usize = 1048576;
 
 // The most bytes of an argument, and then of a path made of one.
 pub const ARG_ROOM: usize = 16384;
 
 const PATH_ROOM: usize = 16388;
+
+// The room for half a store, for a list and for an argument. The length is said, since a repeat of so many is long to
+// count.
+pub fn half() -> [u8; HALF]
+    ensures { λ r. ⌜ 65535 ≡ length r ⌝ }
+{
+    [0u8; HALF]
+}
+
+pub fn list_space() -> [u8; LIST_ROOM]
+    ensures { λ r. ⌜ 1048576 ≡ length r ⌝ }
+{
+    [0u8; LIST_ROOM]
+}
+
+pub fn arg_space() -> [u8; ARG_ROOM]
+    ensures { λ r. ⌜ 16384 ≡ length r ⌝ }
+{
+    [0u8; ARG_ROOM]
+}
 
 struct Path {
     bytes: [u8; PATH_ROOM],
@@ -48,7 +70,7 @@ pub fn read_list(path: &[u8], space: &mut [u8]) -> List {
     }
     if over > 0 {
         complain(path);
-        complain(b": a list may have at most 262144 bytes\n");
+        complain(b": a list may have at most 1048576 bytes\n");
         return List::Failed;
     }
     List::Read(n)
@@ -136,16 +158,6 @@ fn written(fd: i32, index: &[u8], text: &[u8]) -> bool {
     true
 }
 
-fn renamed(store: &[u8]) -> bool {
-    let path = beside(store);
-    let bytes = path.bytes;
-    let moved = os::rename(first(&bytes, path.len), store);
-    if moved < 0 {
-        return false;
-    }
-    true
-}
-
 // Says why the store could not be written.
 fn unwritten(store: &[u8], fd: i32) -> u8 {
     os::fail(store);
@@ -159,7 +171,10 @@ pub fn replace(store: &[u8], fd: i32, index: &[u8], text: &[u8]) -> u8 {
     if !written(fd, index, text) {
         return unwritten(store, fd);
     }
-    if !renamed(store) {
+    let path = beside(store);
+    let bytes = path.bytes;
+    let moved = os::rename(first(&bytes, path.len), store);
+    if moved < 0 {
         return unwritten(store, fd);
     }
     libc::close(fd);

@@ -2,17 +2,16 @@
 use crate::fields::after_part;
 use crate::fields::first;
 use crate::fields::line_at;
-use crate::files::HALF;
-use crate::files::LIST_ROOM;
 use crate::files::List;
 use crate::files::abandon;
 use crate::files::begin;
+use crate::files::half;
+use crate::files::list_space;
 use crate::files::load;
 use crate::files::read_list;
 use crate::files::replace;
 use crate::files::stands;
 use crate::say::DONE;
-use crate::say::REFUSED;
 use crate::say::TROUBLE;
 use crate::say::complain;
 use crate::say::refused;
@@ -42,8 +41,8 @@ pub fn new_store(store: &[u8]) -> u8 {
         complain(b": the file stands already, and is left alone\n");
         return TROUBLE;
     }
-    let index = [0u8; HALF];
-    let text = [0u8; HALF];
+    let index = half();
+    let text = half();
     let status = replace(store, fd, &index, &text);
     if status == DONE {
         say(b"a fresh store: ");
@@ -137,8 +136,8 @@ fn has_filed(answer: Answer) -> bool {
 }
 
 fn insert_text(store: &[u8], fd: i32, list: &[u8]) -> u8 {
-    let mut index = [0u8; HALF];
-    let mut text = [0u8; HALF];
+    let mut index = half();
+    let mut text = half();
     let status = load(store, &mut index, &mut text);
     if status != DONE {
         abandon(store, fd);
@@ -159,7 +158,7 @@ fn insert_text(store: &[u8], fd: i32, list: &[u8]) -> u8 {
 
 // `hub insert STORE FILE`
 pub fn insert_list(store: &[u8], path: &[u8]) -> u8 {
-    let mut space = [0u8; LIST_ROOM];
+    let mut space = list_space();
     match read_list(path, &mut space) {
         List::Read(n) => {
             let fd = begin(store);
@@ -172,37 +171,27 @@ pub fn insert_list(store: &[u8], path: &[u8]) -> u8 {
     }
 }
 
-fn say_cleared(answer: Answer) -> u8 {
-    match answer {
-        Answer::BufferTooLarge => refused(23),
-        Answer::Done => {
-            say(b"cleared: 0 lines held\n");
-            DONE
-        }
-        Answer::NotUtf8(_) => REFUSED,
-        Answer::Unsound => REFUSED,
-        Answer::LineTooLong => REFUSED,
-        Answer::NoRoom => REFUSED,
-    }
-}
-
 // `hub clear STORE`
 pub fn clear_store(store: &[u8]) -> u8 {
     let fd = begin(store);
     if fd < 0 {
         return TROUBLE;
     }
-    let mut index = [0u8; HALF];
-    let mut text = [0u8; HALF];
+    let mut index = half();
+    let mut text = half();
     let status = load(store, &mut index, &mut text);
     if status != DONE {
         abandon(store, fd);
         return status;
     }
     let answer = clear(&mut index, &mut text);
-    let status = replace(store, fd, &index, &text);
-    if status != DONE {
+    if let Answer::Done = answer {
+        let status = replace(store, fd, &index, &text);
+        if status == DONE {
+            say(b"cleared: 0 lines held\n");
+        }
         return status;
     }
-    say_cleared(answer)
+    abandon(store, fd);
+    refused(23)
 }

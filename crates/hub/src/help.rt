@@ -43,7 +43,7 @@ fn say_filing(command: &[u8]) -> bool {
     if same_bytes(command, b"insert") {
         say(
             b"hub insert STORE FILE
-  Files the lines of a list of at most 262144 bytes; lines end at LF or CR LF. A line is
+  Files the lines of a list of at most 1048576 bytes; lines end at LF or CR LF. A line is
   wanted when its first field is a UUID, and its 'platform:', if any, says Linux. A line
   filed earlier under the same UUID is replaced. Says how many lines were walked, filed and
   unwanted. It stops at a wanted line that is too long (20) or has no room (21), says at
@@ -134,7 +134,7 @@ fn say_lint(command: &[u8]) -> bool {
     if same_bytes(command, b"lint") {
         say(
             b"hub lint FILE
-  Reads every line of a list of at most 262144 bytes, and shows each refused one with its
+  Reads every line of a list of at most 1048576 bytes, and shows each refused one with its
   number, its meaning and a mark under the place, which counts bytes from 0. Bytes that are
   no printable ASCII are shown as dots. Lines that start with # are comments, and not read.
 ",

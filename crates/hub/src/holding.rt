@@ -1,6 +1,8 @@
 // The commands that look into a store: find, list, check.
+use crate::fields::less;
 use crate::fields::section;
 use crate::files::HALF;
+use crate::files::half;
 use crate::files::load;
 use crate::say::DONE;
 use crate::say::REFUSED;
@@ -51,8 +53,8 @@ pub fn say_line(index: &[u8], text: &[u8], id: Uuid) -> u8 {
 }
 
 fn find_held(store: &[u8], id: Uuid) -> u8 {
-    let mut index = [0u8; HALF];
-    let mut text = [0u8; HALF];
+    let mut index = half();
+    let mut text = half();
     let status = load(store, &mut index, &mut text);
     if status != DONE {
         return status;
@@ -118,21 +120,14 @@ fn held(index: &[u8], text: &[u8], shown: bool) -> Extent {
     }
 }
 
-fn left(room: usize, used: usize) -> usize {
-    if used < room {
-        return room - used;
-    }
-    0
-}
-
 fn say_held(held: Extent) {
     say_number(held.lines);
     say(b" lines held, of ");
     say_number(held.bytes);
     say(b" bytes; room for ");
-    say_number(left(HALF, held.records) / RECORD);
+    say_number(less(HALF, held.records) / RECORD);
     say(b" more lines and ");
-    say_number(left(HALF, held.bytes));
+    say_number(less(HALF, held.bytes));
     say(b" more bytes\n");
 }
 
@@ -150,8 +145,8 @@ pub fn say_store(index: &[u8], text: &[u8], shown: bool) -> u8 {
 
 // `hub list STORE` where the lines are shown, `hub check STORE` where not.
 pub fn list_store(store: &[u8], shown: bool) -> u8 {
-    let mut index = [0u8; HALF];
-    let mut text = [0u8; HALF];
+    let mut index = half();
+    let mut text = half();
     let status = load(store, &mut index, &mut text);
     if status != DONE {
         return status;

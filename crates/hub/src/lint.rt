@@ -3,8 +3,8 @@ use crate::codes::first_codes;
 use crate::fields::after_part;
 use crate::fields::first;
 use crate::fields::line_at;
-use crate::files::LIST_ROOM;
 use crate::files::List;
+use crate::files::list_space;
 use crate::files::read_list;
 use crate::say::DONE;
 use crate::say::REFUSED;
@@ -15,6 +15,7 @@ use crate::table::reading_refused;
 use line::reading::SdlAnswer;
 use line::reading::parse_sdl_mapping;
 use std::num::wrapping_add_usize;
+use text::bytes::same_bytes;
 
 struct Tally {
     lines: usize,
@@ -43,13 +44,6 @@ fn bare(s: &[u8]) -> &[u8] {
     without(line, b'\r')
 }
 
-fn is_comment(line: &[u8]) -> bool {
-    if line.len() == 0 {
-        return false;
-    }
-    line[0] == b'#'
-}
-
 // Reads a line, and shows it where it is refused.
 fn is_refused(line: &[u8], number: usize) -> bool {
     let none = [0u32; 1];
@@ -72,7 +66,7 @@ fn with_line(tally: Tally, line: &[u8]) -> Tally {
     let mut next = tally;
     let number = wrapping_add_usize(tally.lines, 1);
     next.lines = number;
-    if is_comment(line) {
+    if same_bytes(first(line, 1), b"#") {
         next.comments = wrapping_add_usize(tally.comments, 1);
         return next;
     }
@@ -111,7 +105,7 @@ fn lint_text(list: &[u8]) -> u8 {
 
 // `hub lint FILE`
 pub fn lint_list(path: &[u8]) -> u8 {
-    let mut space = [0u8; LIST_ROOM];
+    let mut space = list_space();
     match read_list(path, &mut space) {
         List::Read(n) => lint_text(first(&space, n)),
         List::Failed => TROUBLE,

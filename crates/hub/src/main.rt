@@ -13,11 +13,14 @@ mod say;
 mod slots;
 mod table;
 
-use files::ARG_ROOM;
+use files::arg_space;
 use help::wrong_use;
 use say::TROUBLE;
 use say::complain;
 use text::bytes::same_bytes;
+
+// More arguments than there are.
+const MANY: usize = 4294967295;
 
 fn nth(at: usize, n: usize) -> usize {
     std::num::wrapping_add_usize(at, n)
@@ -32,17 +35,12 @@ fn given_after(at: usize) -> usize {
     0
 }
 
-// Whether it is that command, with so many arguments.
-fn is(command: &[u8], name: &[u8], given: usize, wanted: usize) -> bool {
-    if given != wanted {
+// Whether it is that command, with at least and at most so many arguments.
+fn is(command: &[u8], name: &[u8], given: usize, least: usize, most: usize) -> bool {
+    if given < least {
         return false;
     }
-    same_bytes(command, name)
-}
-
-// The same, with that many or more.
-fn is_long(command: &[u8], name: &[u8], given: usize, wanted: usize) -> bool {
-    if given < wanted {
+    if most < given {
         return false;
     }
     same_bytes(command, name)
@@ -50,47 +48,47 @@ fn is_long(command: &[u8], name: &[u8], given: usize, wanted: usize) -> bool {
 
 // The commands on mappings, whose further arguments are pairs.
 fn run_long(command: &[u8], at: usize, given: usize, a: &[u8], b: &[u8]) -> u8 {
-    if is_long(command, b"save", given, 3) {
+    if is(command, b"save", given, 3, MANY) {
         return mappings::save_mapping(a, b, nth(at, 3));
     }
-    if is_long(command, b"show", given, 2) {
+    if is(command, b"show", given, 2, MANY) {
         return mappings::show_mapping(a, b, nth(at, 3));
     }
-    if is_long(command, b"default", given, 0) {
+    if is(command, b"default", given, 0, MANY) {
         return mappings::default_mapping(nth(at, 1));
     }
     wrong_use(command)
 }
 
 fn run_command(command: &[u8], at: usize, given: usize, a: &[u8], b: &[u8]) -> u8 {
-    if is(command, b"find", given, 2) {
+    if is(command, b"find", given, 2, 2) {
         return holding::find_line(a, b);
     }
-    if is(command, b"insert", given, 2) {
+    if is(command, b"insert", given, 2, 2) {
         return filing::insert_list(a, b);
     }
-    if is(command, b"list", given, 1) {
+    if is(command, b"list", given, 1, 1) {
         return holding::list_store(a, true);
     }
-    if is(command, b"check", given, 1) {
+    if is(command, b"check", given, 1, 1) {
         return holding::list_store(a, false);
     }
-    if is(command, b"new", given, 1) {
+    if is(command, b"new", given, 1, 1) {
         return filing::new_store(a);
     }
-    if is(command, b"clear", given, 1) {
+    if is(command, b"clear", given, 1, 1) {
         return filing::clear_store(a);
     }
-    if is(command, b"lint", given, 1) {
+    if is(command, b"lint", given, 1, 1) {
         return lint::lint_list(a);
     }
-    if is(command, b"demo", given, 0) {
+    if is(command, b"demo", given, 0, 0) {
         return demo::demo();
     }
-    if is(command, b"help", given, 1) {
+    if is(command, b"help", given, 1, 1) {
         return help::help_on(a);
     }
-    if is(command, b"help", given, 0) {
+    if is(command, b"help", given, 0, 0) {
         return help::help();
     }
     run_long(command, at, given, a, b)
@@ -99,11 +97,11 @@ fn run_command(command: &[u8], at: usize, given: usize, a: &[u8], b: &[u8]) -> u
 // Runs the command at argument `at`.
 fn run(at: usize) -> u8 {
     let given = given_after(at);
-    let mut command = [0u8; ARG_ROOM];
+    let mut command = arg_space();
     let n = os::arg(at, &mut command);
-    let mut a = [0u8; ARG_ROOM];
+    let mut a = arg_space();
     let an = os::arg(nth(at, 1), &mut a);
-    let mut b = [0u8; ARG_ROOM];
+    let mut b = arg_space();
     let bn = os::arg(nth(at, 2), &mut b);
     if os::arg_count() <= at {
         return help::help();
@@ -113,7 +111,7 @@ fn run(at: usize) -> u8 {
 
 // Whether an argument is no longer than the most.
 fn has_room(i: usize) -> bool {
-    let mut space = [0u8; ARG_ROOM];
+    let mut space = arg_space();
     os::arg(i, &mut space);
     os::errno() != libc::ENAMETOOLONG
 }
@@ -142,7 +140,7 @@ fn run_all(at: usize) -> u8 {
 // A Rattle program ends with status 0. After `--status` the command's status is written to descriptor 3, from which the
 // script `hub` takes it.
 fn main() {
-    let mut space = [0u8; ARG_ROOM];
+    let mut space = arg_space();
     let n = os::arg(1, &mut space);
     if same_bytes(&space[..n], b"--status") {
         io::print_decimal(3, run_all(2) as u64);

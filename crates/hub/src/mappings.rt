@@ -2,10 +2,10 @@
 use crate::codes::Codes;
 use crate::codes::codes_named;
 use crate::codes::first_codes;
-use crate::files::ARG_ROOM;
-use crate::files::HALF;
 use crate::files::abandon;
+use crate::files::arg_space;
 use crate::files::begin;
+use crate::files::half;
 use crate::files::load;
 use crate::files::replace;
 use crate::holding::no_uuid;
@@ -50,24 +50,25 @@ fn asked_from(from: usize) -> Request {
     }
 }
 
-// Whether an argument is none; it was said.
-fn is_bad(asked: Request) -> bool {
+// Whether all arguments were understood, and fill slots only where `slots` asks for them.
+fn is_good(asked: Request, slots: bool) -> bool {
     if asked.buttons.bad {
-        return true;
+        return false;
     }
     if asked.axes.bad {
+        return false;
+    }
+    if asked.slots.bad {
+        return false;
+    }
+    if slots {
         return true;
     }
-    asked.slots.bad
-}
-
-// Whether an argument is none, or fills a slot where none is asked for.
-fn is_more(asked: Request) -> bool {
-    if 0 < asked.slots.given {
-        complain(b"here the arguments are buttons=.. and axes=.. only\n");
+    if asked.slots.given == 0 {
         return true;
     }
-    is_bad(asked)
+    complain(b"here the arguments are buttons=.. and axes=.. only\n");
+    false
 }
 
 // What a save came to: the line and its map, or the refusal.
@@ -88,16 +89,6 @@ pub fn say_saved(index: &[u8], text: &[u8], id: Uuid, saved: Saved) -> u8 {
     }
 }
 
-fn is_done(answer: SaveAnswer) -> bool {
-    match answer {
-        SaveAnswer::Done => true,
-        SaveAnswer::Refused(_) => false,
-        SaveAnswer::UnsavedName => false,
-        SaveAnswer::Unsound => false,
-        SaveAnswer::NoRoom => false,
-    }
-}
-
 fn save_slots(
     store: &[u8],
     id: Uuid,
@@ -110,8 +101,8 @@ fn save_slots(
     if fd < 0 {
         return TROUBLE;
     }
-    let mut index = [0u8; HALF];
-    let mut text = [0u8; HALF];
+    let mut index = half();
+    let mut text = half();
     let status = load(store, &mut index, &mut text);
     if status != DONE {
         abandon(store, fd);
@@ -119,7 +110,7 @@ fn save_slots(
     }
     let saved = save(&mut index, &mut text, slots, buttons, axes, name, id);
     let answer = saved.answer;
-    if is_done(answer) {
+    if let SaveAnswer::Done = answer {
         let status = replace(store, fd, &index, &text);
         if status != DONE {
             return status;
@@ -132,7 +123,7 @@ fn save_slots(
 
 fn save_request(store: &[u8], id: Uuid, name: &[u8], from: usize) -> u8 {
     let asked = asked_from(from);
-    if is_bad(asked) {
+    if !is_good(asked, true) {
         return TROUBLE;
     }
     let buttons = asked.buttons;
@@ -153,7 +144,7 @@ fn save_request(store: &[u8], id: Uuid, name: &[u8], from: usize) -> u8 {
 
 // `hub save STORE UUID NAME ..`; the name is argument `at`.
 pub fn save_mapping(store: &[u8], key: &[u8], at: usize) -> u8 {
-    let mut name = [0u8; ARG_ROOM];
+    let mut name = arg_space();
     let n = os::arg(at, &mut name);
     let parsed = Uuid::parse_str(key);
     match parsed {
@@ -192,8 +183,8 @@ fn show_held(index: &[u8], text: &[u8], id: Uuid, asked: Request) -> u8 {
 }
 
 fn show_request(store: &[u8], id: Uuid, asked: Request) -> u8 {
-    let mut index = [0u8; HALF];
-    let mut text = [0u8; HALF];
+    let mut index = half();
+    let mut text = half();
     let status = load(store, &mut index, &mut text);
     if status != DONE {
         return status;
@@ -204,7 +195,7 @@ fn show_request(store: &[u8], id: Uuid, asked: Request) -> u8 {
 // `hub show STORE UUID ..`; the lists stand from argument `from` on.
 pub fn show_mapping(store: &[u8], key: &[u8], from: usize) -> u8 {
     let asked = asked_from(from);
-    if is_more(asked) {
+    if !is_good(asked, false) {
         return TROUBLE;
     }
     let parsed = Uuid::parse_str(key);
@@ -217,7 +208,7 @@ pub fn show_mapping(store: &[u8], key: &[u8], from: usize) -> u8 {
 // `hub default ..`
 pub fn default_mapping(from: usize) -> u8 {
     let asked = asked_from(from);
-    if is_more(asked) {
+    if !is_good(asked, false) {
         return TROUBLE;
     }
     let buttons = asked.buttons;

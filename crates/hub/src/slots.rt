@@ -4,7 +4,7 @@ use crate::codes::parse_code;
 use crate::elements::element_named;
 use crate::fields::after;
 use crate::fields::before;
-use crate::files::ARG_ROOM;
+use crate::files::arg_space;
 use crate::say::complain;
 use line::ev::AxisOrBtn;
 use line::ev::Code;
@@ -57,16 +57,13 @@ fn with_code(slots: Slots, pair: &[u8], code: u32) -> Slots {
     }
 }
 
-fn is_list(key: &[u8]) -> bool {
-    if same_bytes(key, b"buttons") {
-        return true;
-    }
-    same_bytes(key, b"axes")
-}
-
 // `a=10130`; a list of codes fills no slot.
 fn with_pair(slots: Slots, pair: &[u8]) -> Slots {
-    if is_list(before(pair, b'=')) {
+    let key = before(pair, b'=');
+    if same_bytes(key, b"buttons") {
+        return slots;
+    }
+    if same_bytes(key, b"axes") {
         return slots;
     }
     let code = parse_code(after(pair, b'='));
@@ -81,7 +78,7 @@ fn with_pair(slots: Slots, pair: &[u8]) -> Slots {
 }
 
 fn with_arg(slots: Slots, i: usize) -> Slots {
-    let mut space = [0u8; ARG_ROOM];
+    let mut space = arg_space();
     let n = os::arg(i, &mut space);
     with_pair(slots, &space[..n])
 }

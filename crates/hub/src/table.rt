@@ -1,6 +1,7 @@
 // A map as a table, and a refused line with a mark under its place.
 use crate::elements::say_element;
 use crate::fields::first;
+use crate::fields::less;
 use crate::fields::section;
 use crate::say::DONE;
 use crate::say::REFUSED;
@@ -59,13 +60,6 @@ pub fn say_map(map: Mapping, line: &[u8]) -> u8 {
     DONE
 }
 
-fn less(a: usize, b: usize) -> usize {
-    if b < a {
-        return a - b;
-    }
-    0
-}
-
 // A byte that takes one column; any other is a dot.
 fn plain(b: u8) -> u8 {
     if b < b' ' {
@@ -86,8 +80,9 @@ fn say_plain(s: &[u8]) {
     }
 }
 
-// The line about a place, and a mark under it.
-fn say_mark(line: &[u8], place: usize) {
+// A refusal, the line about its place, and a mark under that.
+fn marked(number: usize, place: usize, line: &[u8]) -> u8 {
+    refused_at(number, place);
     let start = less(place, BEFORE);
     say(b"  ");
     say_plain(section(line, start, SHOWN));
@@ -97,11 +92,6 @@ fn say_mark(line: &[u8], place: usize) {
         less(place, start),
     ));
     say(b"^\n");
-}
-
-fn marked(number: usize, place: usize, line: &[u8]) -> u8 {
-    refused_at(number, place);
-    say_mark(line, place);
     REFUSED
 }
 
