@@ -13,10 +13,10 @@ use text::bytes::write_bytes;
 pub const HALF: usize = 65535;
 
 // The most bytes of a list.
-pub const LIST_ROOM: usize = 1048576;
+const LIST_ROOM: usize = 1048576;
 
 // The most bytes of an argument, and then of a path made of one.
-pub const ARG_ROOM: usize = 16384;
+const ARG_ROOM: usize = 16384;
 
 const PATH_ROOM: usize = 16388;
 

@@ -1,6 +1,5 @@
 // What is printed: answers on standard output, trouble on standard error.
 use crate::fields::nth_part;
-use text::uuid::Uuid;
 
 // The status of a command that is done, of one that was refused or found nothing, and of wrong use or file trouble.
 pub const DONE: u8 = 0;
@@ -10,17 +9,13 @@ pub const REFUSED: u8 = 1;
 pub const TROUBLE: u8 = 2;
 
 pub fn say(text: &[u8]) {
-    io::write_all(1, text);
+    if !io::write_all(1, text) {
+        os::fail(b"standard output");
+    }
 }
 
 pub fn say_number(n: usize) {
     io::print_decimal(1, n as u64);
-}
-
-pub fn say_uuid(id: Uuid) {
-    let mut digits = [b'0'; 32];
-    id.write_simple(&mut digits, 0);
-    say(&digits);
 }
 
 pub fn complain(text: &[u8]) {
