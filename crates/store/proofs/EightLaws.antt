@@ -2,7 +2,7 @@
 -- Assumes nothing.
 use mathlib.Core.List.{List, _++_}
 use mathlib.Core.Path.{_≡_, refl, sym, ap, ap₂, _∙_}
-use Prim.Native.Nat.{ℕ, _+_, _-_, _≤_, _<_}
+use Prim.Native.Nat.{ℕ, _+_, _-_, _*_, _≤_, _<_}
 use native.Mathlib.Nat.{add-zero, add-comm}
 use native.Mathlib.Omega.{arith}
 use lib.ListN.{length, getD, set, take, drop, replicate, getD-replicate, length-replicate, length-drop}
@@ -12,6 +12,23 @@ use Rattle.store.specs.Decode.{zeroes, word8}
 use Rattle.store.specs.Inner.{eight}
 use Rattle.store.proofs.BufferLaws.{paint-more, paint-all, paint-length, paint-rest, gap-length, gap-byte}
 use Rattle.store.proofs.BufferLaws.{zeroes-turn}
+
+-- the number in eight bytes, as one sum
+pub eight-sum : (s : List ℕ) (k a b c d e f g h : ℕ) → a ≡ getD s k 0 → b ≡ getD s (k + 1) 0 → c ≡ getD s (k + 2) 0
+    → d ≡ getD s (k + 3) 0 → e ≡ getD s (k + 4) 0 → f ≡ getD s (k + 5) 0 → g ≡ getD s (k + 6) 0
+    → h ≡ getD s (k + 7) 0
+    → 72057594037927936 * a + 281474976710656 * b + 1099511627776 * c + 4294967296 * d + 16777216 * e + 65536 * f
+    + 256 * g + h ≡ word8 s k
+eight-sum s k a b c d e f g h pa pb pc pd pe pf pg ph =
+    let p3 : k + 2 + 1 ≡ k + 3 = omega arith in
+    let p5 : k + 4 + 1 ≡ k + 5 = omega arith in
+    let p6 : k + 4 + 2 ≡ k + 6 = omega arith in
+    let p7 : k + 4 + 2 + 1 ≡ k + 7 = omega arith in
+    let q3 : getD s (k + 2 + 1) 0 ≡ getD s (k + 3) 0 = ap (λ (x : ℕ). getD s x 0) p3 in
+    let q5 : getD s (k + 4 + 1) 0 ≡ getD s (k + 5) 0 = ap (λ (x : ℕ). getD s x 0) p5 in
+    let q6 : getD s (k + 4 + 2) 0 ≡ getD s (k + 6) 0 = ap (λ (x : ℕ). getD s x 0) p6 in
+    let q7 : getD s (k + 4 + 2 + 1) 0 ≡ getD s (k + 7) 0 = ap (λ (x : ℕ). getD s x 0) p7 in
+    omega arith
 
 -- eight bytes that are 0
 module _ (s : List ℕ) (j : ℕ) (l : j + 8 ≤ length s) (e : word8 s j ≡ 0) where

@@ -4,7 +4,7 @@ ghost use mathlib.Core.List.{List, _∷_, _++_};
 ghost use Prim.Native.Nat.{ℕ, suc, _+_, _-_, _≤_, _<_};
 ghost use lib.ListN.{length, take, drop, getD, replicate};
 ghost use Rattle.text.specs.Bytes.{written};
-ghost use Rattle.store.specs.Decode.{zeroes, word, word4, word8};
+ghost use Rattle.store.specs.Decode.{zeroes, word, word8};
 ghost use Rattle.store.specs.Inner.{eight, be2, be4, be8};
 
 // The byte at k, and 0 past the end.
@@ -117,7 +117,7 @@ pub fn zero_all(s: &mut [u8])
     }
 }
 
-// The numbers in the two, four and eight bytes at k, high byte first.
+// The numbers in the two and eight bytes at k, high byte first.
 pub fn word_at(s: &[u8], k: usize) -> usize
     requires { ⌜ k + 1 < length (now s) ⌝ }
     ensures { λ r. ⌜ (r ≡ word (now (s .entry)) k) × (r < 65536) ⌝ }
@@ -125,18 +125,26 @@ pub fn word_at(s: &[u8], k: usize) -> usize
     256 * (s[k] as usize) + (s[k + 1] as usize)
 }
 
-fn u32_at(s: &[u8], k: usize) -> u64
-    requires { ⌜ k + 4 ≤ length (now s) ⌝ }
-    ensures { λ r. ⌜ (r ≡ word4 (now (s .entry)) k) × (r < 4294967296) ⌝ }
+// The byte as a number of 64 bits.
+fn wide(x: u8) -> u64
+    ensures { λ r. ⌜ (r ≡ x) × (r < 256) ⌝ }
 {
-    65536 * (word_at(s, k) as u64) + (word_at(s, k + 2) as u64)
+    x as u64
 }
 
+// One sum, so that it makes one load.
 pub fn u64_at(s: &[u8], k: usize) -> u64
     requires { ⌜ k + 8 ≤ length (now s) ⌝ }
     ensures { λ r. ⌜ r ≡ word8 (now (s .entry)) k ⌝ }
 {
-    4294967296 * u32_at(s, k) + u32_at(s, k + 4)
+    72057594037927936 * wide(s[k])
+        + 281474976710656 * wide(s[k + 1])
+        + 1099511627776 * wide(s[k + 2])
+        + 4294967296 * wide(s[k + 3])
+        + 16777216 * wide(s[k + 4])
+        + 65536 * wide(s[k + 5])
+        + 256 * wide(s[k + 6])
+        + wide(s[k + 7])
 }
 
 // Writes a number into the two, four and eight bytes at k, high byte first.
