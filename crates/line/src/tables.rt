@@ -1,7 +1,10 @@
 // The key names of mapping lines and the elements that they name, searched by key and by element.
+mod known;
+
 use crate::ev::Axis;
 use crate::ev::AxisOrBtn;
 use crate::ev::Button;
+use crate::tables::known::known_element;
 ghost use mathlib.Core.Path.{_≡_};
 ghost use Prim.Native.Nat.{_<_};
 ghost use lib.ListN.{length, getD};
@@ -119,6 +122,15 @@ pub const AXES: [AxisOrBtn; ROWS] = [
 
 // The element that `key` names.
 pub fn find_element(key: &[u8]) -> KeyElement
+    ensures { λ r. ⌜ r ≡ keyElement (now (key .entry)) ⌝ }
+{
+    match known_element(key) {
+        KeyElement::Is(e) => KeyElement::Is(e),
+        KeyElement::Missing => sought_element(key),
+    }
+}
+
+fn sought_element(key: &[u8]) -> KeyElement
     ensures { λ r. ⌜ r ≡ keyElement (now (key .entry)) ⌝ }
 {
     let row = find_key(key);

@@ -1,35 +1,33 @@
--- `tables::find_element` meets its contract: by the row that is found. Assumes nothing.
+-- What the numbers tell is the element; else it is sought. Assumes nothing.
+use mathlib.Core.Path.{sym, subst}
 use borrow.Author.Needs.{needs}
-use mathlib.Core.Path.{sym, _∙_}
-use Rattle.line.proofs.KeyLaws.{key-bound}
+use Rattle.line.specs.declared.tables.KeyElement.{KeyElement}
+use Rattle.line.specs.Inner.{Told}
 use Rattle.line.proofs.tables.find_element.Statement.{statement}
 use Rattle.line.proofs.tables.find_element.Tie as tie
 
-find-key-requires : tie.Need-find-key-requires
-find-key-requires c κs = search needs
+known-element-requires : tie.Need-known-element-requires
+known-element-requires c κs = search needs
 
-enum-known-row : tie.Need-enum-known-row
-enum-known-row c = search needs
-
-element-at-requires : tie.Need-element-at-requires
-element-at-requires c κs =
-    key-bound (c .before .before .before .before .before .args .key .now) _
-    (sym (c .before .before .before .find-key .ensures) ∙ c .before .row .given .1)
+enum-known-e : tie.Need-enum-known-e
+enum-known-e c = search needs
 
 enum-told : tie.Need-enum-told
 enum-told c = search needs
 
+sought-element-requires : tie.Need-sought-element-requires
+sought-element-requires c κs = search needs
+
 returns : tie.Need-returns
 returns c =
-    let e = sym (c .before .before .before .before .find-key .ensures) ∙ c .before .before .row .given .1 in
-    rw (c .element-at .ensures, e)
+    let key = c .before .before .before .before .before .args .key .now in
+    sym (subst (λ (k : KeyElement). Told k key) (c .before .e .given .1)
+    (c .before .before .before .known-element .ensures))
 
 returns-2 : tie.Need-returns-2
-returns-2 c =
-    let e = sym (c .before .before .find-key .ensures) ∙ c .enum-told .given .1 in
-    rw e
+returns-2 c = search needs
 
 pub find-element-spec : {M : Type 1} → statement M
 find-element-spec =
     tie.close
-    (tie.spec find-key-requires enum-known-row element-at-requires enum-told returns returns-2)
+    (tie.spec known-element-requires enum-known-e enum-told sought-element-requires returns returns-2)
