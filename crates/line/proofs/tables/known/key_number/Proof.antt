@@ -58,7 +58,11 @@ loop-again c =
       omega arith,
       omega arith,
       number-more s (i - 1) _ (omega arith) (l .inv .2 ∙ ap (λ (k : ℕ). keyNumber (drop k s)) z),
-      λ k. subst (λ (x : ℕ). x < 256) (sym (getD-drop (i - 1) s k 0)) (omega (arith, c .shared-slice-known .given (i - 1 + k))),
+      λ k. subst (λ (x : ℕ). x < 256) (sym (getD-drop (i - 1) s k 0)) (omega (
+        arith,
+        c .shared-slice-known
+            .given (i - 1 + k),
+      )),
     )
 
 returns : tie.Need-returns Inv-loop μ-loop

@@ -25,7 +25,8 @@ returns-2 : tie.Need-returns-2
 returns-2 c = search needs
 
 slice-aggregate-key-number : tie.Need-slice-aggregate-key-number
-slice-aggregate-key-number c = sym (length-take-le 7 (c .before .before .before .before .args .key .now) (omega arith))
+slice-aggregate-key-number c = sym (length-take-le 7 (c .before .before .before .before .args .key .now) (omega
+    arith))
 
 key-number-requires-2 : tie.Need-key-number-requires-2
 key-number-requires-2 c κs =
