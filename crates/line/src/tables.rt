@@ -1,10 +1,12 @@
 // The key names of mapping lines and the elements that they name, searched by key and by element.
 mod known;
+mod rows;
 
 use crate::ev::Axis;
 use crate::ev::AxisOrBtn;
 use crate::ev::Button;
 use crate::tables::known::known_element;
+use crate::tables::rows::known_row;
 ghost use mathlib.Core.Path.{_≡_};
 ghost use Prim.Native.Nat.{_<_};
 ghost use lib.ListN.{length, getD};
@@ -144,7 +146,7 @@ fn sought_element(key: &[u8]) -> KeyElement
 pub fn ident_of(e: AxisOrBtn) -> Ident
     ensures { λ r. ⌜ r ≡ identOf e ⌝ }
 {
-    let row = find_row(e);
+    let row = known_row(e);
     match row {
         KeyRow::At(i) => ident_at(i),
         KeyRow::Nowhere => Ident {
