@@ -281,6 +281,12 @@ raspteal_answer raspteal_mapping_put(raspteal_mapping map, raspteal_entry e);
 /* The element of the first entry with that code. A count over 256 is read as 256. */
 raspteal_mapped raspteal_mapping_map(raspteal_mapping map, uint32_t code);
 
+/* The same look-up for a program that keeps a map and turns codes into elements all day: the map stands in two lists of
+ * your own, copied once from its entries, and nothing else crosses. elements[i] belongs to codes[i] and is a button's
+ * number, or 65536 plus an axis's; where the lists differ in length, the shorter one counts. */
+raspteal_mapped raspteal_lists_map(const uint32_t *codes, size_t codes_len, const uint32_t *elements,
+                                   size_t elements_len, uint32_t code);
+
 /* The least code of an element. A count over 256 is read as 256. */
 raspteal_code raspteal_mapping_map_rev(raspteal_mapping map, raspteal_element e);
 

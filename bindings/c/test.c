@@ -126,6 +126,14 @@ static void lines(void) {
     CHECK(raspteal_mapping_map_rev(r.map, (raspteal_element){true, 8}).code == 0x30011);
     CHECK(!raspteal_mapping_map(r.map, 0).found);
 
+    const uint32_t codes[] = {9, 7, 9}, elements[] = {65536 + 8, 3};
+    raspteal_mapped m = raspteal_lists_map(LIST(codes), LIST(elements), 9);
+    CHECK(m.found && m.element.is_axis && m.element.number == 8);
+    m = raspteal_lists_map(LIST(codes), LIST(elements), 7);
+    CHECK(m.found && !m.element.is_axis && m.element.number == 3);
+    CHECK(!raspteal_lists_map(LIST(codes), LIST(elements), 8).found);
+    CHECK(!raspteal_lists_map(codes + 2, 1, elements, 0, 9).found);
+
     raspteal_entry e = raspteal_entry_new(7, (raspteal_element){false, 3});
     CHECK(e.code == 7 && !e.element.is_axis && e.element.number == 3);
     e = raspteal_entry_new(7, (raspteal_element){true, 65535});

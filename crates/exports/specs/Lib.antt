@@ -1,6 +1,7 @@
 -- How values of the layers are laid out as numbers at the C boundary.
 pub mod Flat
 pub mod FlatMaps
+pub mod FlatLists
 pub mod FlatTokens
 pub mod FlatSlots
 pub mod FlatStore

@@ -7,6 +7,7 @@ mod flat_data;
 mod flat_mapping;
 mod flat_token;
 mod line_calls;
+mod list_calls;
 mod mapping_calls;
 mod parser_calls;
 mod store_calls;
