@@ -8,6 +8,8 @@ pub mod PlaceLaws
 pub mod MapLaws
 pub mod PutLaws
 pub mod ViewLaws
+pub mod DraftLaws
+pub mod TurnLaws
 -- the walker and the reading
 pub mod CountLaws
 pub mod FieldLaws

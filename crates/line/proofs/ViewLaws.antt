@@ -35,7 +35,7 @@ putView v e =
     (record { answer = Full; map = toMap v })
 
 module _ {A : Type 0} where
-  drop-replicate : (k n : ℕ) (a : A) → drop k (replicate n a) ≡ replicate (n - k) a
+  pub drop-replicate : (k n : ℕ) (a : A) → drop k (replicate n a) ≡ replicate (n - k) a
   drop-replicate zero n a = let e : n - 0 ≡ n = omega arith in rw e
   drop-replicate (suc k) zero a = let e : 0 - suc k ≡ 0 = omega arith in rw e
   drop-replicate (suc k) (suc n) a = let e : suc n - suc k ≡ n - k = omega arith in rw e (drop-replicate k n a)

@@ -1,7 +1,10 @@
--- What the private functions of the tables and of a put promise. No public contract cites these. Assumes nothing.
-use Prim.Native.Nat.{ℕ, _+_, _*_, _<_, _≤_}
+-- What the private functions of the tables, of a put and of a reading promise. No public contract cites these.
+-- Assumes nothing.
+use Prim.Native.Nat.{ℕ, _+_, _*_, _/_, _%_, _<_, _≤_}
 use mathlib.Core.Path.{_≡_}
-use mathlib.Core.List.{List, [], _∷_, _++_}
+use mathlib.Core.Bool.{false}
+use mathlib.Core.List.{List, [], _∷_, _++_, map}
+use lib.Bits.{bitOr}
 use lib.Dec.{eqb}
 use lib.ListN.{length, take, drop, set, getD}
 use Rattle.text.specs.Bytes.{pick}
@@ -10,7 +13,17 @@ use Rattle.line.specs.declared.mapping.Place.{Place}
 use Rattle.line.specs.declared.mapping.Place.the-variants.{Held, Before}
 use Rattle.line.specs.declared.tables.KeyElement.{KeyElement}
 use Rattle.line.specs.declared.tables.KeyElement.the-variants as Ke
-use Rattle.line.specs.Maps.{putEntry}
+use Rattle.line.specs.declared.ev.AxisOrBtn.{AxisOrBtn}
+use Rattle.line.specs.declared.ev.AxisOrBtn.the-variants as El
+use Rattle.line.specs.declared.mapping.Mapping.{Mapping}
+use Rattle.line.specs.declared.reading.SdlAnswer.{SdlAnswer}
+use Rattle.line.specs.declared.reading.SdlAnswer.the-variants as Sd
+use Rattle.line.specs.declared.reading.SdlMapping.{SdlMapping}
+use Rattle.line.specs.declared.reading.Turn.{Turn}
+use Rattle.line.specs.declared.reading.draft.Draft.{Draft}
+use Rattle.line.specs.Elements.{codeOf}
+use Rattle.line.specs.Maps.{CODES_MAX, MapView, toMap, entryOf, putEntry}
+use Rattle.line.specs.Reading.{acceptedOf, refusedOf}
 use Rattle.line.specs.Tables.{keyElement}
 
 -- the bytes before the first 0: the name that a row of the program's table holds
@@ -53,3 +66,68 @@ abbrev pub ToldOfCut : ℕ → ℕ → KeyElement → Type 0
 ToldOfCut x y r =
     (key : List ℕ) → Bytes (take WORD key) → Bytes (drop WORD key) → keyNumber (take WORD key) ≡ x
     → keyNumber (drop WORD key) ≡ y → Told r key
+
+-- ---- a map while it is read: its entries are numbers
+abbrev pub CODE_UNIT : ℕ
+CODE_UNIT = 4294967296
+
+abbrev pub KIND_UNIT : ℕ
+KIND_UNIT = 65536
+
+-- kind 0 is a button
+abbrev pub elementIn : ℕ → ℕ → AxisOrBtn
+elementIn kind n = pick (eqb kind 0) (El.Btn (record { 0 = n })) (El.Axis (record { 0 = n }))
+
+unfoldable pub entryIn : ℕ → Entry
+entryIn x = entryOf (codeOf (x / CODE_UNIT)) (elementIn (x / KIND_UNIT % KIND_UNIT) (x % KIND_UNIT))
+
+-- the first n of them
+abbrev pub entriesIn : ℕ → List ℕ → List Entry
+entriesIn n xs = take n (map entryIn xs)
+
+-- xs with x before the number at k
+abbrev pub numbersWith : ℕ → ℕ → List ℕ → List ℕ
+numbersWith k x xs = take k xs ++ x ∷ drop k xs
+
+-- the array holds as many numbers as a map has codes at most, n of them in use
+abbrev pub Roomy : ℕ → List ℕ → Type 0
+Roomy n xs = (n ≤ CODES_MAX) × (length xs ≡ CODES_MAX)
+
+-- e put among the first n of xs: r is the new count, and ys has the entries if there is room for them
+pub record PutIn (n : ℕ) (xs : List ℕ) (e : Entry) (r : ℕ) (ys : List ℕ) : Type 0 where
+  pub many : r ≡ length (putEntry e (entriesIn n xs))
+  pub are : r ≤ CODES_MAX → entriesIn r ys ≡ putEntry e (entriesIn n xs)
+  pub long : length ys ≡ CODES_MAX
+
+abbrev pub viewIn : Draft → List ℕ → MapView
+viewIn d xs =
+    record {
+      list = entriesIn (d .count) xs;
+      nameStart = d .«name_start»;
+      nameLen = d .«name_len»;
+      isDefault = false;
+      hatFlags = d .«hats_mapped»;
+    }
+
+abbrev pub draftNamed : Draft → ℕ → ℕ → Draft
+draftNamed d start len =
+    record { count = d .count; «name_start» = start; «name_len» = len; «hats_mapped» = d .«hats_mapped» }
+
+abbrev pub draftFlagged : Draft → ℕ → Draft
+draftFlagged d flags =
+    record {
+      count = d .count;
+      «name_start» = d .«name_start»;
+      «name_len» = d .«name_len»;
+      «hats_mapped» = bitOr (d .«hats_mapped») flags;
+    }
+
+-- an answer and the map after it
+abbrev pub outcome : SdlAnswer → Mapping → SdlMapping
+outcome Sd.Accepted m = acceptedOf m
+outcome (Sd.Refused e) m = refusedOf e
+
+-- a turn and the numbers that it leaves are what y says
+pub record Turned (y : SdlMapping) (t : Turn) (xs : List ℕ) : Type 0 where
+  pub is : y ≡ outcome (t .answer) (toMap (viewIn (t .draft) xs))
+  pub room : Roomy (t .draft .count) xs

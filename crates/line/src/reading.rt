@@ -1,20 +1,26 @@
 // The reading of a line: each pair's token asks for puts, and the map is made of them in line order.
+mod draft;
 mod puts;
 
+use crate::mapping::CODES_MAX;
 use crate::mapping::Entry;
 use crate::mapping::Mapping;
-use crate::mapping::PutResult;
 use crate::parser::Answer;
 use crate::parser::Error;
 use crate::parser::ErrorKind;
 use crate::parser::State;
 use crate::parser::step;
+use crate::reading::draft::Draft;
+use crate::reading::draft::drafted;
+use crate::reading::draft::put_number;
 use crate::reading::puts::Puts;
 use crate::reading::puts::puts_of;
 use text::utf8::valid_up_to;
 ghost use mathlib.Core.Path.{_≡_};
-ghost use Rattle.line.specs.Reading.{refusedOf, acceptedOf, withName, skips, putOne, thenPut, flagged};
-ghost use Rattle.line.specs.Reading.{putAll, taken, readLine, readingOf};
+ghost use Rattle.line.specs.Maps.{toMap};
+ghost use Rattle.line.specs.Reading.{refusedOf, acceptedOf, skips, putOne, thenPut, putAll, taken, readLine};
+ghost use Rattle.line.specs.Reading.{readingOf};
+ghost use Rattle.line.specs.Inner.{viewIn, draftNamed, draftFlagged, Roomy, Turned};
 
 // The most codes of a list.
 pub const LIST_MAX: usize = 1024;
@@ -35,6 +41,12 @@ pub enum SdlAnswer {
 pub struct SdlMapping {
     pub answer: SdlAnswer,
     pub map: Mapping,
+}
+
+// What a turn answers, and the map after it; after a refusal that map says nothing.
+pub struct Turn {
+    pub answer: SdlAnswer,
+    pub draft: Draft,
 }
 
 // The map of a line by the pad's lists of codes: 10, 12, then line order.
@@ -61,49 +73,53 @@ pub fn parse_sdl_mapping(line: &[u8], buttons: &[u32], axes: &[u32]) -> SdlMappi
 fn read_fields(line: &[u8], buttons: &[u32], axes: &[u32]) -> SdlMapping
     ensures { λ r. ⌜ r ≡ readLine (now (line .entry)) (now (buttons .entry)) (now (axes .entry)) ⌝ }
 {
-    let mut map = Mapping::new();
+    let mut xs = [0u64; CODES_MAX];
+    let mut draft = Draft::EMPTY;
     let mut pos: usize = 0;
     let mut state = State::Uuid;
     while pos < line.len() {
         let next = step(line, pos, state);
         let answer = next.answer;
         let after = next.pos;
-        let turn = take_answer(map, answer, pos, after, buttons, axes);
+        let turn = take_answer(&mut xs, draft, answer, pos, after, buttons, axes);
         let went = turn.answer;
         match went {
-            SdlAnswer::Refused(_) => {
-                return turn;
+            SdlAnswer::Refused(e) => {
+                return refused(e);
             }
             SdlAnswer::Accepted => {}
         }
-        map = turn.map;
+        draft = turn.draft;
         pos = after;
         state = next.state;
     }
-    accepted(map)
+    accepted(drafted(&xs, draft))
 }
 
 // What the walker answered at p, after which the line goes on at `after`.
 fn take_answer(
-    map: Mapping,
+    xs: &mut [u64],
+    draft: Draft,
     answer: Answer,
     p: usize,
     after: usize,
     buttons: &[u32],
     axes: &[u32],
-) -> SdlMapping
-    ensures { λ r. ⌜ r ≡ taken map answer p after (now (buttons .entry)) (now (axes .entry)) ⌝ }
+) -> Turn
+    requires { ⌜ Roomy (draft .count) (now xs) ⌝ }
+    ensures { λ r. ⌜ Turned (taken (toMap (viewIn draft (now (xs .entry)))) answer p after (now (buttons .entry))
+        (now (axes .entry))) r (now (xs .exit)) ⌝ }
 {
     match answer {
-        Answer::Found(token) => put_all(map, puts_of(token, after, buttons, axes), p),
+        Answer::Found(token) => put_all(xs, draft, puts_of(token, after, buttons, axes), p),
         Answer::Refused(e) => {
             let kind = e.kind;
             if is_skipped(kind) {
-                return accepted(map);
+                return goes_on(draft);
             }
-            refused(ParseSdlMappingError::ParseError(e))
+            stops(draft, ParseSdlMappingError::ParseError(e))
         }
-        Answer::End => accepted(map),
+        Answer::End => goes_on(draft),
     }
 }
 
@@ -125,73 +141,87 @@ fn is_skipped(kind: ErrorKind) -> bool
 }
 
 // The puts of the field at p.
-fn put_all(map: Mapping, puts: Puts, p: usize) -> SdlMapping
-    ensures { λ r. ⌜ r ≡ putAll map puts p ⌝ }
+fn put_all(xs: &mut [u64], draft: Draft, puts: Puts, p: usize) -> Turn
+    requires { ⌜ Roomy (draft .count) (now xs) ⌝ }
+    ensures { λ r. ⌜ Turned (putAll (toMap (viewIn draft (now (xs .entry)))) puts p) r (now (xs .exit)) ⌝ }
 {
     match puts {
-        Puts::Nothing => accepted(map),
-        Puts::Name { start, len } => accepted(with_name(map, start, len)),
-        Puts::One { entry, flags } => then_flag(put_one(map, entry, p), flags),
+        Puts::Nothing => goes_on(draft),
+        Puts::Name { start, len } => goes_on(with_name(draft, start, len)),
+        Puts::One { entry, flags } => put_one(xs, with_flags(draft, flags), entry, p),
         Puts::Two {
             first,
             second,
             flags,
-        } => then_flag(then_put(put_one(map, first, p), second, p), flags),
-        Puts::UnknownHatDirection => refused(ParseSdlMappingError::UnknownHatDirection),
+        } => put_two(xs, with_flags(draft, flags), first, second, p),
+        Puts::UnknownHatDirection => stops(draft, ParseSdlMappingError::UnknownHatDirection),
     }
 }
 
 // A put by the pair at p: refused where the map is full.
-fn put_one(map: Mapping, e: Entry, p: usize) -> SdlMapping
-    ensures { λ r. ⌜ r ≡ putOne map e p ⌝ }
+fn put_one(xs: &mut [u64], draft: Draft, e: Entry, p: usize) -> Turn
+    requires { ⌜ Roomy (draft .count) (now xs) ⌝ }
+    ensures { λ r. ⌜ Turned (putOne (toMap (viewIn draft (now (xs .entry)))) e p) r (now (xs .exit)) ⌝ }
 {
-    let put = map.put(e);
-    let answer = put.answer;
-    match answer {
-        PutResult::Stored => {
-            let next = put.map;
-            accepted(next)
-        }
-        PutResult::Full => refused(ParseSdlMappingError::TooManyCodes { position: p }),
+    let n = put_number(xs, draft.count, e);
+    if CODES_MAX < n {
+        return stops(draft, ParseSdlMappingError::TooManyCodes { position: p });
     }
+    let mut next = draft;
+    next.count = n;
+    goes_on(next)
 }
 
-// One put more, unless there was a refusal.
-fn then_put(before: SdlMapping, e: Entry, p: usize) -> SdlMapping
-    ensures { λ r. ⌜ r ≡ thenPut before e p ⌝ }
+// Two puts, the second unless the first is refused.
+fn put_two(xs: &mut [u64], draft: Draft, e: Entry, f: Entry, p: usize) -> Turn
+    requires { ⌜ Roomy (draft .count) (now xs) ⌝ }
+    ensures { λ r. ⌜ Turned (thenPut (putOne (toMap (viewIn draft (now (xs .entry)))) e p) f p) r (now (xs .exit)) ⌝ }
 {
-    let answer = before.answer;
-    match answer {
-        SdlAnswer::Accepted => {
-            let map = before.map;
-            put_one(map, e, p)
-        }
-        SdlAnswer::Refused(_) => before,
-    }
-}
-
-// The flags or-ed in, unless there was a refusal.
-fn then_flag(before: SdlMapping, flags: u8) -> SdlMapping
-    ensures { λ r. ⌜ r ≡ flagged before flags ⌝ }
-{
-    let answer = before.answer;
+    let turn = put_one(xs, draft, e, p);
+    let answer = turn.answer;
     match answer {
         SdlAnswer::Accepted => {
-            let mut map = before.map;
-            map.hats_mapped = map.hats_mapped | flags;
-            accepted(map)
+            let next = turn.draft;
+            put_one(xs, next, f, p)
         }
-        SdlAnswer::Refused(_) => before,
+        SdlAnswer::Refused(_) => turn,
     }
 }
 
-fn with_name(map: Mapping, start: usize, len: usize) -> Mapping
-    ensures { λ r. ⌜ r ≡ withName map start len ⌝ }
+// The flags or-ed in.
+fn with_flags(draft: Draft, flags: u8) -> Draft
+    ensures { λ r. ⌜ r ≡ draftFlagged draft flags ⌝ }
 {
-    let mut next = map;
+    let mut next = draft;
+    next.hats_mapped = next.hats_mapped | flags;
+    next
+}
+
+fn with_name(draft: Draft, start: usize, len: usize) -> Draft
+    ensures { λ r. ⌜ r ≡ draftNamed draft start len ⌝ }
+{
+    let mut next = draft;
     next.name_start = start;
     next.name_len = len;
     next
+}
+
+fn goes_on(draft: Draft) -> Turn
+    ensures { λ r. ⌜ r ≡ record { answer = SdlAnswer.Accepted; draft = draft } ⌝ }
+{
+    Turn {
+        answer: SdlAnswer::Accepted,
+        draft,
+    }
+}
+
+fn stops(draft: Draft, error: ParseSdlMappingError) -> Turn
+    ensures { λ r. ⌜ r ≡ record { answer = SdlAnswer.Refused error; draft = draft } ⌝ }
+{
+    Turn {
+        answer: SdlAnswer::Refused(error),
+        draft,
+    }
 }
 
 fn accepted(map: Mapping) -> SdlMapping

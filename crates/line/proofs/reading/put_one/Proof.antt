@@ -1,48 +1,48 @@
--- `reading::put_one` meets its contract: by what the put answers. Assumes nothing.
-use Rattle.line.specs.declared.mapping.PutAnswer.{PutAnswer}
-use Rattle.line.specs.Reading.{putOne}
-use mathlib.Core.Path.{sym, ap, _∙_}
+-- By the count after the put. Assumes nothing.
 use borrow.Author.Needs.{needs}
+use Rattle.line.proofs.TurnLaws.{one-stored, one-full}
 use Rattle.line.proofs.reading.put_one.Statement.{statement}
 use Rattle.line.proofs.reading.put_one.Tie as tie
 
-put-requires : tie.Need-put-requires
-put-requires c κs = search needs
+put-number-requires : tie.Need-put-number-requires
+put-number-requires c κs = c .before .before .pre
 
-enum-told : tie.Need-enum-told
-enum-told c = search needs
+stops-requires : tie.Need-stops-requires
+stops-requires c κs = search needs
 
-accepted-requires : tie.Need-accepted-requires
-accepted-requires c κs = search needs
-
-enum-told-2 : tie.Need-enum-told-2
-enum-told-2 c = search needs
-
-refused-requires : tie.Need-refused-requires
-refused-requires c κs = search needs
+same-length : tie.Need-same-length
+same-length c = search needs
 
 returns : tie.Need-returns
-unfolding putOne
 returns c =
-    let e = ap (λ (x : PutAnswer). x .answer) (sym (c .before .before .before .before .put .ensures))
-    ∙ c .before .before .enum-told .given .1 in
-    simp (e, c .accepted .ensures, c .before .before .before .before .put .ensures)
+    let s = c .before .before .before .before .before .before .before in
+    let a = s .args in
+    one-full (a .draft) (a .xs .now) (a .e) (a .p) _ _ (c .before .before .before .before .put-number
+    .ensures) _ (c .before .if1 .taken) (s .pre .0)
+    (c .stops .ensures)
+
+goes-on-requires : tie.Need-goes-on-requires
+goes-on-requires c κs = search needs
+
+same-length-2 : tie.Need-same-length-2
+same-length-2 c = search needs
 
 returns-2 : tie.Need-returns-2
-unfolding putOne
 returns-2 c =
-    let e = ap (λ (x : PutAnswer). x .answer) (sym (c .before .before .before .put .ensures))
-    ∙ c .before .enum-told2 .given .1 in
-    simp (e, c .refused .ensures)
+    let s = c .before .before .before .before .before .before .before in
+    let a = s .args in
+    one-stored (a .draft) (a .xs .now) (a .e) (a .p) _ _ (c .before .before .before .before .put-number
+    .ensures) _ (c .before .if1 .left)
+    (c .goes-on .ensures)
 
 pub put-one-spec : {M : Type 1} → statement M
 put-one-spec =
     tie.close
     (tie.spec
-    put-requires
-    enum-told
-    accepted-requires
-    enum-told-2
-    refused-requires
+    put-number-requires
+    stops-requires
+    same-length
     returns
+    goes-on-requires
+    same-length-2
     returns-2)

@@ -1,7 +1,7 @@
--- `reading::take_answer` meets its contract: by what the walker answered. Assumes nothing.
-use Rattle.line.specs.Reading.{taken}
+-- By what the walker answered. Assumes nothing.
 use mathlib.Core.Path.{sym, _∙_}
 use borrow.Author.Needs.{needs}
+use Rattle.line.proofs.TurnLaws.{taken-found, taken-skip, taken-stop, taken-end}
 use Rattle.line.proofs.reading.take_answer.Statement.{statement}
 use Rattle.line.proofs.reading.take_answer.Tie as tie
 
@@ -12,7 +12,7 @@ puts-of-requires : tie.Need-puts-of-requires
 puts-of-requires c κs = search needs
 
 put-all-requires : tie.Need-put-all-requires
-put-all-requires c κs = search needs
+put-all-requires c κs = c .before .before .before .before .before .before .before .before .pre
 
 enum-known-answer-2 : tie.Need-enum-known-answer-2
 enum-known-answer-2 c = search needs
@@ -20,43 +20,51 @@ enum-known-answer-2 c = search needs
 is-skipped-requires : tie.Need-is-skipped-requires
 is-skipped-requires c κs = search needs
 
-accepted-requires : tie.Need-accepted-requires
-accepted-requires c κs = search needs
+goes-on-requires : tie.Need-goes-on-requires
+goes-on-requires c κs = search needs
 
 returns : tie.Need-returns
-unfolding taken
-returns c = simp (
-  c .before .before .before .before .answer2 .given .1,
-  sym (c .before .before .is-skipped .ensures)
-      ∙ c .before .if1 .taken,
-  c .accepted .ensures,
-)
+returns c =
+    let s = c .before .before .before .before .before .before .before .before .before in
+    let a = s .args in
+    taken-skip (a .draft) (a .xs .now) (a .p) (a .after) _ _ (s .pre) _ _ _ (c .before .before .before
+    .before .answer2 .given .1)
+    (sym (c .before .before .is-skipped .ensures) ∙ c .before .if1 .taken) (c .goes-on .ensures)
 
-refused-requires : tie.Need-refused-requires
-refused-requires c κs = search needs
+stops-requires : tie.Need-stops-requires
+stops-requires c κs = search needs
 
 enum-told : tie.Need-enum-told
 enum-told c = search needs
 
-accepted-requires-2 : tie.Need-accepted-requires-2
-accepted-requires-2 c κs = search needs
+goes-on-requires-2 : tie.Need-goes-on-requires-2
+goes-on-requires-2 c κs = search needs
+
+same-length : tie.Need-same-length
+same-length c = search needs
 
 returns-2 : tie.Need-returns-2
-unfolding taken
-returns-2 c = simp (c .before .before .before .answer .given .1, c .put-all .ensures, c .before .puts-of .ensures)
+returns-2 c =
+    let s = c .before .before .before .before .before .before .before .before .before .before .before in
+    let a = s .args in
+    taken-found (a .draft) (a .xs .now) (a .p) (a .after) _ _ _ _ _ _ _ (c .before .before .before .before
+    .before .before .answer .given .1) (c .before .before .before .puts-of .ensures) (c .before .before
+    .put-all .ensures)
 
 returns-3 : tie.Need-returns-3
-unfolding taken
-returns-3 c = simp (
-  c .before .before .before .before .answer2 .given .1,
-  sym (c .before .before .is-skipped .ensures)
-      ∙ c .before .if1 .left,
-  c .refused .ensures,
-)
+returns-3 c =
+    let s = c .before .before .before .before .before .before .before .before .before in
+    let a = s .args in
+    taken-stop (a .draft) (a .xs .now) (a .p) (a .after) _ _ (s .pre) _ _ _ (c .before .before .before
+    .before .answer2 .given .1)
+    (sym (c .before .before .is-skipped .ensures) ∙ c .before .if1 .left) (c .stops .ensures)
 
 returns-4 : tie.Need-returns-4
-unfolding taken
-returns-4 c = simp (c .before .enum-told .given .1, c .accepted2 .ensures)
+returns-4 c =
+    let s = c .before .before .before .before .before .before in
+    let a = s .args in
+    taken-end (a .draft) (a .xs .now) (a .p) (a .after) _ _ (s .pre) _ _ (c .before .enum-told .given .1) (c
+    .goes-on2 .ensures)
 
 pub take-answer-spec : {M : Type 1} → statement M
 take-answer-spec =
@@ -67,11 +75,12 @@ take-answer-spec =
     put-all-requires
     enum-known-answer-2
     is-skipped-requires
-    accepted-requires
+    goes-on-requires
     returns
-    refused-requires
+    stops-requires
     enum-told
-    accepted-requires-2
+    goes-on-requires-2
+    same-length
     returns-2
     returns-3
     returns-4)
