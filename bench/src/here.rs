@@ -240,3 +240,36 @@ impl Work for Map {
         }
     }
 }
+
+/// `map` on the same map, kept as two lists.
+pub struct Lists {
+    kept: Vec<u32>,
+    elements: Vec<u32>,
+    codes: Vec<u32>,
+}
+
+impl Lists {
+    pub fn of(reading: &Reading, codes: Vec<u32>) -> Lists {
+        let entries = reading.entries();
+        let number = |e: &ffi::Element| if e.is_axis { 65536 + e.number as u32 } else { e.number as u32 };
+        Lists {
+            kept: entries.iter().map(|e| e.code).collect(),
+            elements: entries.iter().map(|e| number(&e.element)).collect(),
+            codes,
+        }
+    }
+}
+
+impl Work for Lists {
+    fn calls(&self) -> usize {
+        self.codes.len()
+    }
+    fn go(&mut self) {
+        let (k, e) = (black_box(&self.kept), black_box(&self.elements));
+        for code in &self.codes {
+            black_box(unsafe {
+                ffi::raspteal_lists_map(k.as_ptr(), k.len(), e.as_ptr(), e.len(), *black_box(code))
+            });
+        }
+    }
+}

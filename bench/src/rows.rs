@@ -37,7 +37,7 @@ const ORDINARY: Goal = Goal::AtMost(1.5, Side::Sum);
 const WORST: Goal = Goal::AtMost(15.0, Side::Sum);
 const LINEAR: Goal = Goal::Growth(2.2);
 
-pub const ROWS: [Row; 16] = [
+pub const ROWS: [Row; 17] = [
     row("read", "`parse_sdl_mapping`, 32 buttons and 16 axes", HALF, read),
     row("build", "`from_data`, 25 slots", HALF, build),
     row("insert", "`insert` of a list into a fresh store", Goal::AtMost(1.5, Side::Gilrs), insert),
@@ -52,8 +52,9 @@ pub const ROWS: [Row; 16] = [
     row("found-worst-growth", "`found`, constructed UUIDs", LINEAR, |_| growing(Call::Found, &uuids::CONSTRUCTED)),
     row("get-worst-growth", "`get`, constructed UUIDs", LINEAR, |_| growing(Call::Get, &uuids::CONSTRUCTED)),
     row("save", "`save` replacing the first of 3120 records", Goal::AtMost(3.0, Side::Sum), save),
-    row("map", "`map`, 20 entries", Goal::AtMost(3.0, Side::Gilrs), |_| map(20)),
-    row("map-256", "`map`, 256 entries", Goal::Stated, |_| map(256)),
+    row("map", "`map`, 20 entries, a map kept as two lists", Goal::AtMost(3.0, Side::Gilrs), |_| map(20, true)),
+    row("map-256", "`map`, 256 entries, a map kept as two lists", Goal::Stated, |_| map(256, true)),
+    row("map-value", "`map`, 20 entries, the map handed over", Goal::Stated, |_| map(20, false)),
 ];
 
 /// Records that fill an index of 65535 bytes, and sizes for a growth.
@@ -211,7 +212,7 @@ fn save(lists: &[List]) -> Vec<Case> {
 }
 
 /// A map of n codes, asked for each in mixed order and, once in eight, for a code that it lacks.
-fn map(n: u32) -> Vec<Case> {
+fn map(n: u32, kept: bool) -> Vec<Case> {
     let keys = ["a", "b", "x", "y", "back", "start", "guide", "leftx", "lefty", "dpup", "leftshoulder"];
     let pairs: String = (0..n).map(|k| format!("{}:b{k},", keys[k as usize % keys.len()])).collect();
     let line = format!("{:032x},Pad,{pairs}", 1);
@@ -222,5 +223,6 @@ fn map(n: u32) -> Vec<Case> {
     let reading = Reading::of(line.as_bytes(), &pad.buttons, &pad.axes);
     assert_eq!(reading.answer().map(|m| m.entries.len()), Ok(n as usize));
     let gilrs = rust::Map::of(&line, &pad, &codes);
-    vec![case(format!("{n} entries"), here::Map { reading, codes }, gilrs)]
+    let label = format!("{n} entries");
+    vec![if kept { case(label, here::Lists::of(&reading, codes), gilrs) } else { case(label, here::Map { reading, codes }, gilrs) }]
 }

@@ -229,6 +229,13 @@ extern "C" {
     pub fn raspteal_mapping_new() -> Mapping;
     pub fn raspteal_mapping_put(map: Mapping, e: Entry) -> Answer;
     pub fn raspteal_mapping_map(map: Mapping, code: u32) -> Mapped;
+    pub fn raspteal_lists_map(
+        codes: *const u32,
+        codes_len: usize,
+        elements: *const u32,
+        elements_len: usize,
+        code: u32,
+    ) -> Mapped;
     pub fn raspteal_mapping_map_rev(map: Mapping, e: Element) -> Code;
     pub fn raspteal_parser_start(line: *const u8, line_len: usize) -> u8;
     pub fn raspteal_parser_step(line: *const u8, line_len: usize, pos: usize, state: u8) -> Step;

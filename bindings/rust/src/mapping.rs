@@ -59,6 +59,25 @@ impl Mapping {
         AxisOrBtn::found(safe::mapping_map(self.0, code.0))
     }
 
+    /// The same look-up for a program that keeps a map and turns codes into elements all day.
+    ///
+    /// ```
+    /// use raspteal::{AxisOrBtn, Button, Code, Mapping};
+    ///
+    /// let mut map = Mapping::new();
+    /// map.put(Code(0x10130), Button::East).unwrap();
+    /// let lookup = map.lookup();
+    /// assert_eq!(lookup.map(Code(0x10130)), Some(AxisOrBtn::Btn(Button::East)));
+    /// assert_eq!(lookup.map(Code(0x10131)), None);
+    /// ```
+    pub fn lookup(&self) -> Lookup {
+        let entries = &self.0.entries[..self.len()];
+        Lookup {
+            codes: entries.iter().map(|e| e.code).collect(),
+            elements: entries.iter().map(|e| e.element.number as u32 + if e.element.is_axis { 65536 } else { 0 }).collect(),
+        }
+    }
+
     /// The least code of an element.
     pub fn map_rev(&self, element: impl Into<AxisOrBtn>) -> Option<Code> {
         Code::found(safe::mapping_map_rev(self.0, element.into().into()))
@@ -106,6 +125,20 @@ impl Mapping {
 
     pub(crate) fn of(map: ffi::Mapping) -> Mapping {
         Mapping(map)
+    }
+}
+
+/// A map kept as two lists, which a look-up reads in their place; made by [`Mapping::lookup`].
+#[derive(Clone, Debug, PartialEq, Eq)]
+pub struct Lookup {
+    codes: Vec<u32>,
+    elements: Vec<u32>,
+}
+
+impl Lookup {
+    /// The element of a code.
+    pub fn map(&self, code: Code) -> Option<AxisOrBtn> {
+        AxisOrBtn::found(safe::lists_map(&self.codes, &self.elements, code.0))
     }
 }
 

@@ -1,4 +1,5 @@
--- A map that the caller keeps as two lists of numbers. Assumes nothing.
+-- A map that the caller keeps as two lists of numbers.
+-- The contracts of the exports rest on these definitions; they assume nothing.
 use Prim.Native.Nat.{ℕ, _%_}
 use mathlib.Core.Bool.{true, false}
 use mathlib.Core.List.{List, [], _∷_}

@@ -190,6 +190,9 @@ impl Reading {
     pub fn answer(&self) -> Result<Map, Refusal> {
         answer(&self.0)
     }
+    pub fn entries(&self) -> &[ffi::Entry] {
+        &self.0.map.entries[..self.0.map.count]
+    }
     pub fn map(&self, code: u32) -> Option<u16> {
         let m = unsafe { ffi::raspteal_mapping_map(self.0.map, code) };
         m.found.then_some(number(m.element))

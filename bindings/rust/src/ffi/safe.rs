@@ -99,6 +99,10 @@ pub fn mapping_map(map: Mapping, code: u32) -> Mapped {
     unsafe { raspteal_mapping_map(map, code) }
 }
 
+pub fn lists_map(codes: &[u32], elements: &[u32], code: u32) -> Mapped {
+    unsafe { raspteal_lists_map(codes.as_ptr(), codes.len(), elements.as_ptr(), elements.len(), code) }
+}
+
 pub fn mapping_map_rev(map: Mapping, e: Element) -> Code {
     unsafe { raspteal_mapping_map_rev(map, e) }
 }
