@@ -13,12 +13,12 @@ use Rattle.store.specs.Inner.{eight}
 use Rattle.store.proofs.BufferLaws.{paint-more, paint-all, paint-length, paint-rest, gap-length, gap-byte}
 use Rattle.store.proofs.BufferLaws.{zeroes-turn}
 
--- the number in eight bytes, as one sum
+-- the number in eight bytes, summed by twos
 pub eight-sum : (s : List ℕ) (k a b c d e f g h : ℕ) → a ≡ getD s k 0 → b ≡ getD s (k + 1) 0 → c ≡ getD s (k + 2) 0
     → d ≡ getD s (k + 3) 0 → e ≡ getD s (k + 4) 0 → f ≡ getD s (k + 5) 0 → g ≡ getD s (k + 6) 0
     → h ≡ getD s (k + 7) 0
-    → 72057594037927936 * a + 281474976710656 * b + 1099511627776 * c + 4294967296 * d + 16777216 * e + 65536 * f
-    + 256 * g + h ≡ word8 s k
+    → 72057594037927936 * a + 281474976710656 * b + (1099511627776 * c + 4294967296 * d)
+    + (16777216 * e + 65536 * f + (256 * g + h)) ≡ word8 s k
 eight-sum s k a b c d e f g h pa pb pc pd pe pf pg ph =
     let p3 : k + 2 + 1 ≡ k + 3 = omega arith in
     let p5 : k + 4 + 1 ≡ k + 5 = omega arith in

@@ -132,19 +132,15 @@ fn wide(x: u8) -> u64
     x as u64
 }
 
-// One sum, so that it makes one load.
+// Summed by twos, so that it makes one load.
 pub fn u64_at(s: &[u8], k: usize) -> u64
     requires { ⌜ k + 8 ≤ length (now s) ⌝ }
     ensures { λ r. ⌜ r ≡ word8 (now (s .entry)) k ⌝ }
 {
-    72057594037927936 * wide(s[k])
-        + 281474976710656 * wide(s[k + 1])
-        + 1099511627776 * wide(s[k + 2])
-        + 4294967296 * wide(s[k + 3])
-        + 16777216 * wide(s[k + 4])
-        + 65536 * wide(s[k + 5])
-        + 256 * wide(s[k + 6])
-        + wide(s[k + 7])
+    ((72057594037927936 * wide(s[k]) + 281474976710656 * wide(s[k + 1]))
+        + (1099511627776 * wide(s[k + 2]) + 4294967296 * wide(s[k + 3])))
+        + ((16777216 * wide(s[k + 4]) + 65536 * wide(s[k + 5]))
+            + (256 * wide(s[k + 6]) + wide(s[k + 7])))
 }
 
 // Writes a number into the two, four and eight bytes at k, high byte first.

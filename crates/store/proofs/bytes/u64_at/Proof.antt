@@ -143,29 +143,29 @@ u64-at-spec =
     shared-slice-read-wide-3
     wide-requires-3
     mul-result-3
-    add-result-2
     add-wide-3
     shared-slice-read-wide-4
     wide-requires-4
     mul-result-4
+    add-result-2
     add-result-3
     add-wide-4
     shared-slice-read-wide-5
     wide-requires-5
     mul-result-5
-    add-result-4
     add-wide-5
     shared-slice-read-wide-6
     wide-requires-6
     mul-result-6
-    add-result-5
+    add-result-4
     add-wide-6
     shared-slice-read-wide-7
     wide-requires-7
     mul-result-7
-    add-result-6
     add-wide-7
     shared-slice-read-wide-8
     wide-requires-8
+    add-result-5
+    add-result-6
     add-result-7
     returns)
