@@ -13,7 +13,7 @@ use Rattle.store.specs.declared.calls.Saved.{Saved}
 use Rattle.line.specs.Refusals.{Refuses, refusal}
 use Rattle.map.specs.Refusals.{mappingRefusal}
 use Rattle.store.specs.Saves.{saveNumber}
-use Rattle.store.specs.Answers.{number, placeOf, lookNumber}
+use Rattle.store.specs.Answers.{number, answerPlace, lookNumber}
 use Rattle.exports.specs.declared.flat.FlatRefusal.{FlatRefusal}
 use Rattle.exports.specs.declared.store_calls.FlatInserted.{FlatInserted}
 use Rattle.exports.specs.declared.store_calls.FlatLook.{FlatLook}
@@ -33,8 +33,8 @@ abbrev pub flatStoreAnswer : Answer → FlatRefusal
 flatStoreAnswer a =
     record {
       number = number a;
-      «has_place» = isSome (placeOf a);
-      place = orZero (placeOf a);
+      «has_place» = isSome (answerPlace a);
+      place = orZero (answerPlace a);
       «has_code» = false;
       code = 0;
     }

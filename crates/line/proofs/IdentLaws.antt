@@ -27,7 +27,7 @@ use Rattle.line.specs.Maps.{entryOf}
 use Rattle.line.specs.Tables.{axesSdl, axes, rowFrom, keyRow, keyElement, elementFrom, elementRow, identText}
 use Rattle.line.specs.Tables.{asButton, asAxis}
 use Rattle.line.specs.Fields.{countOf}
-use Rattle.line.specs.Values.{axisOf, valueOf}
+use Rattle.line.specs.Values.{axisValueOf, valueOf}
 use Rattle.line.specs.Pairs.{halfOf, rangesOf, keyedOf, pairOf}
 use Rattle.line.specs.Puts.{listed, putsOf}
 use Rattle.line.specs.Effects.{does, answerEffect, effectOf}
@@ -192,7 +192,7 @@ module _ (key : List ℕ) (to : AxisOrBtn) (is : Named key to) (i : ℕ) where
         )
 
     axis-token : pairOf (pairText key (byte "a") i) 0 ≡ An.Found (Tk.AxisMapping i to (rangesOf Ar.Full Ar.Full false))
-    unfolding pairOf keyedOf valueOf axisOf
+    unfolding pairOf keyedOf valueOf axisValueOf
     axis-token =
         let v = byte "a" ∷ decimal i in
         let one = count-one (byte ":") key v (is .colons) (kind-free (byte ":") (byte "a") (decimal i) refl

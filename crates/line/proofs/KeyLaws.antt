@@ -14,7 +14,7 @@ use Rattle.line.specs.Buttons as B
 use Rattle.line.specs.Elements.{sameElement}
 use Rattle.line.specs.Inner.{untilZero}
 use Rattle.line.specs.Tables.{ROWS, axesSdl, axes, nameAt, rowFrom, keyRow, elementFrom, elementRow}
-use Rattle.line.specs.Tables.{padded, byteOrder, placeOrder, sameOrder, every, sorted, howMany, oneRow, asButton}
+use Rattle.line.specs.Tables.{paddedName, byteOrder, placeOrder, sameOrder, every, sorted, howMany, oneRow, asButton}
 use Rattle.line.specs.Tables.{asAxis}
 use Rattle.line.specs.declared.ev.AxisOrBtn.{AxisOrBtn}
 use Rattle.line.specs.declared.ev.AxisOrBtn.the-variants.{Btn}
@@ -190,7 +190,7 @@ key-found key i h e =
 
 -- ---- the rows of the table: each name, filled with zeros up to 13 bytes
 unfoldable pub rows : List (List ℕ)
-rows = map padded axesSdl
+rows = map paddedName axesSdl
 
 rows-names : map untilZero rows ≡ axesSdl
 unfolding rows axesSdl untilZero
@@ -201,9 +201,9 @@ pub row-name : (i : ℕ) → untilZero (getD rows i []) ≡ nameAt i
 unfolding untilZero
 row-name i = sym (List·getD-map untilZero rows i []) ∙ ap (λ (l : List (List ℕ)). getD l i []) rows-names
 
-pub row-padded : (i : ℕ) → i < ROWS → getD rows i [] ≡ padded (nameAt i)
+pub row-padded : (i : ℕ) → i < ROWS → getD rows i [] ≡ paddedName (nameAt i)
 unfolding rows axesSdl
-row-padded i h = getD-any rows i [] (padded []) h ∙ List·getD-map padded axesSdl i []
+row-padded i h = getD-any rows i [] (paddedName []) h ∙ List·getD-map paddedName axesSdl i []
 
 -- what a comparison with a row says of the name
 pub told : (key : List ℕ) (i : ℕ) (r o : Order) → r ≡ byteOrder (untilZero (getD rows i [])) key → r ≡ o

@@ -22,7 +22,7 @@ use Rattle.line.specs.declared.parser.Answer.{Answer}
 use Rattle.line.specs.declared.parser.Answer.the-variants as An
 use Rattle.line.specs.Tables.{keyElement}
 use Rattle.line.specs.Fields.{countOf}
-use Rattle.line.specs.Values.{startsWith, numbered, axisOf, signedOf, buttonOf, hatNumbers, hatOf, valueOf}
+use Rattle.line.specs.Values.{startsWith, axisNumbered, axisValueOf, signedOf, buttonValueOf, hatNumbers, hatOf, valueOf}
 use Rattle.line.specs.Pairs.{refuse, halfOf, skipOf, mappedOf, keyedOf, pairOf}
 use Rattle.line.specs.Puts.{putsOf}
 use Rattle.line.specs.Effects.{answerEffect}
@@ -39,13 +39,13 @@ abbrev SameValue : Value → Value → Type 0
 SameValue v w = unplaced v ≡ unplaced w
 
 module _ (p q : ℕ) where
-  numbered-same : (half : AxisRange) (inverted : Bool) (n : IndexParse) → SameValue (numbered p half inverted n)
-      (numbered q half inverted n)
+  numbered-same : (half : AxisRange) (inverted : Bool) (n : IndexParse) → SameValue (axisNumbered p half inverted n)
+      (axisNumbered q half inverted n)
   unfolding unplaced
   numbered-same half inverted (Ip.Parsed n) = refl
   numbered-same half inverted Ip.Invalid = refl
 
-  button-same : (n : IndexParse) → SameValue (buttonOf p n) (buttonOf q n)
+  button-same : (n : IndexParse) → SameValue (buttonValueOf p n) (buttonValueOf q n)
   unfolding unplaced
   button-same (Ip.Parsed n) = refl
   button-same Ip.Invalid = refl
@@ -60,8 +60,8 @@ module _ (p q : ℕ) where
   unfolding unplaced
   bad-same = refl
 
-  axis-same : (half : AxisRange) (s : List ℕ) → SameValue (axisOf p half s) (axisOf q half s)
-  unfolding axisOf
+  axis-same : (half : AxisRange) (s : List ℕ) → SameValue (axisValueOf p half s) (axisValueOf q half s)
+  unfolding axisValueOf
   axis-same half s = picked₂ SameValue (eqb (getD s (length s - 1) 0) (byte "~"))
       (numbered-same half true (indexNumber (take (length s - 1) s))) (numbered-same half false (indexNumber s))
 

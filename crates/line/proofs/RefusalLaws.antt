@@ -29,7 +29,7 @@ use Rattle.line.specs.declared.parser.Answer.{Answer}
 use Rattle.line.specs.declared.parser.Answer.the-variants as An
 use Rattle.line.specs.Tables.{keyElement}
 use Rattle.line.specs.Fields.{countOf, findFrom, field}
-use Rattle.line.specs.Values.{startsWith, numbered, axisOf, signedOf, buttonOf, hatNumbers, hatOf, valueOf}
+use Rattle.line.specs.Values.{startsWith, axisNumbered, axisValueOf, signedOf, buttonValueOf, hatNumbers, hatOf, valueOf}
 use Rattle.line.specs.Pairs.{refuse, halfOf, skipOf, mappedOf, keyedOf, pairOf}
 use Rattle.line.specs.Walker.{guidOf, uuidStep, fieldStep, stepOf}
 use Rattle.line.specs.Reading.{refusedOf, parseError, listsFit, readLine, readingOf}
@@ -62,11 +62,11 @@ AtOrAfter p (Vl.Hat h d) = Unit {0}
 AtOrAfter p (Vl.Bad q) = p ≤ q
 
 module _ (p : ℕ) where
-  numbered-placed : (half : AxisRange) (inverted : Bool) (n : IndexParse) → AtOrAfter p (numbered p half inverted n)
+  numbered-placed : (half : AxisRange) (inverted : Bool) (n : IndexParse) → AtOrAfter p (axisNumbered p half inverted n)
   numbered-placed half inverted (Ip.Parsed n) = tt
   numbered-placed half inverted Ip.Invalid = omega arith
 
-  button-placed : (n : IndexParse) → AtOrAfter p (buttonOf p n)
+  button-placed : (n : IndexParse) → AtOrAfter p (buttonValueOf p n)
   button-placed (Ip.Parsed n) = tt
   button-placed Ip.Invalid = omega arith
 
@@ -78,8 +78,8 @@ module _ (p : ℕ) where
   bad-placed : AtOrAfter p (Vl.Bad p)
   bad-placed = omega arith
 
-  axis-placed : (half : AxisRange) (s : List ℕ) → AtOrAfter p (axisOf p half s)
-  unfolding axisOf
+  axis-placed : (half : AxisRange) (s : List ℕ) → AtOrAfter p (axisValueOf p half s)
+  unfolding axisValueOf
   axis-placed half s =
       picked (AtOrAfter p) (eqb (getD s (length s - 1) 0) (byte "~"))
       (numbered-placed half true (indexNumber (take (length s - 1) s))) (numbered-placed half false (indexNumber s))

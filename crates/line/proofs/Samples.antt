@@ -18,7 +18,7 @@ use Rattle.line.specs.Elements.{codeOf}
 use Rattle.line.specs.Maps.{entryOf, MapView, toMap, emptyMap, putEntry, putOf}
 use Rattle.line.specs.Tables.{axesSdl, axes, rowFrom, keyRow}
 use Rattle.line.specs.Fields.{countOf, fieldsOf}
-use Rattle.line.specs.Values.{axisOf, signedOf, hatOf, valueOf}
+use Rattle.line.specs.Values.{axisValueOf, signedOf, hatOf, valueOf}
 use Rattle.line.specs.Pairs.{halfOf, keyedOf, pairOf}
 use Rattle.line.specs.Walker.{guidOf}
 use Rattle.line.specs.Puts.{listed, hatCodes, dpadAxis, hatPuts, putsOf}
@@ -86,7 +86,7 @@ samples =
 
 pub samples-hold : Holds samples
 unfolding readingOf readLine lineFrom namedFrom pairsFrom taken putOne putsOf hatPuts dpadAxis hatCodes listed fieldsOf
-    pairOf keyedOf halfOf valueOf hatOf signedOf axisOf guidOf countOf firstOf emptyMap putEntry putOf toMap same
+    pairOf keyedOf halfOf valueOf hatOf signedOf axisValueOf guidOf countOf firstOf emptyMap putEntry putOf toMap same
     readDigits unsigned indexNumber begins firstLength charLength runOf validRun isUtf8 axesSdl axes rowFrom keyRow
     hexDigit readHex hyphenated uuidOf
 samples-hold = (

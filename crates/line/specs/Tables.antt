@@ -102,11 +102,11 @@ abbrev pub asAxis : ℕ → AxisOrBtn
 asAxis k = Axis (record { 0 = k })
 
 -- as the program hands it out: the name, filled with zeros, and its length
-abbrev pub padded : List ℕ → List ℕ
-padded n = n ++ replicate (IDENT_MAX - length n) 0
+abbrev pub paddedName : List ℕ → List ℕ
+paddedName n = n ++ replicate (IDENT_MAX - length n) 0
 
 abbrev pub named : List ℕ → Ident
-named n = record { name = padded n; len = length n }
+named n = record { name = paddedName n; len = length n }
 
 abbrev pub identOf : AxisOrBtn → Ident
 identOf e = named (identText e)

@@ -19,24 +19,24 @@ abbrev pub startsWith : ℕ → List ℕ → Bool
 startsWith b s = eqb (getD s 0 0) b
 
 -- "a bad N .. gives 4 at p"
-abbrev pub numbered : ℕ → AxisRange → Bool → IndexParse → Value
-numbered p half inverted (Ip.Parsed n) = Vl.Axis n half inverted
-numbered p half inverted Ip.Invalid = Vl.Bad p
+abbrev pub axisNumbered : ℕ → AxisRange → Bool → IndexParse → Value
+axisNumbered p half inverted (Ip.Parsed n) = Vl.Axis n half inverted
+axisNumbered p half inverted Ip.Invalid = Vl.Bad p
 
 -- what follows the `a`: "each with optional last `~` (inverted)"
-unfoldable pub axisOf : ℕ → AxisRange → List ℕ → Value
-axisOf p half s =
+unfoldable pub axisValueOf : ℕ → AxisRange → List ℕ → Value
+axisValueOf p half s =
     pick (eqb (getD s (length s - 1) 0) (byte "~"))
-    (numbered p half true (indexNumber (take (length s - 1) s)))
-    (numbered p half false (indexNumber s))
+    (axisNumbered p half true (indexNumber (take (length s - 1) s)))
+    (axisNumbered p half false (indexNumber s))
 
 -- what follows the sign of "`+a`N, `-a`N"
 unfoldable pub signedOf : ℕ → AxisRange → List ℕ → Value
-signedOf p half s = pick (startsWith (byte "a") s) (axisOf p half (drop 1 s)) (Vl.Bad p)
+signedOf p half s = pick (startsWith (byte "a") s) (axisValueOf p half (drop 1 s)) (Vl.Bad p)
 
-abbrev pub buttonOf : ℕ → IndexParse → Value
-buttonOf p (Ip.Parsed n) = Vl.Button n
-buttonOf p Ip.Invalid = Vl.Bad p
+abbrev pub buttonValueOf : ℕ → IndexParse → Value
+buttonValueOf p (Ip.Parsed n) = Vl.Button n
+buttonValueOf p Ip.Invalid = Vl.Bad p
 
 -- "bad H, 4 at p+1; bad D, 4 at p + (dot's place in the value) + 1"
 abbrev pub hatNumbers : ℕ → ℕ → IndexParse → IndexParse → Value
@@ -54,9 +54,9 @@ hatOf p s =
 -- "Values: `a`N, `+a`N, `-a`N, .. and `b`N; a bad N or any other start gives 4 at p."
 unfoldable pub valueOf : ℕ → List ℕ → Value
 valueOf p v =
-    pick (startsWith (byte "a") v) (axisOf p Ar.Full (drop 1 v))
+    pick (startsWith (byte "a") v) (axisValueOf p Ar.Full (drop 1 v))
     (pick (startsWith (byte "+") v) (signedOf p Ar.UpperHalf (drop 1 v))
     (pick (startsWith (byte "-") v) (signedOf p Ar.LowerHalf (drop 1 v))
-    (pick (startsWith (byte "b") v) (buttonOf p (indexNumber (drop 1 v)))
+    (pick (startsWith (byte "b") v) (buttonValueOf p (indexNumber (drop 1 v)))
     (pick (startsWith (byte "h") v) (hatOf p (drop 1 v))
     (Vl.Bad p)))))

@@ -30,7 +30,7 @@ use Rattle.map.specs.declared.error.MappingAnswer.the-variants.{Accepted
 use Rattle.map.specs.declared.mapping_data.MappingData.{MappingData}
 use Rattle.map.specs.Lists.{placeOf}
 use Rattle.map.specs.Build.{filledButtons, filledAxes, checksOf, ended, pairText, pairTexts, builtLine}
-use Rattle.map.specs.Search.{begins, firstText, platformKey, lf}
+use Rattle.map.specs.Search.{beginsText, firstText, platformKey, lf}
 use Rattle.map.proofs.CheckLaws.{Passed, passed}
 use Rattle.map.proofs.PlainLaws.{isIdentByte, Plain, AllPlain}
 use Rattle.map.proofs.BuiltLaws.{buttons-all-plain, axes-all-plain}
@@ -127,7 +127,7 @@ no-comma : Free (byte ",") platformKey
 unfolding countOf
 no-comma = refl
 
-no-empty : begins platformKey [] ≡ false
+no-empty : beginsText platformKey [] ≡ false
 unfolding same
 no-empty = refl
 

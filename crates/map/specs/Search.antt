@@ -7,13 +7,13 @@ use lib.ListN.{length, take}
 use Rattle.text.specs.Bytes.{pick, byte, ascii, same}
 
 -- a text begins with p
-abbrev pub begins : List ℕ → List ℕ → Bool
-begins p s = same (take (length p) s) p
+abbrev pub beginsText : List ℕ → List ℕ → Bool
+beginsText p s = same (take (length p) s) p
 
 -- the place of the first p in a text, or the text's length where it has none
 unfoldable pub firstText : List ℕ → List ℕ → ℕ
 firstText p [] = 0
-firstText p (b ∷ s) = pick (begins p (b ∷ s)) 0 (suc (firstText p s))
+firstText p (b ∷ s) = pick (beginsText p (b ∷ s)) 0 (suc (firstText p s))
 
 -- "the first `platform:` anywhere in it"
 abbrev pub platformKey : List ℕ

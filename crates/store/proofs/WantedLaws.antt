@@ -18,31 +18,31 @@ use Rattle.text.specs.declared.uuid.Uuid.{Uuid}
 use Rattle.text.specs.declared.uuid.UuidParse.the-variants.{Parsed, Invalid}
 use Rattle.store.specs.Lines.{platform, forPlatform, wanted}
 use Rattle.line.specs.Fields.{firstField}
-use Rattle.map.specs.Search.{begins, firstText, platformKey}
+use Rattle.map.specs.Search.{beginsText, firstText, platformKey}
 
 -- ---- the first text in another
 
-pub begins-short : (p s : List ℕ) → length s < length p → begins p s ≡ false
+pub begins-short : (p s : List ℕ) → length s < length p → beginsText p s ≡ false
 begins-short p s h =
     same-lengths (take (length p) s) p (λ e. omega (arith, simp length-take at e))
 
-begins-long : (p s : List ℕ) → begins p s ≡ true → length p ≤ length s
+begins-long : (p s : List ℕ) → beginsText p s ≡ true → length p ≤ length s
 begins-long p s e = omega (arith, simp length-take at (ap length (same-equal (take (length p) s) p e)))
 
 module _ (p s : List ℕ) (i : ℕ) where
-  text-step : i < length s → (t : Bool) → begins p (drop i s) ≡ t
+  text-step : i < length s → (t : Bool) → beginsText p (drop i s) ≡ t
       → firstText p (drop i s) ≡ pick t 0 (suc (firstText p (drop (i + 1) s)))
   text-step h t e = go (drop i s) (at-next s i h) e
     where
-      go : (q : List ℕ) → q ≡ getD s i 0 ∷ drop (i + 1) s → begins p q ≡ t
+      go : (q : List ℕ) → q ≡ getD s i 0 ∷ drop (i + 1) s → beginsText p q ≡ t
           → firstText p q ≡ pick t 0 (suc (firstText p (drop (i + 1) s)))
       go q x y = ap (firstText p) x ∙ unfold firstText in
-          (ap (λ (b : Bool). pick b 0 (suc (firstText p (drop (i + 1) s)))) (ap (begins p) (sym x) ∙ y))
+          (ap (λ (b : Bool). pick b 0 (suc (firstText p (drop (i + 1) s)))) (ap (beginsText p) (sym x) ∙ y))
 
-  pub text-at : i < length s → begins p (drop i s) ≡ true → firstText p (drop i s) ≡ 0
+  pub text-at : i < length s → beginsText p (drop i s) ≡ true → firstText p (drop i s) ≡ 0
   text-at h e = text-step h true e
 
-  pub text-on : i < length s → begins p (drop i s) ≡ false → firstText p (drop i s) ≡ suc (firstText p (drop (i + 1) s))
+  pub text-on : i < length s → beginsText p (drop i s) ≡ false → firstText p (drop i s) ≡ suc (firstText p (drop (i + 1) s))
   text-on h e = text-step h false e
 
   pub text-end : length s ≤ i → firstText p (drop i s) ≡ 0
@@ -53,9 +53,9 @@ module _ (p s : List ℕ) (i : ℕ) where
 pub text-within : (p s : List ℕ) → (firstText p s ≡ length s → ⊥) → firstText p s + length p ≤ length s
 unfolding firstText
 text-within p [] n = absurd (n refl)
-text-within p (b ∷ s) n = go (begins p (b ∷ s)) refl n (text-within p s)
+text-within p (b ∷ s) n = go (beginsText p (b ∷ s)) refl n (text-within p s)
   where
-    go : (t : Bool) → begins p (b ∷ s) ≡ t → (pick t 0 (suc (firstText p s)) ≡ suc (length s) → ⊥)
+    go : (t : Bool) → beginsText p (b ∷ s) ≡ t → (pick t 0 (suc (firstText p s)) ≡ suc (length s) → ⊥)
         → ((firstText p s ≡ length s → ⊥) → firstText p s + length p ≤ length s)
         → pick t 0 (suc (firstText p s)) + length p ≤ suc (length s)
     go true e n ih = omega (arith, begins-long p (b ∷ s) e)

@@ -16,13 +16,13 @@ number A.NoRoom = 21
 number A.BufferTooLarge = 23
 
 -- the place: "10 at the length of the longest valid run of whole characters from the first byte on; [..] the rest none"
-abbrev pub placeOf : Answer → Option ℕ
-placeOf A.Done = none
-placeOf (A.NotUtf8 place) = some place
-placeOf A.Unsound = none
-placeOf A.LineTooLong = none
-placeOf A.NoRoom = none
-placeOf A.BufferTooLarge = none
+abbrev pub answerPlace : Answer → Option ℕ
+answerPlace A.Done = none
+answerPlace (A.NotUtf8 place) = some place
+answerPlace A.Unsound = none
+answerPlace A.LineTooLong = none
+answerPlace A.NoRoom = none
+answerPlace A.BufferTooLarge = none
 
 -- "one says found, none or 19"
 abbrev pub lookNumber : Look → ℕ

@@ -14,7 +14,7 @@ ghost use Rattle.text.specs.Bytes.{firstOf};
 ghost use Rattle.store.specs.Decode.{decode};
 ghost use Rattle.store.specs.Inner.{known};
 ghost use Rattle.store.specs.Lines.{forPlatform, wanted as isWanted};
-ghost use Rattle.map.specs.Search.{lf, begins, firstText};
+ghost use Rattle.map.specs.Search.{lf, beginsText, firstText};
 ghost use Rattle.line.specs.Fields.{firstField};
 ghost use Rattle.store.specs.Inner.{firstLine, Reaches};
 
@@ -43,7 +43,7 @@ pub fn line_length(s: &[u8], end: usize) -> usize
 
 // Whether a text begins with `p`.
 fn begins_with(s: &[u8], p: &[u8]) -> bool
-    ensures { λ r. ⌜ r ≡ begins (now (p .entry)) (now (s .entry)) ⌝ }
+    ensures { λ r. ⌜ r ≡ beginsText (now (p .entry)) (now (s .entry)) ⌝ }
 {
     let n = p.len();
     if s.len() < n {

@@ -7,7 +7,7 @@ ghost use mathlib.Core.Path.{_≡_};
 ghost use Prim.Native.Nat.{_+_, _<_, _^_};
 ghost use lib.ListN.{length};
 ghost use Rattle.text.specs.Decimal.{indexNumber};
-ghost use Rattle.line.specs.Values.{numbered, axisOf, signedOf, buttonOf, hatNumbers, hatOf, valueOf};
+ghost use Rattle.line.specs.Values.{axisNumbered, axisValueOf, signedOf, buttonValueOf, hatNumbers, hatOf, valueOf};
 
 // A value, or the place at which it is refused.
 pub enum Value {
@@ -58,7 +58,7 @@ pub fn read_value(v: &[u8], p: usize) -> Value
 
 // What follows the `a`: a last `~` inverts and is cut off.
 fn axis_value(s: &[u8], p: usize, half: AxisRange) -> Value
-    ensures { λ r. ⌜ r ≡ axisOf p half (now (s .entry)) ⌝ }
+    ensures { λ r. ⌜ r ≡ axisValueOf p half (now (s .entry)) ⌝ }
 {
     let n = s.len();
     if n == 0 {
@@ -73,7 +73,7 @@ fn axis_value(s: &[u8], p: usize, half: AxisRange) -> Value
 }
 
 fn axis_number(n: IndexParse, p: usize, input: AxisRange, inverted: bool) -> Value
-    ensures { λ r. ⌜ r ≡ numbered p input inverted n ⌝ }
+    ensures { λ r. ⌜ r ≡ axisNumbered p input inverted n ⌝ }
 {
     match n {
         IndexParse::Parsed(from) => Value::Axis {
@@ -99,7 +99,7 @@ fn signed_value(s: &[u8], p: usize, half: AxisRange) -> Value
 }
 
 fn button_value(s: &[u8], p: usize) -> Value
-    ensures { λ r. ⌜ r ≡ buttonOf p (indexNumber (now (s .entry))) ⌝ }
+    ensures { λ r. ⌜ r ≡ buttonValueOf p (indexNumber (now (s .entry))) ⌝ }
 {
     match parse_u16(s) {
         IndexParse::Parsed(from) => Value::Button { from },

@@ -4,7 +4,7 @@ use Prim.Native.Nat.{_+_, _-_, _≤_}
 use native.Mathlib.Omega.{arith}
 use lib.ListN.{length, drop}
 use Rattle.text.proofs.ListLaws.{part-to-end}
-use Rattle.map.specs.Search.{begins, firstText}
+use Rattle.map.specs.Search.{beginsText, firstText}
 use Rattle.store.proofs.WantedLaws.{text-at, text-on, text-end}
 use Rattle.store.proofs.lines.find_text.Statement.{statement}
 use Rattle.store.proofs.lines.find_text.Tie as tie
@@ -34,7 +34,7 @@ returns : tie.Need-returns Inv-loop μ-loop
 returns c =
     let a = c .before .before .before .before .before .before .before .args in
     let i = c .before .before .before .before .loop .i in
-    let here = sym (c .before .begins-with .ensures ∙ ap (begins (a .p .now)) (part-to-end (a .s .now) i))
+    let here = sym (c .before .begins-with .ensures ∙ ap (beginsText (a .p .now)) (part-to-end (a .s .now) i))
     ∙ c .if1 .taken in
     omega (arith, text-at (a .p .now) (a .s .now) i (omega arith) here)
 
@@ -48,7 +48,7 @@ loop-again : tie.Need-loop-again Inv-loop μ-loop
 loop-again c =
     let a = c .before .before .before .before .before .before .before .args in
     let i = c .before .before .before .before .loop .i in
-    let not-here = sym (c .before .begins-with .ensures ∙ ap (begins (a .p .now)) (part-to-end (a .s .now) i))
+    let not-here = sym (c .before .begins-with .ensures ∙ ap (beginsText (a .p .now)) (part-to-end (a .s .now) i))
     ∙ c .if1 .left in
     let on = text-on (a .p .now) (a .s .now) i (omega arith) not-here in
     (omega arith, omega arith)

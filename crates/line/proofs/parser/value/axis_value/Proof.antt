@@ -3,7 +3,7 @@ use native.Mathlib.Omega.{arith}
 use lib.Seq.{length-take-le}
 use mathlib.Core.Path.{sym}
 use Rattle.text.specs.Decimal.{indexNumber}
-use Rattle.line.specs.Values.{axisOf}
+use Rattle.line.specs.Values.{axisValueOf}
 use Rattle.text.proofs.ListLaws.{nil-of}
 use borrow.Author.Tests.{eq-eqb, ne-eqb}
 use borrow.Author.Needs.{needs}
@@ -11,7 +11,7 @@ use Rattle.line.proofs.parser.value.axis_value.Statement.{statement}
 use Rattle.line.proofs.parser.value.axis_value.Tie as tie
 
 returns : tie.Need-returns
-unfolding axisOf indexNumber
+unfolding axisValueOf indexNumber
 returns c = simp (nil-of (c .before .before .args .s .now) (c .if1 .taken))
 
 sub-last : tie.Need-sub-last
@@ -36,7 +36,7 @@ axis-number-requires-2 : tie.Need-axis-number-requires-2
 axis-number-requires-2 c κs = search needs
 
 returns-2 : tie.Need-returns-2
-unfolding axisOf
+unfolding axisValueOf
 returns-2 c = simp (
   eq-eqb _ _ (c .before .before .before .if2 .taken),
   c .axis-number .ensures,
@@ -44,7 +44,7 @@ returns-2 c = simp (
 )
 
 returns-3 : tie.Need-returns-3
-unfolding axisOf
+unfolding axisValueOf
 returns-3 c = simp (ne-eqb _ _ (c .before .before .if2 .left), c .axis-number2 .ensures, c .before .parse-u162 .ensures)
 
 pub axis-value-spec : {M : Type 1} → statement M
