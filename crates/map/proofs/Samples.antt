@@ -7,7 +7,7 @@ use mathlib.Core.List.{List, [], _∷_, _++_}
 use lib.ListN.{length, replicate}
 use Rattle.text.specs.Bytes.{ascii, firstOf, written}
 use Rattle.text.specs.Decimal.{digits, decimal}
-use Rattle.text.specs.Utf8.{beginsText, firstLength, charLength, runOf, validRun, isUtf8}
+use Rattle.text.specs.Utf8.{begins, firstLength, charLength, runOf, validRun, isUtf8}
 use Rattle.text.specs.Uuid.{hexText}
 use Rattle.text.specs.declared.uuid.Uuid.{Uuid}
 use Rattle.line.specs.Buttons as B
@@ -64,7 +64,7 @@ followed-shown (x ∷ xs) ys h s = (h .0, followed-shown xs ys (h .1) s)
 l-shown : Shown (sampleL ∷ [])
 unfolding buildOf outputOf answerOf checksOf slotChecks axisChecks missingOf filledFrom buttonOf axisOf insertBtnOf
     builtLine builtMap ended pairTexts putsInto putEntry firstOf written decimal digits hexText axesSdl axes elementRow
-    elementFrom beginsText firstLength charLength runOf validRun isUtf8
+    elementFrom begins firstLength charLength runOf validRun isUtf8
 l-shown = (refl, refl, tt)
 
 -- the twelve

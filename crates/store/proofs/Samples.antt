@@ -7,7 +7,7 @@ use mathlib.Core.List.{List, [], _∷_, _++_}
 use Prim.Native.Nat.{ℕ}
 use lib.ListN.{replicate}
 use Rattle.text.specs.Bytes.{ascii, same, firstOf}
-use Rattle.text.specs.Utf8.{beginsText, firstLength, charLength, runOf, validRun, isUtf8}
+use Rattle.text.specs.Utf8.{begins, firstLength, charLength, runOf, validRun, isUtf8}
 use Rattle.text.specs.Uuid.{hexDigit, readHex, uuidOf, bigEndian}
 use Rattle.text.specs.declared.uuid.Uuid.{Uuid}
 use Rattle.text.specs.declared.uuid.UuidParse.the-variants.{Parsed, Invalid}
@@ -224,7 +224,7 @@ module _ where
   not-utf8 : storeInsert (0 ∷ []) [] (65 ∷ 195 ∷ [])
       ≡ record { answer = record { answer = A.NotUtf8 1; count = 0 }; index = 0 ∷ []; text = [] }
   unfolding storeInsert decode walk headAt zeroes distinct bookInsert isUtf8 validRun runOf charLength firstLength
-      beginsText encodeIndex encodeText records texts padded
+      begins encodeIndex encodeText records texts padded
   not-utf8 = refl
 
   -- an unwanted line is counted, a wanted one filed without its CR
@@ -236,7 +236,7 @@ module _ where
             u ++ (0 ∷ []);
       }
   unfolding storeInsert decode walk headAt zeroes distinct bookInsert isUtf8 validRun runOf charLength firstLength
-      beginsText encodeIndex encodeText records texts padded linesOf insertLines reach wanted forPlatform firstText uuidOf
+      begins encodeIndex encodeText records texts padded linesOf insertLines reach wanted forPlatform firstText uuidOf
       readHex hexDigit firstOf same noRoom strike lengths file recordBytes bigEndian rec u nil
   filed = refl
 
@@ -244,7 +244,7 @@ module _ where
   full : storeInsert (replicate 20 0) (replicate 33 0) (ascii "x\n" ++ u)
       ≡ record { answer = record { answer = A.NoRoom; count = 1 }; index = replicate 20 0; text = replicate 33 0 }
   unfolding storeInsert decode walk headAt zeroes distinct bookInsert isUtf8 validRun runOf charLength firstLength
-      beginsText encodeIndex encodeText records texts padded linesOf insertLines reach wanted forPlatform firstText uuidOf
+      begins encodeIndex encodeText records texts padded linesOf insertLines reach wanted forPlatform firstText uuidOf
       readHex hexDigit firstOf same noRoom strike lengths u nil
   full = refl
 

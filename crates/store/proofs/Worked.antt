@@ -8,7 +8,7 @@ use lib.Dec.{leb, eqb}
 use lib.ListN.{length, getD, drop, replicate}
 use Rattle.text.specs.Bytes.{pick, byte, ascii, same, firstOf}
 use Rattle.text.specs.Decimal.{readDigits, unsigned, indexNumber}
-use Rattle.text.specs.Utf8.{beginsText, firstLength, charLength, runOf, validRun, isUtf8}
+use Rattle.text.specs.Utf8.{begins, firstLength, charLength, runOf, validRun, isUtf8}
 use Rattle.text.specs.Uuid.{hexDigit, readHex, hexText, uuidOf}
 use Rattle.text.specs.declared.uuid.Uuid.{Uuid}
 use Rattle.line.specs.declared.ev.AxisOrBtn.the-variants.{Axis, Btn}
@@ -71,7 +71,7 @@ dpup-map : readingOf (u ++ ascii ",T,dpup:h0.1,") [] []
     }))
 unfolding readingOf readLine lineFrom namedFrom pairsFrom taken putOne putsOf hatPuts dpadAxis hatCodes listed fieldsOf
     pairOf keyedOf halfOf valueOf hatOf guidOf countOf firstOf emptyMap putEntry putOf toMap same
-    readDigits unsigned indexNumber beginsText firstLength charLength runOf validRun isUtf8 axesSdl axes rowFrom keyRow
+    readDigits unsigned indexNumber begins firstLength charLength runOf validRun isUtf8 axesSdl axes rowFrom keyRow
     hexDigit readHex uuidOf u
 dpup-map = refl
 
@@ -83,7 +83,7 @@ dpright-value = refl
 
 dpright-place : readingOutcome (readingOf (u ++ ascii ",T,dpright:h0.q") [] [] .answer) ≡ Refuses (refusalAt 4 38)
 unfolding readingOf readLine lineFrom namedFrom pairsFrom taken fieldsOf pairOf keyedOf halfOf valueOf hatOf guidOf
-    countOf firstOf emptyMap toMap same readDigits unsigned indexNumber beginsText firstLength charLength runOf validRun
+    countOf firstOf emptyMap toMap same readDigits unsigned indexNumber begins firstLength charLength runOf validRun
     isUtf8 axesSdl axes rowFrom keyRow hexDigit readHex uuidOf u
 dpright-place = refl
 
@@ -95,19 +95,19 @@ emptySave = saveArgs noSlots [] [] (ascii "T") nil
 -- an index of 20 bytes; a text of 34; both as large as they have to be
 index-short : saveNumber (storeSave (replicate 20 0) (replicate 35 0) emptySave .answer .answer) ≡ 21
 unfolding storeSave attemptOf checksOf slotChecks axisChecks missingOf filledFrom buttonOf axisOf builtLine builtMap
-    ended pairTexts hexText firstText firstOf beginsText firstLength charLength runOf validRun isUtf8 decode walk headAt
+    ended pairTexts hexText firstText firstOf begins firstLength charLength runOf validRun isUtf8 decode walk headAt
     zeroes distinct noRoom strike lengths emptySave nil same
 index-short = refl
 
 text-short : saveNumber (storeSave (replicate 21 0) (replicate 34 0) emptySave .answer .answer) ≡ 21
 unfolding storeSave attemptOf checksOf slotChecks axisChecks missingOf filledFrom buttonOf axisOf builtLine builtMap
-    ended pairTexts hexText firstText firstOf beginsText firstLength charLength runOf validRun isUtf8 decode walk headAt
+    ended pairTexts hexText firstText firstOf begins firstLength charLength runOf validRun isUtf8 decode walk headAt
     zeroes distinct noRoom strike lengths emptySave nil same
 text-short = refl
 
 just-fits : saveNumber (storeSave (replicate 21 0) (replicate 35 0) emptySave .answer .answer) ≡ 0
 unfolding storeSave attemptOf checksOf slotChecks axisChecks missingOf filledFrom buttonOf axisOf builtLine builtMap
-    ended pairTexts hexText firstText firstOf beginsText firstLength charLength runOf validRun isUtf8 decode walk headAt
+    ended pairTexts hexText firstText firstOf begins firstLength charLength runOf validRun isUtf8 decode walk headAt
     zeroes distinct noRoom strike lengths emptySave nil same
 just-fits = refl
 
