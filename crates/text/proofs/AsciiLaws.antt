@@ -8,13 +8,13 @@ use mathlib.Core.List.{List, [], _∷_, _++_, append-assoc}
 use native.Mathlib.Omega.{arith}
 use borrow.Author.Tests.{ltb-true, leb-true, lt-leb, le-leb, eq-eqb, ne-eqb, eqb-true, eqb-false}
 use lib.Dec.{leb, eqb}
-use lib.ListN.{length, drop, length-drop, length-append}
-use lib.Seq.{drop-append-le}
+use lib.ListN.{length, drop, getD, length-drop, length-append}
+use lib.Seq.{drop-append-le, drop-drop}
 use Rattle.text.specs.Bytes.{pick, both}
 use Rattle.text.specs.Utf8.{Range, Alternative, utf8-char, inRange, begins, firstLength, charLength, validRun}
 use Rattle.text.specs.Utf8.{isUtf8}
 use Rattle.text.specs.Inner.{every, isAscii}
-use Rattle.text.proofs.ListLaws.{lt-or-le, off, both-parts}
+use Rattle.text.proofs.ListLaws.{lt-or-le, off, both-parts, at-next}
 use Rattle.text.proofs.Utf8Laws.{char-long, valid-stop, valid-step}
 
 -- ---- octets after the first of a character are none of ASCII
@@ -54,6 +54,13 @@ module _ (d : ℕ) (ascii : d < 128) where
   char-ascii : (b : List ℕ) → charLength (d ∷ b) ≡ 1
   unfolding charLength firstLength begins
   char-ascii b = let l = le-leb 0 d (omega arith) in let h = le-leb d 127 (omega arith) in rw (l, h)
+
+-- an ASCII byte is passed
+pub ascii-goes : (s : List ℕ) (i : ℕ) → i < length s → getD s i 0 < 128
+    → i + 1 + validRun (drop (i + 1) s) ≡ i + validRun (drop i s)
+ascii-goes s i h a =
+    let c = ap charLength (at-next s i h) ∙ char-ascii (getD s i 0) a (drop (i + 1) s) in
+    rw (valid-step (drop i s) (λ z. omega arith), c, drop-drop) (omega arith)
 
 -- ---- the longest run of whole characters
 abbrev pub Valid : List ℕ → Type 0

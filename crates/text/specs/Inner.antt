@@ -1,13 +1,14 @@
 -- What the contracts of private functions and the laws for the layers above say.
 -- No public contract rests on these: a reader may leave them out.
-use Prim.Native.Nat.{ℕ, _+_}
+use Prim.Native.Nat.{ℕ, _+_, _≤_}
 use mathlib.Core.Path.{_≡_}
 use mathlib.Core.Bool.{Bool, true, false}
 use mathlib.Core.List.{List, [], _∷_}
 use lib.Dec.{ltb}
-use lib.ListN.{length}
+use lib.ListN.{length, drop}
 use Rattle.text.specs.Bytes.{both, byte, written}
 use Rattle.text.specs.Decimal.{isDigit}
+use Rattle.text.specs.Utf8.{validRun}
 use Rattle.text.specs.Uuid.{readHex, isFrom}
 use Rattle.text.specs.declared.uuid.Hex.{Hex}
 use Rattle.text.specs.declared.uuid.Hex.the-variants.{Number, NotHex}
@@ -29,6 +30,10 @@ every f (b ∷ bs) = both (f b) (every f bs)
 -- an ASCII byte
 abbrev pub isAscii : ℕ → Bool
 isAscii b = ltb b 128
+
+-- from i to j are whole characters
+abbrev pub Passed : List ℕ → ℕ → ℕ → Type 0
+Passed s i j = (i ≤ j) × (j ≤ length s) × (j + validRun (drop j s) ≡ i + validRun (drop i s))
 
 -- digits alone
 abbrev pub allDigits : List ℕ → Bool

@@ -1,9 +1,11 @@
 // UTF-8 by the ABNF of RFC 3629, section 4.
 ghost use mathlib.Core.Path.{_≡_};
 ghost use mathlib.Core.List.{[], _∷_};
-ghost use lib.ListN.{replicate};
+ghost use Prim.Native.Nat.{_≤_};
+ghost use lib.ListN.{length, replicate};
 ghost use Rattle.text.specs.Utf8.{%x, utf8-tail, utf8-3, utf8-4, begins, firstLength, charLength};
 ghost use Rattle.text.specs.Utf8.{validRun, isUtf8};
+ghost use Rattle.text.specs.Inner.{Passed};
 
 // The bytes begin with one from `low` to `high`.
 fn begins_in(s: &[u8], low: u8, high: u8) -> bool
@@ -101,17 +103,33 @@ fn char_length(s: &[u8]) -> usize
     four_octets(s)
 }
 
+// The first place from `from` on that has no ASCII byte, or the end.
+fn ascii_end(s: &[u8], from: usize) -> usize
+    requires { ⌜ from ≤ length (now s) ⌝ }
+    ensures { λ r. ⌜ Passed (now (s .entry)) from r ⌝ }
+{
+    let mut i = from;
+    while i < s.len() {
+        if 0x7F < s[i] {
+            return i;
+        }
+        i += 1;
+    }
+    i
+}
+
 // The length of the longest run of whole characters from the first byte on.
 pub fn valid_up_to(s: &[u8]) -> usize
     ensures { λ r. ⌜ r ≡ validRun (now (s .entry)) ⌝ }
 {
     let mut at = 0;
     loop {
-        let n = char_length(&s[at..]);
+        let past = ascii_end(s, at);
+        let n = char_length(&s[past..]);
         if n == 0 {
-            return at;
+            return past;
         }
-        at += n;
+        at = past + n;
     }
 }
 

@@ -18,6 +18,9 @@ abbrev μ-loop : tie.MeasureT-loop
 loop-holds : tie.Need-loop-holds Inv-loop μ-loop
 loop-holds c = omega arith
 
+ascii-end-requires : tie.Need-ascii-end-requires Inv-loop μ-loop
+ascii-end-requires c κs = c .loop .inv .0
+
 sub-char-length : tie.Need-sub-char-length Inv-loop μ-loop
 sub-char-length c = omega arith
 
@@ -32,30 +35,32 @@ char-length-requires c κs = tt
 
 returns : tie.Need-returns Inv-loop μ-loop
 returns c =
-    let at-loop = c .before .before .before in
-    let s = at-loop .before .before .args .s .now in
-    sym (run-ends s (at-loop .loop .at) _ (c .before .char-length .ensures) (c .if1 .taken)) ∙ at-loop .loop .inv .1
+    let past = c .before .before .before .ascii-end in
+    let s = c .before .before .before .before .before .before .args .s .now in
+    sym (run-ends s (past .result) _ (c .before .char-length .ensures) (c .if1 .taken))
+    ∙ past .ensures .2
+    ∙ c .before .before .before .before .loop .inv .1
 
 add-at : tie.Need-add-at Inv-loop μ-loop
 add-at c =
-    let at-loop = c .before .before .before in
-    let s = at-loop .before .before .args .s .now in
-    let more = run-goes s (at-loop .loop .at) _ (c .before .char-length .ensures) (c .if1 .left) (omega arith) in
+    let past = c .before .before .before .ascii-end in
+    let s = c .before .before .before .before .before .before .args .s .now in
+    let more = run-goes s (past .result) _ (c .before .char-length .ensures) (c .if1 .left) (past .ensures .1) in
     omega arith
 
 loop-less : tie.Need-loop-less Inv-loop μ-loop
 loop-less c =
-    let at-loop = c .before .before .before in
-    let s = at-loop .before .before .args .s .now in
-    let more = run-goes s (at-loop .loop .at) _ (c .before .char-length .ensures) (c .if1 .left) (omega arith) in
-    omega arith
+    let past = c .before .before .before .ascii-end in
+    let s = c .before .before .before .before .before .before .args .s .now in
+    let more = run-goes s (past .result) _ (c .before .char-length .ensures) (c .if1 .left) (past .ensures .1) in
+    omega (arith, past .ensures .0)
 
 loop-again : tie.Need-loop-again Inv-loop μ-loop
 loop-again c =
-    let at-loop = c .before .before .before in
-    let s = at-loop .before .before .args .s .now in
-    let more = run-goes s (at-loop .loop .at) _ (c .before .char-length .ensures) (c .if1 .left) (omega arith) in
-    (more .0, more .1 ∙ at-loop .loop .inv .1)
+    let past = c .before .before .before .ascii-end in
+    let s = c .before .before .before .before .before .before .args .s .now in
+    let more = run-goes s (past .result) _ (c .before .char-length .ensures) (c .if1 .left) (past .ensures .1) in
+    (more .0, more .1 ∙ past .ensures .2 ∙ c .before .before .before .before .loop .inv .1)
 
 pub valid-up-to-spec : {M : Type 1} → statement M
 valid-up-to-spec =
@@ -64,6 +69,7 @@ valid-up-to-spec =
     Inv-loop
     μ-loop
     loop-holds
+    ascii-end-requires
     sub-char-length
     part-char-length-start
     part-char-length-end
