@@ -302,8 +302,8 @@ raspteal_step raspteal_parser_step(const uint8_t *line, size_t line_len, size_t 
 /* The first answer over a line: the token of the step at position 0 in the state that raspteal_parser_start gives. */
 raspteal_token raspteal_first_token(const uint8_t *line, size_t line_len);
 
-/* How many tokens a walker gives over a line, up to its end or to a refusal after which it doesn't go on (1, 2, 10); and
- * the last refusal on the way, number 0 where there is none. */
+/* How many tokens a walker gives over a line, up to its end or to a refusal after which it doesn't go on (1, 2, 10);
+ * and the last refusal on the way, number 0 where there is none. */
 raspteal_tokens raspteal_count_tokens(const uint8_t *line, size_t line_len);
 
 /* The map of a line, by the lists of the pad's button and axis codes. Refusals: 10, 12, then 1 to 7 and 11 in the

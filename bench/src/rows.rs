@@ -224,5 +224,10 @@ fn map(n: u32, kept: bool) -> Vec<Case> {
     assert_eq!(reading.answer().map(|m| m.entries.len()), Ok(n as usize));
     let gilrs = rust::Map::of(&line, &pad, &codes);
     let label = format!("{n} entries");
-    vec![if kept { case(label, here::Lists::of(&reading, codes), gilrs) } else { case(label, here::Map { reading, codes }, gilrs) }]
+    let case = if kept {
+        case(label, here::Lists::of(&reading, codes), gilrs)
+    } else {
+        case(label, here::Map { reading, codes }, gilrs)
+    };
+    vec![case]
 }

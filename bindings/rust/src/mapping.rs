@@ -74,7 +74,7 @@ impl Mapping {
         let entries = &self.0.entries[..self.len()];
         Lookup {
             codes: entries.iter().map(|e| e.code).collect(),
-            elements: entries.iter().map(|e| e.element.number as u32 + if e.element.is_axis { 65536 } else { 0 }).collect(),
+            elements: entries.iter().map(|e| e.element.number as u32 + 65536 * e.element.is_axis as u32).collect(),
         }
     }
 

@@ -14,7 +14,8 @@ use Rattle.line.specs.Buttons as B
 use Rattle.line.specs.Elements.{sameElement}
 use Rattle.line.specs.Inner.{untilZero}
 use Rattle.line.specs.Tables.{ROWS, axesSdl, axes, nameAt, rowFrom, keyRow, elementFrom, elementRow}
-use Rattle.line.specs.Tables.{paddedName, byteOrder, placeOrder, sameOrder, every, sorted, howMany, oneRow, asButton}
+use Rattle.line.specs.Tables.{paddedName, byteOrder, placeOrder, sameOrder, every, sorted, howMany, oneRow}
+use Rattle.line.specs.Tables.{asButton}
 use Rattle.line.specs.Tables.{asAxis}
 use Rattle.line.specs.declared.ev.AxisOrBtn.{AxisOrBtn}
 use Rattle.line.specs.declared.ev.AxisOrBtn.the-variants.{Btn}

@@ -29,7 +29,8 @@ use Rattle.line.specs.declared.parser.Answer.{Answer}
 use Rattle.line.specs.declared.parser.Answer.the-variants as An
 use Rattle.line.specs.Tables.{keyElement}
 use Rattle.line.specs.Fields.{countOf, findFrom, field}
-use Rattle.line.specs.Values.{startsWith, axisNumbered, axisValueOf, signedOf, buttonValueOf, hatNumbers, hatOf, valueOf}
+use Rattle.line.specs.Values.{startsWith, axisNumbered, axisValueOf, signedOf, buttonValueOf}
+use Rattle.line.specs.Values.{hatNumbers, hatOf, valueOf}
 use Rattle.line.specs.Pairs.{refuse, halfOf, skipOf, mappedOf, keyedOf, pairOf}
 use Rattle.line.specs.Walker.{guidOf, uuidStep, fieldStep, stepOf}
 use Rattle.line.specs.Reading.{refusedOf, parseError, listsFit, readLine, readingOf}

@@ -48,7 +48,8 @@ module _ (c : ℕ) where
       rw (ne-eqb c x (λ e. n (sym e)))
   begins-cut (x ∷ p) (y ∷ f) s free h = by (eqb y x) refl h (begins-cut p f s (free-cons c x p free .1))
     where
-      by : (t : Bool) → eqb y x ≡ t → both t (beginsText p f) ≡ false → (beginsText p f ≡ false → beginsText p (f ++ c ∷ s) ≡ false)
+      by : (t : Bool) → eqb y x ≡ t → both t (beginsText p f) ≡ false
+          → (beginsText p f ≡ false → beginsText p (f ++ c ∷ s) ≡ false)
           → both (eqb y x) (beginsText p (f ++ c ∷ s)) ≡ false
       by true e q ih = rw e (ih q)
       by false e q ih = rw e

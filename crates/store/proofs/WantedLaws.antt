@@ -42,7 +42,8 @@ module _ (p s : List ℕ) (i : ℕ) where
   pub text-at : i < length s → beginsText p (drop i s) ≡ true → firstText p (drop i s) ≡ 0
   text-at h e = text-step h true e
 
-  pub text-on : i < length s → beginsText p (drop i s) ≡ false → firstText p (drop i s) ≡ suc (firstText p (drop (i + 1) s))
+  pub text-on : i < length s → beginsText p (drop i s) ≡ false
+      → firstText p (drop i s) ≡ suc (firstText p (drop (i + 1) s))
   text-on h e = text-step h false e
 
   pub text-end : length s ≤ i → firstText p (drop i s) ≡ 0

@@ -30,7 +30,8 @@ use Rattle.line.specs.Puts.{listed, hatCodes, dpadAxis, hatPuts, putsOf}
 use Rattle.line.specs.Reading.{acceptedOf, putOne, taken, pairsFrom, namedFrom, lineFrom, readLine, readingOf}
 use Rattle.line.specs.Refusals.{Refuses, refusalAt, readingOutcome}
 use Rattle.map.specs.Slots.{noSlots, buttonOf, axisOf}
-use Rattle.map.specs.Build.{filledFrom, missingOf, axisChecks, slotChecks, checksOf, ended, pairTexts, builtLine, builtMap}
+use Rattle.map.specs.Build.{filledFrom, missingOf, axisChecks, slotChecks, checksOf, ended, pairTexts}
+use Rattle.map.specs.Build.{builtLine, builtMap}
 use Rattle.map.specs.Search.{firstText}
 use Rattle.store.specs.declared.calls.Look.the-variants as L
 use Rattle.store.specs.Held.{Key, strike, distinct, bufferMax, recordSize}

@@ -7,7 +7,8 @@ ghost use mathlib.Core.Path.{_≡_};
 ghost use Prim.Native.Nat.{_+_, _<_, _^_};
 ghost use lib.ListN.{length};
 ghost use Rattle.text.specs.Decimal.{indexNumber};
-ghost use Rattle.line.specs.Values.{axisNumbered, axisValueOf, signedOf, buttonValueOf, hatNumbers, hatOf, valueOf};
+ghost use Rattle.line.specs.Values.{axisNumbered, axisValueOf, signedOf, buttonValueOf};
+ghost use Rattle.line.specs.Values.{hatNumbers, hatOf, valueOf};
 
 // A value, or the place at which it is refused.
 pub enum Value {
