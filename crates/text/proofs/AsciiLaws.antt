@@ -8,13 +8,14 @@ use mathlib.Core.List.{List, [], _∷_, _++_, append-assoc}
 use native.Mathlib.Omega.{arith}
 use borrow.Author.Tests.{ltb-true, leb-true, lt-leb, le-leb, eq-eqb, ne-eqb, eqb-true, eqb-false}
 use lib.Dec.{leb, eqb}
-use lib.ListN.{length, drop, getD, length-drop, length-append}
+use lib.ListN.{length, take, drop, getD, length-drop, length-append}
 use lib.Seq.{drop-append-le, drop-drop}
 use Rattle.text.specs.Bytes.{pick, both}
 use Rattle.text.specs.Utf8.{Range, Alternative, utf8-char, inRange, begins, firstLength, charLength, validRun}
 use Rattle.text.specs.Utf8.{isUtf8}
 use Rattle.text.specs.Inner.{every, isAscii}
 use Rattle.text.proofs.ListLaws.{lt-or-le, off, both-parts, at-next}
+use Rattle.text.proofs.BlockLaws.{every-next, and-parts}
 use Rattle.text.proofs.Utf8Laws.{char-long, valid-stop, valid-step}
 
 -- ---- octets after the first of a character are none of ASCII
@@ -61,6 +62,18 @@ pub ascii-goes : (s : List ℕ) (i : ℕ) → i < length s → getD s i 0 < 128
 ascii-goes s i h a =
     let c = ap charLength (at-next s i h) ∙ char-ascii (getD s i 0) a (drop (i + 1) s) in
     rw (valid-step (drop i s) (λ z. omega arith), c, drop-drop) (omega arith)
+
+-- n ASCII bytes are passed
+pub asciis-go : (s : List ℕ) (i n : ℕ) → i + n ≤ length s → every isAscii (take n (drop i s)) ≡ true
+    → i + n + validRun (drop (i + n) s) ≡ i + validRun (drop i s)
+asciis-go s i zero h e = let z : i + 0 ≡ i = omega arith in ap (λ (k : ℕ). k + validRun (drop k s)) z
+asciis-go s i (suc n) h e =
+    let w = and-parts (every isAscii (take n (drop i s))) (isAscii (getD s (i + n) 0))
+    (sym (every-next isAscii s i n (omega arith)) ∙ e) in
+    let z : i + suc n ≡ i + n + 1 = omega arith in
+    ap (λ (k : ℕ). k + validRun (drop k s)) z
+    ∙ ascii-goes s (i + n) (omega arith) (ltb-true (getD s (i + n) 0) 128 (w .1))
+    ∙ asciis-go s i n (omega arith) (w .0)
 
 -- ---- the longest run of whole characters
 abbrev pub Valid : List ℕ → Type 0

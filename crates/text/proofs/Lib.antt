@@ -1,6 +1,7 @@
 pub mod ListLaws
 pub mod LentLaws
 pub mod BytesLaws
+pub mod BlockLaws
 pub mod Utf8Laws
 pub mod AsciiLaws
 pub mod UuidLaws

@@ -1,11 +1,11 @@
 // UTF-8 by the ABNF of RFC 3629, section 4.
 ghost use mathlib.Core.Path.{_≡_};
 ghost use mathlib.Core.List.{[], _∷_};
-ghost use Prim.Native.Nat.{_≤_};
-ghost use lib.ListN.{length, replicate};
+ghost use Prim.Native.Nat.{_+_, _≤_};
+ghost use lib.ListN.{length, take, drop, replicate};
 ghost use Rattle.text.specs.Utf8.{%x, utf8-tail, utf8-3, utf8-4, begins, firstLength, charLength};
 ghost use Rattle.text.specs.Utf8.{validRun, isUtf8};
-ghost use Rattle.text.specs.Inner.{Passed};
+ghost use Rattle.text.specs.Inner.{every, isAscii, Passed};
 
 // The bytes begin with one from `low` to `high`.
 fn begins_in(s: &[u8], low: u8, high: u8) -> bool
@@ -103,12 +103,66 @@ fn char_length(s: &[u8]) -> usize
     four_octets(s)
 }
 
+// Whether the sixteen bytes at k are ASCII. All are read first: then they make one load and one test.
+fn ascii_block(s: &[u8], k: usize) -> bool
+    requires { ⌜ k + 16 ≤ length (now s) ⌝ }
+    ensures { λ r. ⌜ r ≡ every isAscii (take 16 (drop k (now (s .entry)))) ⌝ }
+{
+    let a = s[k];
+    let b = s[k + 1];
+    let c = s[k + 2];
+    let d = s[k + 3];
+    let e = s[k + 4];
+    let f = s[k + 5];
+    let g = s[k + 6];
+    let h = s[k + 7];
+    let i = s[k + 8];
+    let j = s[k + 9];
+    let l = s[k + 10];
+    let m = s[k + 11];
+    let n = s[k + 12];
+    let o = s[k + 13];
+    let p = s[k + 14];
+    let q = s[k + 15];
+    (a < 128)
+        & (b < 128)
+        & (c < 128)
+        & (d < 128)
+        & (e < 128)
+        & (f < 128)
+        & (g < 128)
+        & (h < 128)
+        & (i < 128)
+        & (j < 128)
+        & (l < 128)
+        & (m < 128)
+        & (n < 128)
+        & (o < 128)
+        & (p < 128)
+        & (q < 128)
+}
+
+// A place that ASCII bytes alone lead to from `from` on, found sixteen at a time.
+fn ascii_front(s: &[u8], from: usize) -> usize
+    requires { ⌜ from ≤ length (now s) ⌝ }
+    ensures { λ r. ⌜ Passed (now (s .entry)) from r ⌝ }
+{
+    let mut i = from;
+    while i + 16 <= s.len() {
+        if !ascii_block(s, i) {
+            return i;
+        }
+        i += 16;
+    }
+    i
+}
+
 // The first place from `from` on that has no ASCII byte, or the end.
 fn ascii_end(s: &[u8], from: usize) -> usize
     requires { ⌜ from ≤ length (now s) ⌝ }
     ensures { λ r. ⌜ Passed (now (s .entry)) from r ⌝ }
 {
-    let mut i = from;
+    let mut i = ascii_front(s, from);
     while i < s.len() {
         if 0x7F < s[i] {
             return i;

@@ -15,8 +15,11 @@ Inv-loop s from i₀ i = Passed s from i
 abbrev μ-loop : tie.MeasureT-loop
 μ-loop s from i₀ i = length s - i
 
+ascii-front-requires : tie.Need-ascii-front-requires Inv-loop μ-loop
+ascii-front-requires c κs = omega arith
+
 loop-holds : tie.Need-loop-holds Inv-loop μ-loop
-loop-holds c = omega arith
+loop-holds c = c .ascii-front .ensures
 
 shared-slice-read-if1 : tie.Need-shared-slice-read-if1 Inv-loop μ-loop
 shared-slice-read-if1 c = omega arith
@@ -32,7 +35,7 @@ loop-less c = omega arith
 
 loop-again : tie.Need-loop-again Inv-loop μ-loop
 loop-again c =
-    let a = c .before .before .before .before .args in
+    let a = c .before .before .before .before .before .before .args in
     let on = ascii-goes (a .s .now) (c .before .before .before .loop .i) (omega arith) (omega arith) in
     (omega arith, omega arith, omega arith)
 
@@ -45,6 +48,7 @@ ascii-end-spec =
     (tie.spec
     Inv-loop
     μ-loop
+    ascii-front-requires
     loop-holds
     shared-slice-read-if1
     returns
