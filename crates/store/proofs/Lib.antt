@@ -19,6 +19,7 @@ pub mod LookLaws
 pub mod ClearLaws
 pub mod LineLaws
 pub mod WantedLaws
+pub mod SeekLaws
 pub mod BookLaws
 pub mod InsertLaws
 pub mod SaveLaws

@@ -6,7 +6,7 @@ use mathlib.Core.List.{List, [], _∷_}
 use mathlib.Core.Path.{_≡_, refl, sym, ap, _∙_}
 use Prim.Native.Nat.{ℕ, suc, _+_, _≤_, _<_}
 use native.Mathlib.Omega.{arith}
-use lib.ListN.{length, take, drop, getD, length-take, drop-of-length-le}
+use lib.ListN.{length, take, drop, getD, length-take}
 use borrow.Author.Tests.{eq-eqb, ne-eqb}
 use Rattle.text.proofs.BytesLaws.{same-equal, same-lengths}
 use Rattle.text.proofs.ListLaws.{at-next}
@@ -45,10 +45,6 @@ module _ (p s : List ℕ) (i : ℕ) where
   pub text-on : i < length s → beginsText p (drop i s) ≡ false
       → firstText p (drop i s) ≡ suc (firstText p (drop (i + 1) s))
   text-on h e = text-step h false e
-
-  pub text-end : length s ≤ i → firstText p (drop i s) ≡ 0
-  unfolding firstText
-  text-end h = rw (drop-of-length-le s h)
 
 -- where there is one, there is room for it
 pub text-within : (p s : List ℕ) → (firstText p s ≡ length s → ⊥) → firstText p s + length p ≤ length s

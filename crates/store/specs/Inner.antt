@@ -32,6 +32,10 @@ use Rattle.store.specs.Saves.{refusedSave, acceptedSave}
 abbrev pub Bytes : List ℕ → Type 0
 Bytes s = (k : ℕ) → getD s k 0 < 256
 
+-- another byte than b
+abbrev pub isNot : ℕ → ℕ → Bool
+isNot b x = not (eqb x b)
+
 -- the eight bytes at j, stored at i
 abbrev pub eight : List ℕ → ℕ → ℕ → List ℕ
 eight p i j =

@@ -7,6 +7,7 @@ use crate::saving::file_built;
 use crate::saving::refused_save;
 use crate::saving::saved_as;
 use crate::saving::unsaved_name;
+use crate::search::find_far;
 use crate::soundness::BUFFER_MAX;
 use crate::soundness::LINE_MAX;
 use crate::soundness::sound;
@@ -15,7 +16,6 @@ use map::error::MappingAnswer;
 use map::error::MappingError;
 use map::from_data::from_data;
 use map::mapping_data::MappingData;
-use text::bytes::find_byte;
 use text::utf8::is_utf8;
 use text::utf8::valid_up_to;
 use text::uuid::Uuid;
@@ -129,7 +129,7 @@ pub fn insert(index: &mut [u8], text: &mut [u8], lines: &[u8]) -> Inserted
     let mut at = 0;
     let mut count = 0;
     while at < lines.len() {
-        let end = find_byte(&lines[at..], b'\n');
+        let end = find_far(&lines[at..], b'\n');
         let len = line_length(&lines[at..], end);
         let step = reach_line(index, text, &lines[at..at + len]);
         if !step.on {

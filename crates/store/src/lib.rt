@@ -7,4 +7,5 @@ mod lines;
 mod order;
 mod records;
 mod saving;
+mod search;
 mod soundness;

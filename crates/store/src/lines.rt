@@ -1,6 +1,7 @@
 // The lines of an inserted text: where one ends, whether it is wanted, and what an insert does with it.
 use crate::calls::Answer;
 use crate::filing::file_line;
+use crate::search::find_text;
 use crate::soundness::LINE_MAX;
 use text::bytes::find_byte;
 use text::bytes::same_bytes;
@@ -14,7 +15,7 @@ ghost use Rattle.text.specs.Bytes.{firstOf};
 ghost use Rattle.store.specs.Decode.{decode};
 ghost use Rattle.store.specs.Inner.{known};
 ghost use Rattle.store.specs.Lines.{forPlatform, wanted as isWanted};
-ghost use Rattle.map.specs.Search.{lf, beginsText, firstText};
+ghost use Rattle.map.specs.Search.{lf};
 ghost use Rattle.line.specs.Fields.{firstField};
 ghost use Rattle.store.specs.Inner.{firstLine, Reaches};
 
@@ -41,37 +42,12 @@ pub fn line_length(s: &[u8], end: usize) -> usize
     end
 }
 
-// Whether a text begins with `p`.
-fn begins_with(s: &[u8], p: &[u8]) -> bool
-    ensures { λ r. ⌜ r ≡ beginsText (now (p .entry)) (now (s .entry)) ⌝ }
-{
-    let n = p.len();
-    if s.len() < n {
-        return false;
-    }
-    same_bytes(&s[0..n], p)
-}
-
-// The place of the first `p` in a text, or the text's length where it has none.
-pub fn find_text(s: &[u8], p: &[u8]) -> usize
-    ensures { λ r. ⌜ r ≡ firstText (now (p .entry)) (now (s .entry)) ⌝ }
-{
-    let mut i = 0;
-    while i < s.len() {
-        if begins_with(&s[i..], p) {
-            return i;
-        }
-        i += 1;
-    }
-    i
-}
-
 // Whether the first `platform:` anywhere in a line, if any, is followed by exactly `Linux` up to a comma or the end.
 fn for_platform(line: &[u8]) -> bool
     ensures { λ r. ⌜ r ≡ forPlatform (now (line .entry)) ⌝ }
 {
     let key = b"platform:";
-    let at = find_text(line, key);
+    let at = find_text(line, key, 7);
     if at == line.len() {
         return true;
     }

@@ -3,7 +3,7 @@ use crate::calls::Answer;
 use crate::calls::SaveAnswer;
 use crate::calls::Saved;
 use crate::filing::file_line;
-use crate::lines::find_text;
+use crate::search::find_text;
 use crate::soundness::sound;
 use line::mapping::Mapping;
 use text::bytes::find_byte;
@@ -39,7 +39,7 @@ pub fn unsaved_name(name: &[u8]) -> bool
     if find_byte(name, b'\n') < name.len() {
         return true;
     }
-    find_text(name, b"platform:") < name.len()
+    find_text(name, b"platform:", 7) < name.len()
 }
 
 // A refused save has the empty map.

@@ -69,17 +69,17 @@ loop-holds c =
     insert-first (a .index .now) (a .text .now) (a .lines .now) (λ k. omega (arith, known .given k))
     (sym (checked .ensures) ∙ not-false _ (if1 .left))
 
-sub-find-byte : tie.Need-sub-find-byte Inv-loop μ-loop
-sub-find-byte c = search needs
+sub-find-far : tie.Need-sub-find-far Inv-loop μ-loop
+sub-find-far c = search needs
 
-part-find-byte-start : tie.Need-part-find-byte-start Inv-loop μ-loop
-part-find-byte-start c = search needs
+part-find-far-start : tie.Need-part-find-far-start Inv-loop μ-loop
+part-find-far-start c = search needs
 
-part-find-byte-end : tie.Need-part-find-byte-end Inv-loop μ-loop
-part-find-byte-end c = search needs
+part-find-far-end : tie.Need-part-find-far-end Inv-loop μ-loop
+part-find-far-end c = search needs
 
-find-byte-requires : tie.Need-find-byte-requires Inv-loop μ-loop
-find-byte-requires c κs = search needs
+find-far-requires : tie.Need-find-far-requires Inv-loop μ-loop
+find-far-requires c κs = search needs
 
 sub-line-length : tie.Need-sub-line-length Inv-loop μ-loop
 sub-line-length c = search needs
@@ -92,7 +92,7 @@ part-line-length-end c = search needs
 
 line-length-requires : tie.Need-line-length-requires Inv-loop μ-loop
 line-length-requires c κs =
-    c .before .find-byte .ensures
+    c .before .find-far .ensures
 
 add-reach-line : tie.Need-add-reach-line Inv-loop μ-loop
 add-reach-line c =
@@ -159,7 +159,7 @@ returns-3 c =
     let utf8 = back .before .before .before .before .before .before .before .is-utf8 in
     let if2 = back .before .before .before .before .before .before .if2 in
     let loop = back .before .before .before .before .before .loop in
-    let found = back .before .before .find-byte in
+    let found = back .before .before .find-far in
     let cut = back .line-length in
     let reached = c .before .before .before .before .before .before .reach-line in
     insert-stop (a .index .now) (a .text .now) (a .lines .now) (loop .index) (loop .text) (loop .at) (loop .count)
@@ -182,7 +182,7 @@ add-at c =
     let further = back .before .before .before .before .before .before .before .before .before .before in
     let lines = further .before .before .before .before .before .args .lines .now in
     let at = back .before .before .before .before .before .loop .at in
-    let end = back .before .before .find-byte in
+    let end = back .before .before .find-far in
     omega (arith, tail-length at lines, end .ensures, first-le lf (take (length lines - at) (drop at lines)))
 
 add-at-2 : tie.Need-add-at-2 Inv-loop μ-loop
@@ -191,7 +191,7 @@ add-at-2 c =
     let further = back .before .before .before .before .before .before .before .before .before .before in
     let lines = further .before .before .before .before .before .args .lines .now in
     let at = back .before .before .before .before .before .loop .at in
-    let end = back .before .before .find-byte in
+    let end = back .before .before .find-far in
     omega (arith, tail-length at lines, end .ensures, first-le lf (take (length lines - at) (drop at lines)))
 
 loop-less : tie.Need-loop-less Inv-loop μ-loop
@@ -200,7 +200,7 @@ loop-less c =
     let further = back .before .before .before .before .before .before .before .before .before .before in
     let a = further .before .before .before .before .before .args in
     let loop = back .before .before .before .before .before .loop in
-    let found = back .before .before .find-byte in
+    let found = back .before .before .find-far in
     let within : found .result ≤ length (a .lines .now) - loop .at
     = omega (
       arith,
@@ -216,7 +216,7 @@ loop-again c =
     let further = back .before .before .before .before .before .before .before .before .before .before in
     let a = further .before .before .before .before .before .args in
     let loop = back .before .before .before .before .before .loop in
-    let found = back .before .before .find-byte in
+    let found = back .before .before .find-far in
     let cut = back .line-length in
     let reached = c .before .before .before .before .before .before .reach-line in
     let within : found .result ≤ length (a .lines .now) - loop .at
@@ -264,10 +264,10 @@ insert-spec =
     same-length-4
     returns-2
     loop-holds
-    sub-find-byte
-    part-find-byte-start
-    part-find-byte-end
-    find-byte-requires
+    sub-find-far
+    part-find-far-start
+    part-find-far-end
+    find-far-requires
     sub-line-length
     part-line-length-start
     part-line-length-end

@@ -6,8 +6,8 @@ use lib.ListN.{length, take}
 use borrow.Author.Needs.{needs}
 use Rattle.text.specs.Bytes.{same}
 use Rattle.store.proofs.WantedLaws.{begins-short}
-use Rattle.store.proofs.lines.begins_with.Statement.{statement}
-use Rattle.store.proofs.lines.begins_with.Tie as tie
+use Rattle.store.proofs.search.begins_with.Statement.{statement}
+use Rattle.store.proofs.search.begins_with.Tie as tie
 
 returns : tie.Need-returns
 returns c =
