@@ -1,6 +1,7 @@
 // The lines of an inserted text: where one ends, whether it is wanted, and what an insert does with it.
 use crate::calls::Answer;
 use crate::filing::file_line;
+use crate::search::find_far;
 use crate::search::find_text;
 use crate::soundness::LINE_MAX;
 use text::bytes::find_byte;
@@ -63,7 +64,7 @@ fn wanted(line: &[u8]) -> UuidParse
     if !for_platform(line) {
         return UuidParse::Invalid;
     }
-    let end = find_byte(line, b',');
+    let end = find_far(line, b',');
     Uuid::parse_str(&line[0..end])
 }
 

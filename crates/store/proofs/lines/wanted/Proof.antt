@@ -21,8 +21,8 @@ returns c =
     let l = c .before .before .before .args .line .now in
     sym (wanted-not l (sym (c .before .for-platform .ensures) ∙ not-true _ (c .if1 .taken)))
 
-find-byte-requires : tie.Need-find-byte-requires
-find-byte-requires c κs = search needs
+find-far-requires : tie.Need-find-far-requires
+find-far-requires c κs = search needs
 
 sub-parse-str : tie.Need-sub-parse-str
 sub-parse-str c = search needs
@@ -32,7 +32,7 @@ part-parse-str-start c = search needs
 
 part-parse-str-end : tie.Need-part-parse-str-end
 part-parse-str-end c =
-    omega (arith, c .find-byte .ensures, first-le (byte ",") (c .before .before .before .before .args .line .now))
+    omega (arith, c .find-far .ensures, first-le (byte ",") (c .before .before .before .before .args .line .now))
 
 parse-str-requires : tie.Need-parse-str-requires
 parse-str-requires c κs = search needs
@@ -40,7 +40,7 @@ parse-str-requires c κs = search needs
 returns-2 : tie.Need-returns-2
 returns-2 c =
     let l = c .before .before .before .before .before .before .args .line .now in
-    let end = c .before .before .find-byte in
+    let end = c .before .before .find-far in
     let here = c .before .before .before .before .for-platform in
     c .parse-str .ensures
     ∙ ap (λ (n : ℕ). uuidOf (take n l)) (sub-zero (end .result) ∙ end .ensures)
@@ -52,7 +52,7 @@ wanted-spec =
     (tie.spec
     for-platform-requires
     returns
-    find-byte-requires
+    find-far-requires
     sub-parse-str
     part-parse-str-start
     part-parse-str-end
