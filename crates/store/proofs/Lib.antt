@@ -8,11 +8,13 @@ pub mod ChainLaws
 pub mod OrderLaws
 pub mod OnceLaws
 pub mod RecordLaws
+pub mod HeadLaws
 pub mod RowLaws
 pub mod FindLaws
 pub mod MoveLaws
 pub mod DecodeLaws
 pub mod SoundLaws
+pub mod WalkLaws
 pub mod RoomLaws
 pub mod FilingLaws
 pub mod LookLaws

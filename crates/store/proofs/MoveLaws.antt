@@ -8,9 +8,11 @@ use lib.ListN.{length, take, drop, replicate, length-append, length-drop, take-a
 use lib.Seq.{take-at, drop-at, drop-drop, length-take-le}
 use Rattle.store.specs.declared.records.Head.{Head}
 use Rattle.store.specs.Decode.{headAt}
-use Rattle.store.specs.Held.{Key, Held, bufferMax}
-use Rattle.store.specs.Inner.{Lies, Moves, Renumbers}
+use Rattle.store.specs.Held.{Key, Held, bufferMax, recordSize}
+use Rattle.store.specs.Inner.{Lies, Moves, Renumbers, HasRecord, moveTo}
 use Rattle.store.specs.Layout.{recordBytes, records, texts, padded}
+use Rattle.store.proofs.HeadLaws.{whole-size}
+use Rattle.store.proofs.RecordLaws.{length-record}
 use Rattle.store.proofs.RowLaws.{texts-cons, records-first, Rest, first, Onward, ended, stands, onward}
 use Rattle.store.proofs.RowLaws.{size-not, next-within, padded-is}
 
@@ -51,7 +53,7 @@ module _ (start : ℕ) (s p : List ℕ) (at off : ℕ) (w : Moving start s p at 
           (sym (take-append-drop at p) ∙ ap₂ (λ (x y : List ℕ). x ++ y) t d) (w .size)
 
   -- the next offset is no larger than a buffer
-  pub move-below : (n : head .size ≡ 0 → ⊥) → Moves start s → off + head .len ≤ bufferMax
+  move-below : (n : head .size ≡ 0 → ⊥) → Moves start s → off + head .len ≤ bufferMax
   move-below n v = go (w .moved (v .off) (v .hs) (v .lies) (v .fits))
       (onward p at head e (w .moved (v .off) (v .hs) (v .lies) (v .fits) .rest))
     where
@@ -60,7 +62,7 @@ module _ (start : ℕ) (s p : List ℕ) (at off : ℕ) (w : Moving start s p at 
       go m (stands h ks q y l) = omega
           (arith, m .fits, ap (λ (x : List Held). length (texts x)) q, texts-cons h ks, ap (λ (x : Head). x .len) y)
 
-  pub move-turn : (head .size ≡ 0 → ⊥) → head .size ≡ length (recordBytes (head .key) off (head .len)) → (p′ : List ℕ)
+  move-turn : (head .size ≡ 0 → ⊥) → head .size ≡ length (recordBytes (head .key) off (head .len)) → (p′ : List ℕ)
       → p′ ≡ take at p ++ (recordBytes (head .key) off (head .len) ++ drop (head .size) (drop at p))
       → Moving start s p′ (at + head .size) (off + head .len)
   move-turn n z p′ e′ = record {
@@ -112,3 +114,32 @@ module _ (start : ℕ) (s p : List ℕ) (at off : ℕ) (w : Moving start s p at 
                 ∙ ap (λ (x : List ℕ). take at p ++ x) (sym was ∙ ap (records off) (sym q)) ∙ m .written;
             fits = omega (arith, m .fits, ap (λ (x : List Held). length (texts x)) q, texts-cons h ks, len);
           }
+
+-- a record at `at` is written anew
+module _ (start : ℕ) (s p : List ℕ) (at off : ℕ) (w : Moving start s p at off) (h : HasRecord (drop at p)) (len : ℕ)
+    (e : len ≡ headAt (drop at p) .len) where
+  whole : headAt (drop at p) .size ≡ recordSize
+  whole = whole-size (drop at p) h (headAt (drop at p)) refl
+
+  some-size : headAt (drop at p) .size ≡ 0 → ⊥
+  some-size z = omega (arith, whole)
+
+  pub offset-within : at + recordSize ≤ length p
+  offset-within = omega (arith, next-within p at (headAt (drop at p)) refl (w .within), whole)
+
+  pub offset-below : Moves start s → off + len ≤ bufferMax
+  offset-below v = omega (arith, move-below start s p at off w (headAt (drop at p)) refl some-size v, e)
+
+  pub offset-turn : (p′ : List ℕ) → p′ ≡ take at p ++ moveTo off (drop at p)
+      → Moving start s p′ (at + recordSize) (off + len)
+  offset-turn p′ q =
+      subst (λ (n : ℕ). Moving start s p′ (at + recordSize) (off + n)) (sym e)
+      (subst (λ (n : ℕ). Moving start s p′ (at + n) (off + headAt (drop at p) .len)) whole
+      (move-turn start s p at off w (headAt (drop at p)) refl some-size
+      (whole ∙ sym (length-record (headAt (drop at p) .key) off (headAt (drop at p) .len))) p′
+      (q ∙ ap (λ (x : List ℕ). take at p ++ x) (moved ∙ ap (λ (n : ℕ). recordBytes (headAt (drop at p) .key) off
+      (headAt (drop at p) .len) ++ drop n (drop at p)) (sym whole)))))
+    where
+      moved : moveTo off (drop at p)
+          ≡ recordBytes (headAt (drop at p) .key) off (headAt (drop at p) .len) ++ drop recordSize (drop at p)
+      moved = unfold moveTo in refl

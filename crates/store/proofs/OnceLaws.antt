@@ -58,21 +58,21 @@ twice-distinct (h ∷ hs) zero (suc b) l m e =
 twice-distinct (h ∷ hs) (suc a) (suc b) l m e =
     and-false-right (not (holds (h .key) hs)) _ (twice-distinct hs a b (omega arith) (omega arith) e)
 
-module _ (i : List ℕ) (K : ℕ → Key) (n : ℕ) (w : Lists i K n) (m : n ≤ slots) where
+module _ (i : List ℕ) (K : ℕ → Key) (n : ℕ) (w : Lists i K n) where
   pub apart-once : AllApart K n → Once i true
   apart-once f off hs l =
-      let z : n ≡ length hs = w off hs l m .0 in
+      let z : n ≡ length hs = w off hs l .0 in
       sym (apart-distinct hs (λ a b x y e. f a b x (omega arith)
-      (w off hs l m .1 a (omega arith) ∙ e ∙ sym (w off hs l m .1 b (omega arith)))))
+      (w off hs l .1 a (omega arith) ∙ e ∙ sym (w off hs l .1 b (omega arith)))))
 
   pub twice-once : Twice K n → Once i false
   twice-once t off hs l =
-      let z : n ≡ length hs = w off hs l m .0 in
+      let z : n ≡ length hs = w off hs l .0 in
       let x : t .a < n = omega (arith, t .less, t .below) in
       sym (twice-distinct hs (t .a) (t .b) (t .less) (omega (arith, t .below))
-      (sym (w off hs l m .1 (t .a) x) ∙ t .same ∙ w off hs l m .1 (t .b) (t .below)))
+      (sym (w off hs l .1 (t .a) x) ∙ t .same ∙ w off hs l .1 (t .b) (t .below)))
 
--- ---- `read_keys`
+-- ---- the keys that `walk_records` writes down
 
 -- the keys of the first n lines are written down; the rest of the lines lies from `at` on
 pub record Lists′ (i : List ℕ) (at : ℕ) (K : ℕ → Key) (n : ℕ) (hs : List Held) : Type 0 where
@@ -103,7 +103,7 @@ list-first i highs lows p q = record {
 module _ (i : List ℕ) (at : ℕ) (highs lows : List ℕ) (n : ℕ) (w : Listing i at highs lows n) (head : Head)
     (e : head ≡ headAt (drop at i)) where
   pub list-end : head .size ≡ 0 → Lists i (keyAt highs lows) n
-  list-end z off hs l m = go (w .lists off hs l) (onward i at head e (w .lists off hs l .rest))
+  list-end z off hs l = go (w .lists off hs l) (onward i at head e (w .lists off hs l .rest))
     where
       go : (x : Lists′ i at (keyAt highs lows) n hs) → Onward i at head e (x .rest)
           → (n ≡ length hs) × ((k : ℕ) → k < n → keyAt highs lows k ≡ keyOf hs k)

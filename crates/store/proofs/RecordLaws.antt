@@ -1,4 +1,4 @@
--- One record: read where it was written, and written where it was read. Nothing else knows a record's bytes.
+-- One record: read where it was written, and written where it was read. With HeadLaws, all that knows its bytes.
 -- Assumes nothing.
 use mathlib.Core.Bool.{Bool, true, false, _&&_}
 use mathlib.Core.List.{List, [], _∷_, _++_, append-assoc}
@@ -16,7 +16,7 @@ use Rattle.text.specs.declared.uuid.Uuid.{Uuid}
 use Rattle.store.specs.declared.records.Body.{Body}
 use Rattle.store.specs.declared.records.Head.{Head}
 use Rattle.store.specs.Decode.{word, word4, word8, bodyAt, headWith, noHead, headAt, headFits}
-use Rattle.store.specs.Held.{Key, Held, recordSize, sameKey}
+use Rattle.store.specs.Held.{Key, Held, recordSize}
 use Rattle.map.specs.Bounds.{lineMax}
 use Rattle.store.specs.Inner.{Bytes, be2, be4, be8, bodySize, bodyBytes, headOf, Sized, sizeOf}
 use Rattle.store.specs.Layout.{Shape, recordBytes, recordOf}
@@ -154,7 +154,7 @@ pub bytes-behind : (s : List ℕ) (a : ℕ) → Bytes s → Bytes (drop a s)
 bytes-behind s a b k = subst (λ (x : ℕ). x < 256) (sym (getD-drop a s k 0)) (b (a + k))
 
 -- what stands at the front. From here on to the end of `record-put` is what depends on the record's form.
-abbrev whole : List ℕ → Head
+abbrev pub whole : List ℕ → Head
 whole i = headWith (bodyAt (drop 1 i))
 
 -- Layout's record is the kind and the body
@@ -306,12 +306,8 @@ record-put d p k off len m e = ap (λ (x : List ℕ). set x 0 1) e ∙ go d (ome
     go [] l = absurd (omega arith)
     go (x ∷ d) l = ap (λ (q : List ℕ). q ++ drop bodySize d) (sym (record-is k off len))
 
--- a record that was read keeps its size wherever its line moves
-pub size-record : (i : List ℕ) (h : Head) → (h .size ≡ 0 → ⊥) → h ≡ headAt i → (off len : ℕ)
-    → h .size ≡ length (recordBytes (h .key) off len)
-size-record i h n e off len =
-    ap (λ (x : Head). x .size) (e ∙ stands i (λ z. n (ap (λ (x : Head). x .size) e ∙ z)) .is)
-    ∙ sym (length-record (h .key) off len)
+pub size-is : (i : List ℕ) → (headAt i .size ≡ 0 → ⊥) → headAt i .size ≡ recordSize
+size-is i n = ap (λ (h : Head). h .size) (stands i n .is)
 
 pub size-sized : (k : Key) → Sized k recordSize
 size-sized k off len = sym (length-record k off len)
@@ -322,15 +318,7 @@ size-small k n z = omega (arith, z 0 0, length-record k 0 0)
 pub size-move : (k : Key) (a b m n : ℕ) → length (recordBytes k a m) ≡ length (recordBytes k b n)
 size-move k a b m n = length-record k a m ∙ sym (length-record k b n)
 
--- the tests of `same_key` and `head_fits`
-pub key-high : (a b : Key) → (a .high ≡ b .high → ⊥) → false ≡ sameKey a b
-unfolding sameKey
-key-high a b n = sym (and-false-left _ _ (ne-eqb _ _ n))
-
-pub key-low : (a b : Key) → a .high ≡ b .high → eqb (a .low) (b .low) ≡ sameKey a b
-unfolding sameKey
-key-low a b e = rw (eq-eqb _ _ e)
-
+-- the tests of `head_fits`
 module _ (off : ℕ) (h : Head) (n : ℕ) where
   pub fits-offset : (h .off ≡ off → ⊥) → false ≡ headFits off h n
   unfolding headFits

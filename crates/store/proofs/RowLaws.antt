@@ -8,14 +8,19 @@ use native.Mathlib.Nat.{zero-add, add-zero, add-assoc}
 use native.Mathlib.Omega.{arith}
 use lib.ListN.{length, drop, replicate, length-append, length-replicate, length-drop}
 use lib.Seq.{drop-drop}
+use lib.Dec.{eqb}
+use borrow.Author.Tests.{eqb-true, eqb-false}
 use Rattle.text.specs.Bytes.{pick}
 use Rattle.store.specs.declared.records.Head.{Head}
 use Rattle.store.specs.Decode.{noHead, headAt}
-use Rattle.store.specs.Held.{Key, Held, sameKey, holds, distinct}
-use Rattle.store.specs.Inner.{headOf, upTo, Lies, Finds, Measures, Holds, Once, sizeOf, sizes}
+use Rattle.store.specs.Held.{Key, Held, recordSize, sameKey, holds, distinct}
+use Rattle.store.specs.Inner.{headOf, upTo, ofAnother, Lies, Finds, Measures, Holds, Once, sizeOf, sizes}
 use Rattle.store.specs.Layout.{recordOf, records, texts, padded}
+use Rattle.store.proofs.BoolLaws.{true-false}
 use Rattle.store.proofs.HeldLaws.{texts-append}
 use Rattle.store.proofs.RecordLaws.{size-move, head-record, drop-record, size-some, head-zeros, head-within}
+use Rattle.store.proofs.HeadLaws.{another-is}
+use Rattle.store.proofs.RecordLaws.{size-is}
 
 -- sizes of lists of lines
 pub records-append : (fs bs : List Held) (off : ℕ)
@@ -206,7 +211,7 @@ module _ (i : List ℕ) (k : Key) (at : ℕ) (w : Seeking i k at) (head : Head) 
   up-to-none : (hs : List Held) → hs ≡ [] → upTo k hs ≡ []
   up-to-none hs q = ap (upTo k) q ∙ unfold upTo in refl
 
-  pub seek-turn : (head .size ≡ 0 → ⊥) → sameKey k (head .key) ≡ false → Seeking i k (at + head .size)
+  seek-turn : (head .size ≡ 0 → ⊥) → sameKey k (head .key) ≡ false → Seeking i k (at + head .size)
   seek-turn n p = record {
     within = next-within i at head e (w .within);
     seeks =
@@ -234,20 +239,41 @@ module _ (i : List ℕ) (k : Key) (at : ℕ) (w : Seeking i k at) (head : Head) 
         ∙ omega (arith, sizes-none (w .seeks off hs l .0 .off)));
   }
 
-  pub seek-none : head .size ≡ 0 → Finds i k (record { at = at; head = head })
+  seek-none : head .size ≡ 0 → Finds i k (record { at = at; head = head })
   seek-none z = seek-stop (λ r. go r (onward i at head e r))
     where
       go : (r : Rest i at) → Onward i at head e r → upTo k (r .hs) ≡ []
       go r (ended q y) = up-to-none (r .hs) q
       go r (stands h ks q y l) = absurd (size-not i at head e (r .off) h y z)
 
-  pub seek-same : sameKey k (head .key) ≡ true → Finds i k (record { at = at; head = head })
+  seek-same : sameKey k (head .key) ≡ true → Finds i k (record { at = at; head = head })
   seek-same p = seek-stop (λ r. go r (onward i at head e r))
     where
       go : (r : Rest i at) → Onward i at head e r → upTo k (r .hs) ≡ []
       go r (ended q y) = up-to-none (r .hs) q
       go r (stands h ks q y l) = up-to-cons true (r .off) (r .hs) h ks q
           (ap (λ (x : Head). sameKey k (x .key)) (sym y) ∙ p)
+
+  pub seek-on : ofAnother k head ≡ true → Seeking i k (at + recordSize)
+  seek-on p = go (eqb (head .size) 0) refl (sameKey k (head .key)) refl
+    where
+      go : (b : Bool) → eqb (head .size) 0 ≡ b → (c : Bool) → sameKey k (head .key) ≡ c → Seeking i k (at + recordSize)
+      go true q c r = absurd (true-false (sym p ∙ another-is k head true c q r))
+      go false q true r = absurd (true-false (sym p ∙ another-is k head false true q r))
+      go false q false r =
+          let n : head .size ≡ 0 → ⊥ = eqb-false _ 0 q in
+          let z : head .size ≡ recordSize = ap (λ (x : Head). x .size) e
+          ∙ size-is (drop at i) (λ y. n (ap (λ (x : Head). x .size) e ∙ y)) in
+          subst (λ (m : ℕ). Seeking i k (at + m)) z (seek-turn n r)
+
+  pub seek-done : ofAnother k head ≡ false → Finds i k (record { at = at; head = head })
+  seek-done p = go (eqb (head .size) 0) refl (sameKey k (head .key)) refl
+    where
+      go : (b : Bool) → eqb (head .size) 0 ≡ b → (c : Bool) → sameKey k (head .key) ≡ c
+          → Finds i k (record { at = at; head = head })
+      go true q c r = seek-none (eqb-true _ 0 q)
+      go false q true r = seek-same r
+      go false q false r = absurd (true-false (sym (another-is k head false false q r) ∙ p))
 
 -- `in_use`
 pub record Uses (i : List ℕ) (at used : ℕ) (hs : List Held) : Type 0 where

@@ -12,13 +12,14 @@ use Rattle.text.specs.declared.uuid.Uuid.{Uuid}
 use Rattle.store.specs.declared.records.Head.{Head}
 use Rattle.store.specs.declared.records.Spot.{Spot}
 use Rattle.store.specs.declared.records.Extent.{Extent}
+use Rattle.store.specs.declared.soundness.Survey.{Survey}
 use Rattle.store.specs.declared.lines.Reach.{Reach}
 use Rattle.line.specs.declared.mapping.Mapping.{Mapping}
 use Rattle.store.specs.declared.calls.Answer.{Answer}
 use Rattle.store.specs.declared.calls.Answer.the-variants as A
 use Rattle.store.specs.declared.calls.SaveAnswer.the-variants as Sv
 use Rattle.store.specs.declared.calls.Saved.{Saved}
-use Rattle.store.specs.Held.{Key, Held, sameKey, strike, file, holds, distinct, bufferMax}
+use Rattle.store.specs.Held.{Key, Held, sameKey, strike, file, holds, distinct, bufferMax, recordSize}
 use Rattle.store.specs.Layout.{Shape, Shapes, recordBytes, recordOf, records, texts, padded, encodeIndex}
 use Rattle.store.specs.Layout.{encodeText}
 use Rattle.store.specs.Decode.{headAt, decode}
@@ -77,6 +78,18 @@ headOf off h = record { size = length (recordOf off h); key = h .key; off = off;
 abbrev pub Sized : Key → ℕ → Type 0
 Sized k r = (off len : ℕ) → r ≡ length (recordBytes k off len)
 
+-- `stands`: a whole record stands at the front
+abbrev pub HasRecord : List ℕ → Type 0
+HasRecord i = (recordSize ≤ length i) × (getD i 0 0 ≡ 1)
+
+-- `put_offset`: the record at the front is of a line at that offset
+unfoldable pub moveTo : ℕ → List ℕ → List ℕ
+moveTo off i = recordBytes (headAt i .key) off (headAt i .len) ++ drop recordSize i
+
+-- `other_key`: a record of another key
+unfoldable pub ofAnother : Key → Head → Bool
+ofAnother k h = pick (eqb (h .size) 0) false (not (sameKey k (h .key)))
+
 -- ---- lines that lie in an index
 
 -- the store is sound
@@ -102,9 +115,14 @@ pub record Finds (i : List ℕ) (k : Key) (r : Spot) : Type 0 where
   pub stands : r .head ≡ headAt (drop (r .at) i)
   pub place : (off : ℕ) (hs : List Held) → Lies off hs i → r .at ≡ sizes off (upTo k hs)
 
--- `in_use`: where the records and the lines end
+-- where the records and the lines end
 abbrev pub Measures : List ℕ → Extent → Type 0
 Measures i r = (hs : List Held) → Lies 0 hs i → (r .end ≡ sizes 0 hs) × (r .used ≡ length (texts hs))
+
+-- `check_store`: whether the store is sound, and where the records and the lines of a sound one end
+pub record Sounds (i t : List ℕ) (r : Survey) : Type 0 where
+  pub is : r .sound ≡ known (decode i t)
+  pub ends : r .sound ≡ true → Measures i (r .all)
 
 -- `has_key`, `each_once`
 abbrev pub Holds : List ℕ → Key → Bool → Type 0
@@ -148,7 +166,7 @@ Strikes i t at head i′ t′ =
 abbrev pub room : ℕ → ℕ → Held → List Held → Bool
 room n m h hs = not (noRoom n m h hs)
 
--- `file_line`: r says whether there was room for the line
+-- `file_at`, `file_line`: r says whether there was room for the line
 abbrev pub Files : List ℕ → List ℕ → Held → Bool → List ℕ → List ℕ → Type 0
 Files i t h r i′ t′ =
     (hs : List Held) → decode i t ≡ some hs

@@ -1,11 +1,14 @@
 // Filing a line in a sound store.
 use crate::bytes::close_gap;
+use crate::records::Extent;
 use crate::records::Head;
+use crate::records::RECORD_SIZE;
 use crate::records::find;
 use crate::records::in_use;
+use crate::records::put_offset;
 use crate::records::put_record;
-use crate::records::read_head;
 use crate::records::record_size;
+use crate::records::stands;
 use text::bytes::write_bytes;
 use text::uuid::Uuid;
 ghost use mathlib.Core.Path.{_≡_};
@@ -19,7 +22,7 @@ ghost use Rattle.store.specs.Layout.{recordBytes};
 ghost use Rattle.store.specs.Book.{under};
 ghost use Rattle.store.specs.Decode.{decode};
 ghost use Rattle.store.specs.Inner.{known};
-ghost use Rattle.store.specs.Inner.{Moves, Renumbers, Strikeable, Strikes, Files};
+ghost use Rattle.store.specs.Inner.{Measures, Moves, Renumbers, Strikeable, Strikes, Files};
 
 // Writes the offsets anew from the front on, so that the lines lie end to end from `start` on.
 fn renumber(part: &mut [u8], start: usize)
@@ -28,15 +31,9 @@ fn renumber(part: &mut [u8], start: usize)
 {
     let mut at = 0;
     let mut off = start;
-    loop {
-        let head = read_head(&part[at..]);
-        let size = head.size;
-        if size == 0 {
-            return;
-        }
-        let len = head.len;
-        put_record(&mut part[at..], head.key, off, len);
-        at += size;
+    while stands(&part[at..]) {
+        let len = put_offset(&mut part[at..], off);
+        at += RECORD_SIZE;
         off += len;
     }
 }
@@ -69,8 +66,10 @@ fn put_line(index: &mut [u8], text: &mut [u8], at: usize, off: usize, key: Uuid,
     write_bytes(text, off, line);
 }
 
-// Files a line under a key, if there is room: the one held under it is taken out, and the new one goes last.
-pub fn file_line(index: &mut [u8], text: &mut [u8], key: Uuid, line: &[u8]) -> bool
+// Files a line under a key, if there is room: the one held under it is taken out, and the new one goes last. The records
+// and the lines end where `all` says.
+pub fn file_at(index: &mut [u8], text: &mut [u8], all: Extent, key: Uuid, line: &[u8]) -> bool
+    requires { ⌜ Measures (now index) all ⌝ }
     requires { ⌜ known (decode (now index) (now text)) ≡ true ⌝ }
     requires { ⌜ (1 ≤ length (now line)) × (length (now line) ≤ lineMax) ⌝ }
     ensures { λ r. ⌜
@@ -80,7 +79,6 @@ pub fn file_line(index: &mut [u8], text: &mut [u8], key: Uuid, line: &[u8]) -> b
     let spot = find(index, key);
     let at = spot.at;
     let head = spot.head;
-    let all = in_use(index);
     let end = all.end - head.size;
     let used = all.used - head.len;
     let size = record_size(key);
@@ -93,4 +91,16 @@ pub fn file_line(index: &mut [u8], text: &mut [u8], key: Uuid, line: &[u8]) -> b
     make_room(index, text, at, head);
     put_line(index, text, end, used, key, line);
     true
+}
+
+// Files a line under a key, as `file_at` does.
+pub fn file_line(index: &mut [u8], text: &mut [u8], key: Uuid, line: &[u8]) -> bool
+    requires { ⌜ known (decode (now index) (now text)) ≡ true ⌝ }
+    requires { ⌜ (1 ≤ length (now line)) × (length (now line) ≤ lineMax) ⌝ }
+    ensures { λ r. ⌜
+        Files (now (index .entry)) (now (text .entry)) (under key (now (line .entry))) r
+        (now (index .exit)) (now (text .exit)) ⌝ }
+{
+    let all = in_use(index);
+    file_at(index, text, all, key, line)
 }

@@ -1,21 +1,21 @@
 // The records of an index: one read, one written, and the walk over them. A change of the record's form changes
-// `Head`, `read_head`, `put_record` and `same_key`; the walks go by the size that was read.
+// `Head`, `read_head`, `stands` and the functions from there on up to `other_key`, and `put_record`.
 use crate::bytes::put_u64;
 use crate::bytes::put_word;
 use crate::bytes::u64_at;
 use crate::bytes::word_at;
 use text::uuid::Uuid;
 ghost use mathlib.Core.Path.{_≡_};
+ghost use mathlib.Core.Bool.{true, false};
 ghost use mathlib.Core.List.{List, _∷_, _++_};
 ghost use Prim.Native.Nat.{ℕ, suc, _+_, _-_, _≤_, _<_};
 ghost use lib.ListN.{length, take, drop};
-ghost use Rattle.store.specs.Held.{sameKey};
 ghost use Rattle.store.specs.Layout.{recordBytes};
-ghost use Rattle.store.specs.Decode.{bodyAt, headAt};
-ghost use Rattle.store.specs.Inner.{bodySize, bodyBytes, Finds, Measures, Sized};
+ghost use Rattle.store.specs.Decode.{bodyAt, noHead, headAt};
+ghost use Rattle.store.specs.Inner.{bodySize, bodyBytes, HasRecord, moveTo, ofAnother, Finds, Measures, Sized};
 
 // The bytes of a record: the kind, and 20 more.
-const RECORD_SIZE: usize = 21;
+pub const RECORD_SIZE: usize = 21;
 
 // What the record at an index's front says; size 0 where no whole one stands there.
 pub struct Head {
@@ -42,15 +42,6 @@ pub struct Spot {
 pub struct Extent {
     pub end: usize,
     pub used: usize,
-}
-
-pub fn same_key(a: Uuid, b: Uuid) -> bool
-    ensures { λ r. ⌜ r ≡ sameKey a b ⌝ }
-{
-    if a.high != b.high {
-        return false;
-    }
-    a.low == b.low
 }
 
 // The body of a record: read, and written.
@@ -126,23 +117,66 @@ pub fn put_record(index: &mut [u8], key: Uuid, off: usize, len: usize)
     index[0] = 1;
 }
 
+// Whether a whole record stands at the front.
+pub fn stands(index: &[u8]) -> bool
+    ensures { λ r. ⌜ (r ≡ true → HasRecord (now (index .entry))) × (r ≡ false → noHead ≡ headAt (now (index .entry))) ⌝ }
+{
+    if RECORD_SIZE > index.len() {
+        return false;
+    }
+    index[0] == 1
+}
+
+// What the whole record at the front says. As `read_head`, for a loop that it becomes a part of.
+pub fn whole_head(index: &[u8]) -> Head
+    requires { ⌜ HasRecord (now index) ⌝ }
+    ensures { λ r. ⌜ r ≡ headAt (now (index .entry)) ⌝ }
+{
+    Head {
+        size: RECORD_SIZE,
+        key: Uuid {
+            high: u64_at(index, 1),
+            low: u64_at(index, 9),
+        },
+        off: word_at(index, 17),
+        len: word_at(index, 19),
+    }
+}
+
+// Writes the offset of the whole record at the front anew, and returns the length that it says.
+pub fn put_offset(index: &mut [u8], off: usize) -> usize
+    requires { ⌜ HasRecord (now index) ⌝ }
+    ensures { λ r. ⌜ r ≡ headAt (now (index .entry)) .len ⌝ }
+    ensures { λ r. ⌜ now (index .exit) ≡ moveTo off (now (index .entry)) ⌝ }
+{
+    let len = word_at(index, 19);
+    put_word(index, 17, off as u64);
+    len
+}
+
+// Whether a record of another key stands at the front; only what tells that is read.
+fn other_key(index: &[u8], key: Uuid) -> bool
+    ensures { λ r. ⌜ r ≡ ofAnother key (headAt (now (index .entry))) ⌝ }
+{
+    if !stands(index) {
+        return false;
+    }
+    if key.high != u64_at(index, 1) {
+        return true;
+    }
+    key.low != u64_at(index, 9)
+}
+
 // Where the record of that key stands and what it says, or where the records end.
 pub fn find(index: &[u8], key: Uuid) -> Spot
     ensures { λ r. ⌜ Finds (now (index .entry)) key r ⌝ }
 {
     let mut at = 0;
-    loop {
-        let head = read_head(&index[at..]);
-        let size = head.size;
-        if size == 0 {
-            return Spot { at: at, head: head };
-        }
-        let other = head.key;
-        if same_key(key, other) {
-            return Spot { at: at, head: head };
-        }
-        at += size;
+    while other_key(&index[at..], key) {
+        at += RECORD_SIZE;
     }
+    let head = read_head(&index[at..]);
+    Spot { at: at, head: head }
 }
 
 // How much of the index and the text is in use.

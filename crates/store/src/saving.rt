@@ -2,9 +2,9 @@
 use crate::calls::Answer;
 use crate::calls::SaveAnswer;
 use crate::calls::Saved;
-use crate::filing::file_line;
+use crate::filing::file_at;
 use crate::search::find_text;
-use crate::soundness::sound;
+use crate::soundness::check_store;
 use line::mapping::Mapping;
 use text::bytes::find_byte;
 use text::uuid::Uuid;
@@ -23,10 +23,12 @@ pub fn file_built(index: &mut [u8], text: &mut [u8], uuid: Uuid, line: &[u8]) ->
         record { answer = r; index = now (index .exit); text = now (text .exit) }
         ≡ storeFile (now (index .entry)) (now (text .entry)) (under uuid (now (line .entry))) ⌝ }
 {
-    if !sound(index, text) {
+    let shown = check_store(index, text);
+    if !shown.sound {
         return Answer::Unsound;
     }
-    if !file_line(index, text, uuid, line) {
+    let all = shown.all;
+    if !file_at(index, text, all, uuid, line) {
         return Answer::NoRoom;
     }
     Answer::Done

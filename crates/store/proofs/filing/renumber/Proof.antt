@@ -1,16 +1,14 @@
 -- The loop's invariant: the records before `at` have their new offsets, the others their old ones.
-use mathlib.Core.List.{List, _++_}
-use mathlib.Core.Path.{_≡_, sym, ap, _∙_}
+use mathlib.Core.List.{List}
+use mathlib.Core.Path.{refl, ap, _∙_, subst}
 use Prim.Native.Nat.{ℕ, _-_}
 use native.Mathlib.Omega.{arith}
-use lib.ListN.{length, take, drop}
+use lib.ListN.{length}
 use borrow.Author.Needs.{needs}
-use Rattle.store.specs.Decode.{headAt}
-use Rattle.store.specs.Layout.{recordBytes}
-use Rattle.text.proofs.LentLaws.{tail-part, tail-length, tail-lent}
-use Rattle.store.proofs.RecordLaws.{size-record}
-use Rattle.store.proofs.RowLaws.{size-more, next-within}
-use Rattle.store.proofs.MoveLaws.{Moving, move-first, move-end, move-below, move-turn}
+use Rattle.store.specs.Decode.{noHead, headAt}
+use Rattle.store.specs.Inner.{HasRecord, moveTo}
+use Rattle.text.proofs.LentLaws.{tail-part, tail-lent}
+use Rattle.store.proofs.MoveLaws.{Moving, move-first, move-end, offset-within, offset-below, offset-turn}
 use Rattle.store.proofs.filing.renumber.Statement.{statement}
 use Rattle.store.proofs.filing.renumber.Tie as tie
 
@@ -25,17 +23,91 @@ loop-holds c =
     let args = c .before .args in
     move-first (args .start) (args .part .now)
 
-sub-read-head : tie.Need-sub-read-head Inv-loop μ-loop
-sub-read-head c = search needs
+sub-stands : tie.Need-sub-stands Inv-loop μ-loop
+sub-stands c = search needs
 
-part-read-head-start : tie.Need-part-read-head-start Inv-loop μ-loop
-part-read-head-start c = search needs
+part-stands-start : tie.Need-part-stands-start Inv-loop μ-loop
+part-stands-start c = search needs
 
-part-read-head-end : tie.Need-part-read-head-end Inv-loop μ-loop
-part-read-head-end c = search needs
+part-stands-end : tie.Need-part-stands-end Inv-loop μ-loop
+part-stands-end c = search needs
 
-read-head-requires : tie.Need-read-head-requires Inv-loop μ-loop
-read-head-requires c κs = search needs
+stands-requires : tie.Need-stands-requires Inv-loop μ-loop
+stands-requires c κs = search needs
+
+sub-put-offset : tie.Need-sub-put-offset Inv-loop μ-loop
+sub-put-offset c = search needs
+
+part-put-offset-start : tie.Need-part-put-offset-start Inv-loop μ-loop
+part-put-offset-start c = search needs
+
+part-put-offset-end : tie.Need-part-put-offset-end Inv-loop μ-loop
+part-put-offset-end c = search needs
+
+put-offset-requires : tie.Need-put-offset-requires Inv-loop μ-loop
+put-offset-requires c κs =
+    let stands = c .before .before .stands in
+    let if1 = c .before .if1 in
+    stands .ensures .0 (if1 .taken)
+
+add-at : tie.Need-add-at Inv-loop μ-loop
+add-at c =
+    let args = c .before .before .before .before .before .before .before .before .before .before .args in
+    let loop = c .before .before .before .before .before .before .before .before .loop in
+    let stands = c .before .before .before .before .before .stands in
+    let if1 = c .before .before .before .before .if1 in
+    let put-offset = c .before .before .put-offset in
+    omega (
+      arith,
+      offset-within (args .start) (args .part .now) (loop .part) (loop .at) (loop .off) (loop .inv)
+          (subst (λ (x : List ℕ). HasRecord x) (tail-part (loop .at) (loop .part)) (stands .ensures .0 (if1 .taken)))
+          (put-offset .result) (put-offset .ensures .0 ∙ ap (λ (x : List ℕ). headAt x .len) (tail-part (loop .at) (loop
+          .part))),
+    )
+
+add-off : tie.Need-add-off Inv-loop μ-loop
+add-off c =
+    let args = c .before .before .before .before .before .before .before .before .before .before .args in
+    let pre = c .before .before .before .before .before .before .before .before .before .before .pre in
+    let loop = c .before .before .before .before .before .before .before .before .loop in
+    let stands = c .before .before .before .before .before .stands in
+    let if1 = c .before .before .before .before .if1 in
+    let put-offset = c .before .before .put-offset in
+    omega (
+      arith,
+      offset-below (args .start) (args .part .now) (loop .part) (loop .at) (loop .off) (loop .inv)
+          (subst (λ (x : List ℕ). HasRecord x) (tail-part (loop .at) (loop .part)) (stands .ensures .0 (if1 .taken)))
+          (put-offset .result) (put-offset .ensures .0 ∙ ap (λ (x : List ℕ). headAt x .len) (tail-part (loop .at) (loop
+          .part))) pre,
+    )
+
+loop-less : tie.Need-loop-less Inv-loop μ-loop
+loop-less c =
+    let args = c .before .before .before .before .before .before .before .before .before .before .args in
+    let loop = c .before .before .before .before .before .before .before .before .loop in
+    let stands = c .before .before .before .before .before .stands in
+    let if1 = c .before .before .before .before .if1 in
+    let put-offset = c .before .before .put-offset in
+    omega (
+      arith,
+      offset-within (args .start) (args .part .now) (loop .part) (loop .at) (loop .off) (loop .inv)
+          (subst (λ (x : List ℕ). HasRecord x) (tail-part (loop .at) (loop .part)) (stands .ensures .0 (if1 .taken)))
+          (put-offset .result) (put-offset .ensures .0 ∙ ap (λ (x : List ℕ). headAt x .len) (tail-part (loop .at) (loop
+          .part))),
+      loop .inv .size,
+    )
+
+loop-again : tie.Need-loop-again Inv-loop μ-loop
+loop-again c =
+    let args = c .before .before .before .before .before .before .before .before .before .before .args in
+    let loop = c .before .before .before .before .before .before .before .before .loop in
+    let stands = c .before .before .before .before .before .stands in
+    let if1 = c .before .before .before .before .if1 in
+    let put-offset = c .before .before .put-offset in
+    offset-turn (args .start) (args .part .now) (loop .part) (loop .at) (loop .off) (loop .inv) (subst (λ (x : List
+    ℕ). HasRecord x) (tail-part (loop .at) (loop .part)) (stands .ensures .0 (if1 .taken))) (put-offset .result)
+    (put-offset .ensures .0 ∙ ap (λ (x : List ℕ). headAt x .len) (tail-part (loop .at) (loop .part))) _ (tail-lent
+    (loop .at) (loop .part) (moveTo (loop .off)) _ (put-offset .ensures .1))
 
 same-length : tie.Need-same-length Inv-loop μ-loop
 same-length c =
@@ -46,86 +118,10 @@ returns : tie.Need-returns Inv-loop μ-loop
 returns c =
     let args = c .before .before .before .before .before .before .args in
     let loop = c .before .before .before .before .loop in
-    let read-head = c .before .read-head in
-    move-end (args .start) (args .part .now) (loop .part) (loop .at) (loop .off) (loop .inv) (read-head .result)
-    (read-head .ensures ∙ ap headAt (tail-part (loop .at) (loop .part))) (c .if1 .taken)
-
-sub-put-record : tie.Need-sub-put-record Inv-loop μ-loop
-sub-put-record c = search needs
-
-part-put-record-start : tie.Need-part-put-record-start Inv-loop μ-loop
-part-put-record-start c = search needs
-
-part-put-record-end : tie.Need-part-put-record-end Inv-loop μ-loop
-part-put-record-end c = search needs
-
-put-record-requires : tie.Need-put-record-requires Inv-loop μ-loop
-put-record-requires c κs =
-    let loop = c .before .before .before .before .before .loop in
-    let read-head = c .before .before .read-head in
-    omega (
-      arith,
-      tail-length (loop .at) (loop .part),
-      next-within (loop .part) (loop .at) (read-head .result)
-          (read-head .ensures ∙ ap headAt (tail-part (loop .at) (loop .part))) (loop .inv .within),
-      size-record _
-          (read-head .result) (c .before .if1 .left) (read-head .ensures ∙ ap headAt (tail-part (loop .at) (loop
-          .part))) (loop .off) (read-head .result .len),
-    )
-
-add-at : tie.Need-add-at Inv-loop μ-loop
-add-at c =
-    let loop = c .before .before .before .before .before .before .before .before .loop in
-    let read-head = c .before .before .before .before .before .read-head in
-    omega (
-      arith,
-      next-within (loop .part) (loop .at) (read-head .result) (read-head .ensures ∙ ap headAt (tail-part
-          (loop .at) (loop .part))) (loop .inv .within),
-    )
-
-add-off : tie.Need-add-off Inv-loop μ-loop
-add-off c =
-    let args = c .before .before .before .before .before .before .before .before .before .before .args in
-    let pre = c .before .before .before .before .before .before .before .before .before .before .pre in
-    let loop = c .before .before .before .before .before .before .before .before .loop in
-    let read-head = c .before .before .before .before .before .read-head in
-    let if1 = c .before .before .before .before .if1 in
-    omega (
-      arith,
-      move-below (args .start) (args .part .now) (loop .part) (loop .at) (loop .off) (loop .inv)
-          (read-head .result) (read-head .ensures ∙ ap headAt (tail-part (loop .at) (loop .part))) (if1 .left) (pre),
-    )
-
-loop-less : tie.Need-loop-less Inv-loop μ-loop
-loop-less c =
-    let loop = c .before .before .before .before .before .before .before .before .loop in
-    let read-head = c .before .before .before .before .before .read-head in
-    let if1 = c .before .before .before .before .if1 in
-    omega (
-      arith,
-      next-within (loop .part) (loop .at) (read-head .result) (read-head .ensures ∙ ap headAt (tail-part
-          (loop .at) (loop .part))) (loop .inv .within),
-      size-more (read-head .result .size) (if1 .left),
-      loop .inv
-          .size,
-    )
-
-loop-again : tie.Need-loop-again Inv-loop μ-loop
-loop-again c =
-    let args = c .before .before .before .before .before .before .before .before .before .before .args in
-    let loop = c .before .before .before .before .before .before .before .before .loop in
-    let read-head = c .before .before .before .before .before .read-head in
-    let if1 = c .before .before .before .before .if1 in
-    let put-record = c .before .before .put-record in
-    let z : read-head .result .size ≡ length (recordBytes (read-head .result .key) (loop .off) (read-head .result
-    .len)) = size-record _ (read-head .result) (if1 .left) (read-head .ensures ∙ ap headAt (tail-part (loop .at)
-    (loop .part))) _ _ in
-    move-turn (args .start) (args .part .now) (loop .part) (loop .at) (loop .off) (loop .inv) (read-head .result)
-    (read-head .ensures ∙ ap headAt (tail-part (loop .at) (loop .part))) (if1 .left) z _ (tail-lent (loop .at)
-    (loop .part) (λ (x : List ℕ). recordBytes (read-head .result .key) (loop .off) (read-head .result .len) ++
-    drop (length (recordBytes (read-head .result .key) (loop .off) (read-head .result .len))) x) _ (put-record
-    .ensures) ∙ ap (λ (n : ℕ). take (loop .at) (loop .part) ++ (recordBytes (read-head .result .key) (loop .off)
-    (read-head .result .len) ++ drop n (drop (loop .at) (loop .part)))) (sym z))
+    let stands = c .before .stands in
+    let if1 = c .if1 in
+    move-end (args .start) (args .part .now) (loop .part) (loop .at) (loop .off) (loop .inv) noHead (stands .ensures
+    .1 (if1 .left) ∙ ap headAt (tail-part (loop .at) (loop .part))) refl
 
 pub renumber-spec : {M : Type 1} → statement M
 renumber-spec =
@@ -134,17 +130,17 @@ renumber-spec =
     Inv-loop
     μ-loop
     loop-holds
-    sub-read-head
-    part-read-head-start
-    part-read-head-end
-    read-head-requires
-    same-length
-    returns
-    sub-put-record
-    part-put-record-start
-    part-put-record-end
-    put-record-requires
+    sub-stands
+    part-stands-start
+    part-stands-end
+    stands-requires
+    sub-put-offset
+    part-put-offset-start
+    part-put-offset-end
+    put-offset-requires
     add-at
     add-off
     loop-less
-    loop-again)
+    loop-again
+    same-length
+    returns)

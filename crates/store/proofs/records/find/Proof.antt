@@ -1,12 +1,14 @@
 -- The loop's invariant: the key is not among the records before `at`.
 use mathlib.Core.Path.{sym, ap, _∙_}
-use Prim.Native.Nat.{_-_}
+use Prim.Native.Nat.{_-_, _+_}
 use native.Mathlib.Omega.{arith}
 use lib.ListN.{length}
 use borrow.Author.Needs.{needs}
 use Rattle.store.specs.Decode.{headAt}
+use Rattle.store.specs.Held.{recordSize}
+use Rattle.store.specs.Inner.{ofAnother}
 use Rattle.text.proofs.LentLaws.{tail-part}
-use Rattle.store.proofs.RowLaws.{size-more, next-within, Seeking, seek-first, seek-turn, seek-none, seek-same}
+use Rattle.store.proofs.RowLaws.{Seeking, seek-first, seek-on, seek-done}
 use Rattle.store.proofs.records.find.Statement.{statement}
 use Rattle.store.proofs.records.find.Tie as tie
 
@@ -20,6 +22,44 @@ loop-holds : tie.Need-loop-holds Inv-loop μ-loop
 loop-holds c =
     let args = c .before .args in
     seek-first (args .index .now) (args .key)
+
+sub-other-key : tie.Need-sub-other-key Inv-loop μ-loop
+sub-other-key c = search needs
+
+part-other-key-start : tie.Need-part-other-key-start Inv-loop μ-loop
+part-other-key-start c = search needs
+
+part-other-key-end : tie.Need-part-other-key-end Inv-loop μ-loop
+part-other-key-end c = search needs
+
+other-key-requires : tie.Need-other-key-requires Inv-loop μ-loop
+other-key-requires c κs = search needs
+
+add-at : tie.Need-add-at Inv-loop μ-loop
+add-at c =
+    let args = c .before .before .before .before .before .args in
+    let loop = c .before .before .before .loop in
+    let other-key = c .before .other-key in
+    let w : Seeking (args .index .now) (args .key) (loop .at + recordSize) = seek-on (args .index .now) (args .key) (loop .at) (loop .inv) _ (ap headAt (tail-part (loop .at) (args .index
+    .now))) (sym (other-key .ensures) ∙ c .if1 .taken) in
+    omega (arith, w .within)
+
+loop-less : tie.Need-loop-less Inv-loop μ-loop
+loop-less c =
+    let args = c .before .before .before .before .before .args in
+    let loop = c .before .before .before .loop in
+    let other-key = c .before .other-key in
+    let w : Seeking (args .index .now) (args .key) (loop .at + recordSize) = seek-on (args .index .now) (args .key) (loop .at) (loop .inv) _ (ap headAt (tail-part (loop .at) (args .index
+    .now))) (sym (other-key .ensures) ∙ c .if1 .taken) in
+    omega (arith, w .within)
+
+loop-again : tie.Need-loop-again Inv-loop μ-loop
+loop-again c =
+    let args = c .before .before .before .before .before .args in
+    let loop = c .before .before .before .loop in
+    let other-key = c .before .other-key in
+    seek-on (args .index .now) (args .key) (loop .at) (loop .inv) _ (ap headAt (tail-part (loop .at) (args .index
+    .now))) (sym (other-key .ensures) ∙ c .if1 .taken)
 
 sub-read-head : tie.Need-sub-read-head Inv-loop μ-loop
 sub-read-head c = search needs
@@ -35,57 +75,13 @@ read-head-requires c κs = search needs
 
 returns : tie.Need-returns Inv-loop μ-loop
 returns c =
-    let args = c .before .before .before .before .before .args in
-    let loop = c .before .before .before .loop in
-    let read-head = c .before .read-head in
-    seek-none (args .index .now) (args .key) (loop .at) (loop .inv) (read-head .result) (read-head .ensures ∙ ap
-    headAt (tail-part (loop .at) (args .index .now))) (c .if1 .taken)
-
-same-key-requires : tie.Need-same-key-requires Inv-loop μ-loop
-same-key-requires c κs = search needs
-
-returns-2 : tie.Need-returns-2 Inv-loop μ-loop
-returns-2 c =
-    let args = c .before .before .before .before .before .before .before .before .args in
-    let loop = c .before .before .before .before .before .before .loop in
-    let read-head = c .before .before .before .before .read-head in
-    seek-same (args .index .now) (args .key) (loop .at) (loop .inv) (read-head .result) (read-head .ensures ∙ ap
-    headAt (tail-part (loop .at) (args .index .now))) (sym (c .before .same-key .ensures) ∙ c .if2 .taken)
-
-add-at : tie.Need-add-at Inv-loop μ-loop
-add-at c =
-    let args = c .before .before .before .before .before .before .before .before .args in
-    let loop = c .before .before .before .before .before .before .loop in
-    let read-head = c .before .before .before .before .read-head in
-    omega (
-      arith,
-      next-within (args .index .now) (loop .at) (read-head .result) (read-head .ensures ∙ ap headAt
-          (tail-part (loop .at) (args .index .now))) (loop .inv .within),
-    )
-
-loop-less : tie.Need-loop-less Inv-loop μ-loop
-loop-less c =
-    let args = c .before .before .before .before .before .before .before .before .args in
-    let loop = c .before .before .before .before .before .before .loop in
-    let read-head = c .before .before .before .before .read-head in
-    let if1 = c .before .before .before .if1 in
-    omega (
-      arith,
-      next-within (args .index .now) (loop .at) (read-head .result) (read-head .ensures ∙ ap headAt
-          (tail-part (loop .at) (args .index .now))) (loop .inv .within),
-      size-more (read-head .result .size) (if1
-          .left),
-    )
-
-loop-again : tie.Need-loop-again Inv-loop μ-loop
-loop-again c =
-    let args = c .before .before .before .before .before .before .before .before .args in
-    let loop = c .before .before .before .before .before .before .loop in
-    let read-head = c .before .before .before .before .read-head in
-    let if1 = c .before .before .before .if1 in
-    seek-turn (args .index .now) (args .key) (loop .at) (loop .inv) (read-head .result) (read-head .ensures ∙ ap
-    headAt (tail-part (loop .at) (args .index .now))) (if1 .left) (sym (c .before .same-key .ensures) ∙ c .if2
-    .left)
+    let args = c .before .before .before .before .before .before .before .args in
+    let loop = c .before .before .before .before .before .loop in
+    let other-key = c .before .before .before .other-key in
+    let if1 = c .before .before .if1 in
+    seek-done (args .index .now) (args .key) (loop .at) (loop .inv) (c .read-head .result) (c .read-head .ensures ∙
+    ap headAt (tail-part (loop .at) (args .index .now))) (ap (ofAnother (args .key)) (c .read-head .ensures) ∙ sym
+    (other-key .ensures) ∙ if1 .left)
 
 pub find-spec : {M : Type 1} → statement M
 find-spec =
@@ -94,13 +90,15 @@ find-spec =
     Inv-loop
     μ-loop
     loop-holds
+    sub-other-key
+    part-other-key-start
+    part-other-key-end
+    other-key-requires
+    add-at
+    loop-less
+    loop-again
     sub-read-head
     part-read-head-start
     part-read-head-end
     read-head-requires
-    returns
-    same-key-requires
-    returns-2
-    add-at
-    loop-less
-    loop-again)
+    returns)

@@ -1,4 +1,4 @@
--- 19 where the store is not sound; else `file_line` says whether there was room.
+-- 19 where the store is not sound; else `file_at` says whether there was room.
 use mathlib.Core.Path.{sym, _∙_}
 use borrow.Author.Needs.{needs}
 use borrow.Author.Tests.{not-true, not-false}
@@ -7,8 +7,8 @@ use Rattle.store.proofs.SaveLaws.{file-unsound, file-done, file-full}
 use Rattle.store.proofs.saving.file_built.Statement.{statement}
 use Rattle.store.proofs.saving.file_built.Tie as tie
 
-sound-requires : tie.Need-sound-requires
-sound-requires c κs = search needs
+check-store-requires : tie.Need-check-store-requires
+check-store-requires c κs = search needs
 
 same-length : tie.Need-same-length
 same-length c = search needs
@@ -18,15 +18,24 @@ same-length-2 c = search needs
 
 returns : tie.Need-returns
 returns c =
-    let a = c .before .before .before .before .before .before .before .args in
-    file-unsound (a .index .now) (a .text .now) (under (a .uuid) (a .line .now))
-    (sym (c .before .sound .ensures) ∙ not-true _ (c .if1 .taken))
+    let args = c .before .before .before .before .before .before .before .before .args in
+    let check-store = c .before .before .check-store in
+    let if1 = c .if1 in
+    file-unsound (args .index .now) (args .text .now) (under (args .uuid) (args .line .now)) (sym (check-store
+    .ensures .is) ∙ not-true _ (if1 .taken))
 
-file-line-requires : tie.Need-file-line-requires
-file-line-requires c κs =
-    let pre = c .before .before .before .before .before .before .before .before .before .pre in
-    let checked = c .before .before .before .sound in
-    (sym (checked .ensures) ∙ not-false _ (c .before .before .if1 .left), pre)
+file-at-requires : tie.Need-file-at-requires
+file-at-requires c κs =
+    let pre = c .before .before .before .before .before .before .before .before .before .before .before .pre in
+    let check-store = c .before .before .before .before .before .check-store in
+    let if1 = c .before .before .before .if1 in (
+      check-store .ensures .ends (not-false _ (if1 .left)),
+      (
+        (sym (check-store .ensures .is) ∙ not-false _ (if1
+            .left)),
+        pre,
+      ),
+    )
 
 same-length-3 : tie.Need-same-length-3
 same-length-3 c = search needs
@@ -36,14 +45,15 @@ same-length-4 c = search needs
 
 returns-2 : tie.Need-returns-2
 returns-2 c =
-    let back = c .before .before .before .before .before .before .before .before .before .before in
-    let a = back .before .before .before .before .before .args in
-    let checked = c .before .before .before .before .before .before .before .before .before .sound in
-    let if1 = c .before .before .before .before .before .before .before .before .if1 in
-    let filed = c .before .before .before .before .before .file-line in
-    file-full (a .index .now) (a .text .now) (under (a .uuid) (a .line .now))
-    (sym (checked .ensures) ∙ not-false _ (if1 .left))
-    (filed .result) _ _ (filed .ensures) (not-true _ (c .if2 .taken))
+    let args = c .before .before .before .before .before .before .before .before .before .before .before .before
+    .before .before .before .before .before .args in
+    let check-store = c .before .before .before .before .before .before .before .before .before .before .before
+    .check-store in
+    let if1 = c .before .before .before .before .before .before .before .before .before .if1 in
+    let file-at = c .before .before .before .before .before .file-at in
+    let if2 = c .if2 in
+    file-full (args .index .now) (args .text .now) (under (args .uuid) (args .line .now)) (sym (check-store .ensures
+    .is) ∙ not-false _ (if1 .left)) (file-at .result) _ _ (file-at .ensures) (not-true _ (if2 .taken))
 
 same-length-5 : tie.Need-same-length-5
 same-length-5 c = search needs
@@ -53,24 +63,25 @@ same-length-6 c = search needs
 
 returns-3 : tie.Need-returns-3
 returns-3 c =
-    let back = c .before .before .before .before .before .before .before .before .before .before in
-    let a = back .before .before .before .before .before .args in
-    let checked = c .before .before .before .before .before .before .before .before .before .sound in
-    let if1 = c .before .before .before .before .before .before .before .before .if1 in
-    let filed = c .before .before .before .before .before .file-line in
-    file-done (a .index .now) (a .text .now) (under (a .uuid) (a .line .now))
-    (sym (checked .ensures) ∙ not-false _ (if1 .left))
-    (filed .result) _ _ (filed .ensures) (not-false _ (c .if2 .left))
+    let args = c .before .before .before .before .before .before .before .before .before .before .before .before
+    .before .before .before .before .before .args in
+    let check-store = c .before .before .before .before .before .before .before .before .before .before .before
+    .check-store in
+    let if1 = c .before .before .before .before .before .before .before .before .before .if1 in
+    let file-at = c .before .before .before .before .before .file-at in
+    let if2 = c .if2 in
+    file-done (args .index .now) (args .text .now) (under (args .uuid) (args .line .now)) (sym (check-store .ensures
+    .is) ∙ not-false _ (if1 .left)) (file-at .result) _ _ (file-at .ensures) (not-false _ (if2 .left))
 
 pub file-built-spec : {M : Type 1} → statement M
 file-built-spec =
     tie.close
     (tie.spec
-    sound-requires
+    check-store-requires
     same-length
     same-length-2
     returns
-    file-line-requires
+    file-at-requires
     same-length-3
     same-length-4
     returns-2
