@@ -66,8 +66,8 @@ fn put_line(index: &mut [u8], text: &mut [u8], at: usize, off: usize, key: Uuid,
     write_bytes(text, off, line);
 }
 
-// Files a line under a key, if there is room: the one held under it is taken out, and the new one goes last. The records
-// and the lines end where `all` says.
+// Files a line under a key, if there is room: the one held under it is taken out, and the new one goes last. `all` says
+// where the records and the lines end.
 pub fn file_at(index: &mut [u8], text: &mut [u8], all: Extent, key: Uuid, line: &[u8]) -> bool
     requires { ⌜ Measures (now index) all ⌝ }
     requires { ⌜ known (decode (now index) (now text)) ≡ true ⌝ }

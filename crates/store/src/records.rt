@@ -119,7 +119,8 @@ pub fn put_record(index: &mut [u8], key: Uuid, off: usize, len: usize)
 
 // Whether a whole record stands at the front.
 pub fn stands(index: &[u8]) -> bool
-    ensures { λ r. ⌜ (r ≡ true → HasRecord (now (index .entry))) × (r ≡ false → noHead ≡ headAt (now (index .entry))) ⌝ }
+    ensures { λ r. ⌜
+        (r ≡ true → HasRecord (now (index .entry))) × (r ≡ false → noHead ≡ headAt (now (index .entry))) ⌝ }
 {
     if RECORD_SIZE > index.len() {
         return false;

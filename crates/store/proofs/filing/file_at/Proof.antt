@@ -58,8 +58,8 @@ add-if1 c =
           .0) .0) (lines-of (decode (args .index .now) (args .text .now)) (pre .1 .0) .1) .counts .small,
       counted (args
           .index .now) (args .text .now) (λ k. omega (arith, slice-known .given k)) (args .key) (find .result) (find
-          .ensures) (args .all) (pre .0) (lines-of (decode (args .index .now) (args .text .now)) (pre .1 .0) .0) (lines-of
-          (decode (args .index .now) (args .text .now)) (pre .1 .0) .1) .counts .most-index,
+          .ensures) (args .all) (pre .0) (lines-of (decode (args .index .now) (args .text .now)) (pre .1 .0) .0)
+          (lines-of (decode (args .index .now) (args .text .now)) (pre .1 .0) .1) .counts .most-index,
       size-small (args .key) (c
           .record-size .result) (c .record-size .ensures),
     )
@@ -84,8 +84,8 @@ returns c =
           omega (arith, slice-known .given k)) (args .key) (find .result) (find .ensures) (args .all) (pre .0) hs d
           .counts) (record-size .result) (record-size .ensures) (c .if1 .taken)),
       untouched (args .index .now) (args .text
-          .now) (λ k. omega (arith, slice-known .given k)) (args .key) (find .result) (find .ensures) (args .all) (pre .0)
-          hs d .0,
+          .now) (λ k. omega (arith, slice-known .given k)) (args .key) (find .result) (find .ensures) (args .all) (pre
+          .0) hs d .0,
       untouched (args .index .now) (args .text .now) (λ k. omega (arith, slice-known .given k)) (args .key)
           (find .result) (find .ensures) (args .all) (pre .0) hs d .1,
     )
@@ -109,8 +109,8 @@ add-if2 c =
           .0) .0) (lines-of (decode (args .index .now) (args .text .now)) (pre .1 .0) .1) .counts .short,
       counted (args
           .index .now) (args .text .now) (λ k. omega (arith, slice-known .given k)) (args .key) (find .result) (find
-          .ensures) (args .all) (pre .0) (lines-of (decode (args .index .now) (args .text .now)) (pre .1 .0) .0) (lines-of
-          (decode (args .index .now) (args .text .now)) (pre .1 .0) .1) .counts .most-text,
+          .ensures) (args .all) (pre .0) (lines-of (decode (args .index .now) (args .text .now)) (pre .1 .0) .0)
+          (lines-of (decode (args .index .now) (args .text .now)) (pre .1 .0) .1) .counts .most-text,
       pre .1 .1 .1,
     )
 
@@ -134,8 +134,8 @@ returns-2 c =
           omega (arith, slice-known .given k)) (args .key) (find .result) (find .ensures) (args .all) (pre .0) hs d
           .counts) (record-size .result) (record-size .ensures) (c .if2 .taken)),
       untouched (args .index .now) (args .text
-          .now) (λ k. omega (arith, slice-known .given k)) (args .key) (find .result) (find .ensures) (args .all) (pre .0)
-          hs d .0,
+          .now) (λ k. omega (arith, slice-known .given k)) (args .key) (find .result) (find .ensures) (args .all) (pre
+          .0) hs d .0,
       untouched (args .index .now) (args .text .now) (λ k. omega (arith, slice-known .given k)) (args .key)
           (find .result) (find .ensures) (args .all) (pre .0) hs d .1,
     )
@@ -153,9 +153,9 @@ make-room-requires c κs =
       (
         lines-of (decode (args .index .now) (args .text .now)) (pre .1 .0) .0,
         spotted (args .index .now)
-            (args .text .now) (λ k. omega (arith, slice-known .given k)) (args .key) (find .result) (find .ensures) (args
-            .all) (pre .0) (lines-of (decode (args .index .now) (args .text .now)) (pre .1 .0) .0) (lines-of (decode (args
-            .index .now) (args .text .now)) (pre .1 .0) .1),
+            (args .text .now) (λ k. omega (arith, slice-known .given k)) (args .key) (find .result) (find .ensures)
+            (args .all) (pre .0) (lines-of (decode (args .index .now) (args .text .now)) (pre .1 .0) .0) (lines-of
+            (decode (args .index .now) (args .text .now)) (pre .1 .0) .1),
       ),
     )
 

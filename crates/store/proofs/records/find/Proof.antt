@@ -40,7 +40,8 @@ add-at c =
     let args = c .before .before .before .before .before .args in
     let loop = c .before .before .before .loop in
     let other-key = c .before .other-key in
-    let w : Seeking (args .index .now) (args .key) (loop .at + recordSize) = seek-on (args .index .now) (args .key) (loop .at) (loop .inv) _ (ap headAt (tail-part (loop .at) (args .index
+    let w : Seeking (args .index .now) (args .key) (loop .at + recordSize) =
+    seek-on (args .index .now) (args .key) (loop .at) (loop .inv) _ (ap headAt (tail-part (loop .at) (args .index
     .now))) (sym (other-key .ensures) ∙ c .if1 .taken) in
     omega (arith, w .within)
 
@@ -49,7 +50,8 @@ loop-less c =
     let args = c .before .before .before .before .before .args in
     let loop = c .before .before .before .loop in
     let other-key = c .before .other-key in
-    let w : Seeking (args .index .now) (args .key) (loop .at + recordSize) = seek-on (args .index .now) (args .key) (loop .at) (loop .inv) _ (ap headAt (tail-part (loop .at) (args .index
+    let w : Seeking (args .index .now) (args .key) (loop .at + recordSize) =
+    seek-on (args .index .now) (args .key) (loop .at) (loop .inv) _ (ap headAt (tail-part (loop .at) (args .index
     .now))) (sym (other-key .ensures) ∙ c .if1 .taken) in
     omega (arith, w .within)
 
