@@ -13,14 +13,13 @@ use Rattle.text.specs.declared.uuid.Uuid.{Uuid}
 use Rattle.text.specs.declared.uuid.UuidParse.{UuidParse}
 use Rattle.text.specs.declared.uuid.UuidParse.the-variants.{Parsed, Invalid}
 use Rattle.store.specs.Book.{turn, noRoom, under, Reached, after, stopped, reachWanted, reach, insertTurn}
-use Rattle.store.specs.Inner.{room, Builds}
+use Rattle.store.specs.Inner.{Good, room, Builds}
 use Rattle.store.specs.Book.{onReached, insertLines, bookInsert, Attempt, refused, files, Saving, bookAttempt}
 use Rattle.store.specs.Book.{Call, clear, insert, save, bookTurn, runBook}
 use Rattle.store.specs.Held.{Held, file, distinct}
 use Rattle.map.specs.Bounds.{lineMax}
 use Rattle.store.specs.Layout.{Shape, records, texts}
 use Rattle.store.specs.Lines.{linesOf, wanted}
-use Rattle.store.proofs.DecodeLaws.{Good}
 use Rattle.store.proofs.HeldLaws.{distinct-file, shapes-file}
 use Rattle.store.proofs.RoomLaws.{room-index, room-text}
 use Rattle.store.proofs.WantedLaws.{wanted-small, wanted-some}

@@ -13,7 +13,7 @@ use borrow.Author.Tests.{eq-eqb, ne-eqb, le-leb, leb-true, eqb-true, eqb-false}
 use Rattle.text.specs.Bytes.{pick}
 use Rattle.store.specs.declared.records.Head.{Head}
 use Rattle.store.specs.Decode.{headAt, heldOf, zeroes, headFits, consTo, walk, guarded, decode}
-use Rattle.store.specs.Inner.{known, sizes}
+use Rattle.store.specs.Inner.{Good, known, sizes}
 use Rattle.store.specs.Held.{Key, Held, distinct, bufferMax}
 use Rattle.store.specs.Inner.{headOf, Lies, Bytes}
 use Rattle.store.specs.Layout.{Shapes, recordOf, records, texts, padded, encodeIndex, encodeText}
@@ -224,13 +224,6 @@ laid i t hs b e = size (leb (length i) bufferMax && leb (length t) bufferMax) re
 pub lines-of : (o : Option (List Held)) → known o ≡ true → (hs : List Held) × (o ≡ some hs)
 lines-of none e = let z : _≡_ {A = ℕ} 0 1 = cc in absurd (omega arith)
 lines-of (some hs) e = (hs, refl)
-
--- the lines that a store with an index of n bytes and a text of m can hold
-pub record Good (n m : ℕ) (hs : List Held) : Type 0 where
-  pub shapes : Shapes hs
-  pub once : distinct hs ≡ true
-  pub index : sizes 0 hs ≤ n
-  pub text : length (texts hs) ≤ m
 
 module _ (i t : List ℕ) (hs : List Held) (l : Laid i t hs) where
   pub index-kept : i ≡ encodeIndex (length i) hs

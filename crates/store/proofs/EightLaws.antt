@@ -1,17 +1,17 @@
 -- Bytes of a buffer eight at a time: compared with 0, moved; and a buffer set to 0.
 -- Assumes nothing.
-use mathlib.Core.List.{List, _++_}
+use mathlib.Core.List.{List, _++_, append-nil}
 use mathlib.Core.Path.{_≡_, refl, sym, ap, ap₂, _∙_}
 use Prim.Native.Nat.{ℕ, _+_, _-_, _*_, _≤_, _<_}
 use native.Mathlib.Nat.{add-zero, add-comm}
 use native.Mathlib.Omega.{arith}
 use lib.ListN.{length, getD, set, take, drop, replicate, getD-replicate, length-replicate, length-drop}
 use lib.ListN.{take-append-drop}
-use lib.Seq.{drop-drop, take-at, drop-at, drop-append-le, length-take-le}
+use lib.Seq.{drop-drop, drop-length, take-at, drop-at, drop-append-le, length-take-le}
 use Rattle.store.specs.Decode.{zeroes, word8}
 use Rattle.store.specs.Inner.{eight}
 use Rattle.store.proofs.BufferLaws.{paint-more, paint-all, paint-length, paint-rest, gap-length, gap-byte}
-use Rattle.store.proofs.BufferLaws.{zeroes-turn}
+use Rattle.store.proofs.BufferLaws.{zeroes-turn, gap-turn}
 
 -- the number in eight bytes, summed by twos
 pub eight-sum : (s : List ℕ) (k a b c d e f g h : ℕ) → a ≡ getD s k 0 → b ≡ getD s (k + 1) 0 → c ≡ getD s (k + 2) 0
@@ -146,3 +146,29 @@ module _ (d p q : List ℕ) (g i : ℕ) (h : i + g ≤ length d)
   gap-rest z =
       z ∙ ap₂ (λ (x y : List ℕ). x ++ (y ++ replicate g 0)) front back
       ∙ ap (λ (x : List ℕ). take i t ++ x) rest ∙ take-append-drop i t
+
+-- `move_down`: the first i bytes of d are moved down
+abbrev pub Down : List ℕ → ℕ → List ℕ → ℕ → Type 0
+Down d g p i = p ≡ take i (drop g d ++ replicate g 0) ++ drop i d
+
+pub down-none : (d : List ℕ) (g : ℕ) → g ≡ 0 → d ≡ drop g d ++ drop (length d - g) d
+down-none d g z =
+    let e : length d ≡ length d - 0 = omega arith in
+    sym (append-nil d) ∙ ap (λ (x : List ℕ). d ++ x) (sym (drop-length d) ∙ ap (λ (k : ℕ). drop k d) e)
+    ∙ ap (λ (k : ℕ). drop k d ++ drop (length d - k) d) (sym z)
+
+pub down-length : (d : List ℕ) (g : ℕ) (p : List ℕ) (i : ℕ) → i + g ≤ length d → Down d g p i → length p ≡ length d
+down-length d g p i l e = ap length e ∙ paint-length i d (drop g d ++ replicate g 0) (gap-length d g (omega arith))
+
+pub down-turn : (d p : List ℕ) (g i : ℕ) → Down d g p i → i + g < length d
+    → Down d g (set p i (getD p (i + g) 0)) (i + 1)
+down-turn d p g i e l =
+    let n : length p ≡ length d = down-length d g p i (omega arith) e in
+    gap-turn d p g i (getD p (i + g) 0) (omega arith) e (omega arith) refl .1
+
+pub down-end : (d : List ℕ) (g i : ℕ) → i + g ≡ length d
+    → take i (drop g d ++ replicate g 0) ++ drop i d ≡ drop g d ++ drop (length d - g) d
+down-end d g i e =
+    let n : length (drop g d) ≡ i = length-drop g d ∙ omega arith in
+    let m : i ≡ length d - g = omega arith in
+    ap₂ (λ (x : List ℕ) (k : ℕ). x ++ drop k d) (take-at (drop g d) (replicate g 0) i n) m

@@ -8,9 +8,9 @@ use native.Mathlib.Omega.{arith}
 use lib.ListN.{length, length-append, length-replicate}
 use Rattle.store.specs.Decode.{decode}
 use Rattle.store.specs.Held.{Held}
-use Rattle.store.specs.Inner.{Bytes}
+use Rattle.store.specs.Inner.{Bytes, Good}
 use Rattle.store.specs.Layout.{records, texts, padded, encodeIndex, encodeText, Encodes}
-use Rattle.store.proofs.DecodeLaws.{Laid, laid, Good, index-kept, text-kept, decode-encoded}
+use Rattle.store.proofs.DecodeLaws.{Laid, laid, index-kept, text-kept, decode-encoded}
 
 -- what fills a buffer up fits in it
 padded-fits : (n : ℕ) (s b : List ℕ) → b ≡ padded n s → length b ≡ n → length s ≤ n

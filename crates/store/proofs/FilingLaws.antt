@@ -310,14 +310,14 @@ module _ (i t : List ℕ) (h : Held) (hs : List Held) (end used : ℕ) (c : Coun
   abbrev ks : List Held
   ks = strike (h .key) hs
 
-  new-size : sizes 0 (file h hs) ≡ end + size
+  pub new-size : sizes 0 (file h hs) ≡ end + size
   unfolding file
   new-size = sizes-append ks (h ∷ []) 0
       ∙ ap₂ (λ (x y : ℕ). x + y) (sym (c .index))
       (sizes-cons (0 + length (texts ks)) h []
       ∙ ap₂ (λ (x y : ℕ). x + y) (sym (z _ (length (h .line)))) (sizes-none _) ∙ add-zero size)
 
-  new-text : length (texts (file h hs)) ≡ used + length (h .line)
+  pub new-text : length (texts (file h hs)) ≡ used + length (h .line)
   unfolding file
   new-text = texts-sum ks (h ∷ [])
       ∙ ap₂ (λ (x y : ℕ). x + y) (sym (c .text))

@@ -230,6 +230,9 @@ module _ (i : List ℕ) where
       go (one s) = s
       go (none e) = absurd (n (ap (λ (h : Head). h .size) e))
 
+  pub head-least : (headAt i .size ≡ 0 → ⊥) → 16 ≤ headAt i .size
+  head-least n = omega (arith, ap (λ (h : Head). h .size) (stands n .is))
+
   pub head-within : headAt i .size ≤ length i
   head-within = go standing
     where

@@ -275,7 +275,7 @@ module _ (i : List ℕ) (k : Key) (at : ℕ) (w : Seeking i k at) (head : Head) 
       go false q true r = seek-same r
       go false q false r = absurd (true-false (sym (another-is k head false false q r) ∙ p))
 
--- `in_use`
+-- where the records and the lines end, from `at` on
 pub record Uses (i : List ℕ) (at used : ℕ) (hs : List Held) : Type 0 where
   pub rest : Rest i at
   pub offset : used ≡ rest .off

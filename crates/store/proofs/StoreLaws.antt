@@ -10,14 +10,14 @@ use Rattle.store.specs.Book.{Turn, bookClear, bookInsert, bookAttempt, A
 use Rattle.store.specs.Book.{clear, insert, save, Reply, inserted, saved, Run, bookTurn, runBook}
 use Rattle.store.specs.Decode.{decode}
 use Rattle.store.specs.Guarantee.{fresh, stored, booked}
-use Rattle.store.specs.Inner.{Builds}
+use Rattle.store.specs.Inner.{Good, Builds}
 use Rattle.store.specs.Held.{Key, Held, find, bufferMax}
 use Rattle.store.specs.Layout.{records, texts, padded, encodeIndex, encodeText}
 use Rattle.store.specs.Store.{Done, onLines, storeClear, storeInsert, storeAttempt, answered, storeCall, Runs}
 use Rattle.store.specs.Store.{andRuns, runStore, lookUp, lookedAt, lookedIn}
 use Rattle.store.proofs.BookLaws.{keeps-none, keeps-turn, keeps-run}
 use Rattle.store.proofs.BoolLaws.{and-both}
-use Rattle.store.proofs.DecodeLaws.{Good, length-index, length-text, decode-encoded}
+use Rattle.store.proofs.DecodeLaws.{length-index, length-text, decode-encoded}
 use Rattle.store.specs.declared.calls.Answer.the-variants as A
 
 module _ (n m : ℕ) where

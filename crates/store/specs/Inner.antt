@@ -13,7 +13,6 @@ use Rattle.store.specs.declared.records.Head.{Head}
 use Rattle.store.specs.declared.records.Spot.{Spot}
 use Rattle.store.specs.declared.records.Extent.{Extent}
 use Rattle.store.specs.declared.soundness.Survey.{Survey}
-use Rattle.store.specs.declared.lines.Reach.{Reach}
 use Rattle.line.specs.declared.mapping.Mapping.{Mapping}
 use Rattle.store.specs.declared.calls.Answer.{Answer}
 use Rattle.store.specs.declared.calls.Answer.the-variants as A
@@ -25,7 +24,7 @@ use Rattle.store.specs.Layout.{encodeText}
 use Rattle.store.specs.Decode.{headAt, decode}
 use Rattle.store.specs.Lines.{cr}
 use Rattle.map.specs.Search.{lf}
-use Rattle.store.specs.Book.{noRoom, Turn, turn, Reached, after, stopped, reach, files, Saving}
+use Rattle.store.specs.Book.{noRoom, Turn, turn, files, Saving}
 use Rattle.store.specs.Store.{Done, onLines}
 use Rattle.store.specs.Saves.{refusedSave, acceptedSave}
 
@@ -109,6 +108,13 @@ pub record Lies (off : ℕ) (hs : List Held) (s : List ℕ) : Type 0 where
   pub shapes : Shapes hs
   pub below : off + length (texts hs) ≤ bufferMax
 
+-- lines that two buffers of n and m bytes can hold
+pub record Good (n m : ℕ) (hs : List Held) : Type 0 where
+  pub shapes : Shapes hs
+  pub once : distinct hs ≡ true
+  pub index : sizes 0 hs ≤ n
+  pub text : length (texts hs) ≤ m
+
 -- `find`: the place of the record of that key, or of the records' end, and what stands there
 pub record Finds (i : List ℕ) (k : Key) (r : Spot) : Type 0 where
   pub within : r .at ≤ length i
@@ -166,7 +172,7 @@ Strikes i t at head i′ t′ =
 abbrev pub room : ℕ → ℕ → Held → List Held → Bool
 room n m h hs = not (noRoom n m h hs)
 
--- `file_at`, `file_line`: r says whether there was room for the line
+-- `file_line`: r says whether there was room for the line
 abbrev pub Files : List ℕ → List ℕ → Held → Bool → List ℕ → List ℕ → Type 0
 Files i t h r i′ t′ =
     (hs : List Held) → decode i t ≡ some hs
@@ -208,19 +214,3 @@ withoutCr (x ∷ y ∷ s) = x ∷ withoutCr (y ∷ s)
 -- the first line of a text that is not empty
 unfoldable pub firstLine : List ℕ → List ℕ
 firstLine s = pick (ltb (firstOf lf s) (length s)) (withoutCr (take (firstOf lf s) s)) s
-
--- `reach_line`: what one line of an insert does
-abbrev pub reachOf : Reached → Reach
-reachOf (after hs) = record { on = true; answer = A.Done }
-reachOf (stopped e) = record { on = false; answer = e }
-
-abbrev pub heldAfter : List Held → Reached → List Held
-heldAfter hs (after ks) = ks
-heldAfter hs (stopped e) = hs
-
-abbrev pub Reaches : List ℕ → List ℕ → List ℕ → Reach → List ℕ → List ℕ → Type 0
-Reaches i t l r i′ t′ =
-    (hs : List Held) → decode i t ≡ some hs
-    → (r ≡ reachOf (reach (length i) (length t) hs l))
-    × (i′ ≡ encodeIndex (length i) (heldAfter hs (reach (length i) (length t) hs l)))
-    × (t′ ≡ encodeText (length t) (heldAfter hs (reach (length i) (length t) hs l)))

@@ -1,5 +1,5 @@
--- The definitions of the store layer, in reading order. Decode computes what Layout says; Inner and Keys serve
--- private functions only.
+-- The definitions of the store layer, in reading order. Decode computes what Layout says; Inner, Keys and Slots
+-- serve private functions only.
 pub mod Held
 pub mod Layout
 pub mod Decode
@@ -13,3 +13,4 @@ pub mod Guarantee
 -- what private functions and proofs need
 pub mod Inner
 pub mod Keys
+pub mod Slots

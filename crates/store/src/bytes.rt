@@ -77,6 +77,23 @@ pub fn close_gap(part: &mut [u8], gap: usize)
     close_end(&mut part[from..], gap);
 }
 
+// Moves all bytes but the first `gap` down to the front; the last `gap` stay as they are.
+pub fn move_down(part: &mut [u8], gap: usize)
+    requires { ⌜ gap ≤ length (now part) ⌝ }
+    ensures { λ r. ⌜
+        now (part .exit)
+        ≡ drop gap (now (part .entry)) ++ drop (length (now (part .entry)) - gap) (now (part .entry)) ⌝ }
+{
+    if gap == 0 {
+        return;
+    }
+    let mut i = close_front(part, gap);
+    while gap < part.len() - i {
+        part[i] = part[i + gap];
+        i += 1;
+    }
+}
+
 // A number of bytes at the front that are 0, found eight at a time.
 fn zero_front(s: &[u8]) -> usize
     ensures { λ r. ⌜

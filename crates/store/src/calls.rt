@@ -1,13 +1,11 @@
 // The public calls of a store. Each takes any buffers and arguments; specs/Answers gives document 01's numbers.
+use crate::batch::insert_batch;
 use crate::bytes::zero_all;
-use crate::lines::line_length;
-use crate::lines::reach_line;
 use crate::records::find;
 use crate::saving::file_built;
 use crate::saving::refused_save;
 use crate::saving::saved_as;
 use crate::saving::unsaved_name;
-use crate::search::find_far;
 use crate::soundness::BUFFER_MAX;
 use crate::soundness::LINE_MAX;
 use crate::soundness::sound;
@@ -129,15 +127,13 @@ pub fn insert(index: &mut [u8], text: &mut [u8], lines: &[u8]) -> Inserted
     let mut at = 0;
     let mut count = 0;
     while at < lines.len() {
-        let end = find_far(&lines[at..], b'\n');
-        let len = line_length(&lines[at..], end);
-        let step = reach_line(index, text, &lines[at..at + len]);
-        if !step.on {
-            let answer = step.answer;
+        let part = insert_batch(index, text, lines, at);
+        count += part.count;
+        if !part.on {
+            let answer = part.answer;
             return Inserted { answer, count };
         }
-        count += 1;
-        at += end + 1;
+        at = part.at;
     }
     Inserted {
         answer: Answer::Done,

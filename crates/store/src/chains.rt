@@ -9,7 +9,7 @@ ghost use Rattle.store.specs.Keys.{keyAt, slots, bucket, Linked, Kin, Ch
 // The most keys that are compared at once: more than an index of 65535 bytes has records.
 pub const SLOTS: usize = 4096;
 
-// The most steps in a chain.
+// The most steps in a chain where an order can be had instead.
 const CHAIN_MAX: usize = 16;
 
 // Whether a key stands twice, as far as a check shows it.
@@ -47,21 +47,23 @@ pub fn same_at(highs: &[u64; SLOTS], lows: &[u64; SLOTS], a: usize, b: usize) ->
 }
 
 // Seeks the key of number k in the chain that starts before `from`: one more than the number that has it, 0 where none
-// has it, and k + 1 where the chain is too long.
+// has it, and k + 1 where the chain has more than `most` steps.
 fn seek(
     highs: &[u64; SLOTS],
     lows: &[u64; SLOTS],
     next: &[u16; SLOTS],
     from: usize,
     k: usize,
+    most: usize,
 ) -> usize
     requires { ⌜ (k < slots) × (from ≤ k) ⌝ }
     requires { ⌜ Linked (keyAt (now highs) (now lows)) (now next) k ⌝ }
     requires { ⌜ Kin (keyAt (now highs) (now lows)) k from ⌝ }
     ensures { λ r. ⌜ Seeks (keyAt (now (highs .entry)) (now (lows .entry))) k from r ⌝ }
+    ensures { λ r. ⌜ (from ≤ most → r ≤ k) ⌝ }
 {
     let mut c = from;
-    let mut left: usize = CHAIN_MAX;
+    let mut left = most;
     while 0 < c {
         if left == 0 {
             return k + 1;
@@ -82,16 +84,18 @@ pub fn link(
     heads: &mut [u16; SLOTS],
     next: &mut [u16; SLOTS],
     k: usize,
+    most: usize,
 ) -> usize
     requires { ⌜ k < slots ⌝ }
     requires { ⌜ Chained (keyAt (now highs) (now lows)) (now heads) (now next) k ⌝ }
     ensures { λ r. ⌜ Sought (keyAt (now (highs .entry)) (now (lows .entry))) k r ⌝ }
     ensures { λ r. ⌜
         Chained (keyAt (now (highs .entry)) (now (lows .entry))) (now (heads .exit)) (now (next .exit)) (k + 1) ⌝ }
+    ensures { λ r. ⌜ (slots ≤ most → r ≤ k) ⌝ }
 {
     let h = bucket_of(highs[k], lows[k]);
     let head = heads[h];
-    let r = seek(highs, lows, next, number(head), k);
+    let r = seek(highs, lows, next, number(head), k, most);
     next[k] = head;
     heads[h] = ((k + 1) % 65536) as u16;
     r
@@ -106,7 +110,7 @@ pub fn chain_all(highs: &[u64; SLOTS], lows: &[u64; SLOTS], n: usize) -> Verdict
     let mut next = [0u16; SLOTS];
     let mut k = 0;
     while k < n {
-        let r = link(highs, lows, &mut heads, &mut next, k);
+        let r = link(highs, lows, &mut heads, &mut next, k, CHAIN_MAX);
         if k < r {
             return Verdict::Unsure;
         }

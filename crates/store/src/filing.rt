@@ -4,7 +4,6 @@ use crate::records::Extent;
 use crate::records::Head;
 use crate::records::RECORD_SIZE;
 use crate::records::find;
-use crate::records::in_use;
 use crate::records::put_offset;
 use crate::records::put_record;
 use crate::records::record_size;
@@ -68,7 +67,7 @@ fn put_line(index: &mut [u8], text: &mut [u8], at: usize, off: usize, key: Uuid,
 
 // Files a line under a key, if there is room: the one held under it is taken out, and the new one goes last. `all` says
 // where the records and the lines end.
-pub fn file_at(index: &mut [u8], text: &mut [u8], all: Extent, key: Uuid, line: &[u8]) -> bool
+pub fn file_line(index: &mut [u8], text: &mut [u8], all: Extent, key: Uuid, line: &[u8]) -> bool
     requires { ⌜ Measures (now index) all ⌝ }
     requires { ⌜ known (decode (now index) (now text)) ≡ true ⌝ }
     requires { ⌜ (1 ≤ length (now line)) × (length (now line) ≤ lineMax) ⌝ }
@@ -91,16 +90,4 @@ pub fn file_at(index: &mut [u8], text: &mut [u8], all: Extent, key: Uuid, line: 
     make_room(index, text, at, head);
     put_line(index, text, end, used, key, line);
     true
-}
-
-// Files a line under a key, as `file_at` does.
-pub fn file_line(index: &mut [u8], text: &mut [u8], key: Uuid, line: &[u8]) -> bool
-    requires { ⌜ known (decode (now index) (now text)) ≡ true ⌝ }
-    requires { ⌜ (1 ≤ length (now line)) × (length (now line) ≤ lineMax) ⌝ }
-    ensures { λ r. ⌜
-        Files (now (index .entry)) (now (text .entry)) (under key (now (line .entry))) r
-        (now (index .exit)) (now (text .exit)) ⌝ }
-{
-    let all = in_use(index);
-    file_at(index, text, all, key, line)
 }

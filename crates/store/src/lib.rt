@@ -1,4 +1,5 @@
 // The store: two lent buffers, index and text, that encode a list of lines (document 01, 'Records' and 'Store').
+mod batch;
 mod bytes;
 pub mod calls;
 mod chains;
@@ -8,4 +9,6 @@ mod order;
 mod records;
 mod saving;
 mod search;
+mod settle;
+mod slots;
 mod soundness;

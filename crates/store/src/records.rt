@@ -179,23 +179,3 @@ pub fn find(index: &[u8], key: Uuid) -> Spot
     let head = read_head(&index[at..]);
     Spot { at: at, head: head }
 }
-
-// How much of the index and the text is in use.
-pub fn in_use(index: &[u8]) -> Extent
-    ensures { λ r. ⌜ Measures (now (index .entry)) r ⌝ }
-{
-    let mut at = 0;
-    let mut used = 0;
-    loop {
-        let head = read_head(&index[at..]);
-        let size = head.size;
-        if size == 0 {
-            return Extent {
-                end: at,
-                used: used,
-            };
-        }
-        at += size;
-        used = head.off + head.len;
-    }
-}

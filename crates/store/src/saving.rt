@@ -2,7 +2,7 @@
 use crate::calls::Answer;
 use crate::calls::SaveAnswer;
 use crate::calls::Saved;
-use crate::filing::file_at;
+use crate::filing::file_line;
 use crate::search::find_text;
 use crate::soundness::check_store;
 use line::mapping::Mapping;
@@ -28,7 +28,7 @@ pub fn file_built(index: &mut [u8], text: &mut [u8], uuid: Uuid, line: &[u8]) ->
         return Answer::Unsound;
     }
     let all = shown.all;
-    if !file_at(index, text, all, uuid, line) {
+    if !file_line(index, text, all, uuid, line) {
         return Answer::NoRoom;
     }
     Answer::Done

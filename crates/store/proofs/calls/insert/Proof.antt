@@ -1,18 +1,13 @@
 -- The loop's invariant, `Inserting`: the buffers hold the lines of the text before `at`, and the rest has the whole's
 -- answer.
-use mathlib.Core.Path.{_≡_, sym, ap, _∙_}
-use Prim.Native.Nat.{_+_, _-_, _≤_}
+use mathlib.Core.Path.{_≡_, sym, _∙_}
+use Prim.Native.Nat.{_+_, _-_, _<_}
 use native.Mathlib.Omega.{arith}
-use lib.ListN.{length, take, drop}
+use lib.ListN.{length}
 use borrow.Author.Needs.{needs}
 use borrow.Author.Tests.{not-true, not-false}
-use Rattle.text.specs.Bytes.{firstOf}
-use Rattle.text.proofs.ListLaws.{part-to-end}
-use Rattle.text.proofs.LentLaws.{tail-length}
-use Rattle.text.proofs.BytesLaws.{first-le}
-use Rattle.map.specs.Search.{lf}
 use Rattle.store.proofs.InsertLaws.{insert-unsound, insert-not-utf8, Inserting, insert-first, still-sound}
-use Rattle.store.proofs.InsertLaws.{insert-end, insert-stop, insert-turn, cut-part}
+use Rattle.store.proofs.InsertLaws.{insert-end, insert-stop, insert-turn}
 use Rattle.store.proofs.calls.insert.Statement.{statement}
 use Rattle.store.proofs.calls.insert.Tie as tie
 
@@ -69,168 +64,61 @@ loop-holds c =
     insert-first (a .index .now) (a .text .now) (a .lines .now) (λ k. omega (arith, known .given k))
     (sym (checked .ensures) ∙ not-false _ (if1 .left))
 
-sub-find-far : tie.Need-sub-find-far Inv-loop μ-loop
-sub-find-far c = search needs
-
-part-find-far-start : tie.Need-part-find-far-start Inv-loop μ-loop
-part-find-far-start c = search needs
-
-part-find-far-end : tie.Need-part-find-far-end Inv-loop μ-loop
-part-find-far-end c = search needs
-
-find-far-requires : tie.Need-find-far-requires Inv-loop μ-loop
-find-far-requires c κs = search needs
-
-sub-line-length : tie.Need-sub-line-length Inv-loop μ-loop
-sub-line-length c = search needs
-
-part-line-length-start : tie.Need-part-line-length-start Inv-loop μ-loop
-part-line-length-start c = search needs
-
-part-line-length-end : tie.Need-part-line-length-end Inv-loop μ-loop
-part-line-length-end c = search needs
-
-line-length-requires : tie.Need-line-length-requires Inv-loop μ-loop
-line-length-requires c κs =
-    c .before .find-far .ensures
-
-add-reach-line : tie.Need-add-reach-line Inv-loop μ-loop
-add-reach-line c =
-    let back = c .before .before .before .before .before .before .before .before .before .before in
-    let lines = back .before .before .before .before .before .before .before .args .lines .now in
-    omega (
-      arith,
-      tail-length (c .before .before .before .before .before .before .before .loop .at) lines,
-      c .before .before .line-length .ensures .0,
+insert-batch-requires : tie.Need-insert-batch-requires Inv-loop μ-loop
+insert-batch-requires c κs =
+    let a = c .before .before .before .before .before .before .before .before .before .before .before .before .before .args in
+    let loop = c .before .before .before .loop in (
+      still-sound (a .index .now) (a .text .now) (a .lines .now) (loop .index) (loop .text) (loop .at) (loop .count)
+          (loop .inv),
+      loop .inv .within,
     )
 
-sub-reach-line : tie.Need-sub-reach-line Inv-loop μ-loop
-sub-reach-line c =
-    let back = c .before .before .before .before .before .before .before .before .before .before in
-    let lines = back .before .before .before .before .before .before .before .args .lines .now in
-    omega (
-      arith,
-      tail-length (c .before .before .before .before .before .before .before .loop .at) lines,
-      c .before .before .line-length .ensures .0,
-    )
-
-part-reach-line-start : tie.Need-part-reach-line-start Inv-loop μ-loop
-part-reach-line-start c = search needs
-
-part-reach-line-end : tie.Need-part-reach-line-end Inv-loop μ-loop
-part-reach-line-end c =
-    let back = c .before .before .before .before .before .before .before .before .before .before in
-    let lines = back .before .before .before .before .before .before .before .args .lines .now in
-    omega (
-      arith,
-      tail-length (c .before .before .before .before .before .before .before .loop .at) lines,
-      c .before .before .line-length .ensures .0,
-    )
-
-reach-line-requires : tie.Need-reach-line-requires Inv-loop μ-loop
-reach-line-requires c κs =
-    let back = c .before .before .before .before .before .before .before .before .before .before in
-    let a = back .before .before .before .before .before .before .before .before .args in
-    let loop = c .before .before .before .before .before .before .before .before .loop in
-    still-sound (a .index .now) (a .text .now) (a .lines .now) (loop .index) (loop .text) (loop .at) (loop .count)
-    (loop .inv)
+add-count : tie.Need-add-count Inv-loop μ-loop
+add-count c =
+    let a = c .before .before .before .before .before .before .before .before .before .before .before .before .before .before .before .before .before .before .before .args in
+    let loop = c .before .before .before .before .before .before .before .before .before .loop in
+    let part = c .before .before .before .before .before .insert-batch in
+    omega (arith, loop .inv .counted, part .ensures .1 .counted, part .ensures .1 .within, c .before .before .before .before .before .before .before .before .before .before .before .before .before .before .before .before .before .before .before .good .1 .1 .0)
 
 same-length-5 : tie.Need-same-length-5 Inv-loop μ-loop
 same-length-5 c =
-    let back = c .before .before .before .before .before .before .before .before .before .before in
-    let loop = back .before .before .before .before .before .loop in
-    let reached = c .before .before .before .before .before .before .reach-line in
-    let e : length (reached .last .0) ≡ length (loop .index) = search needs in
+    let loop = c .before .before .before .before .before .before .before .before .before .before .before .loop in
+    let part = c .before .before .before .before .before .before .before .insert-batch in
+    let e : length (part .last .0) ≡ length (loop .index) = search needs in
     e ∙ loop .inv .index
 
 same-length-6 : tie.Need-same-length-6 Inv-loop μ-loop
 same-length-6 c =
-    let back = c .before .before .before .before .before .before .before .before .before .before in
-    let loop = back .before .before .before .before .before .loop in
-    let reached = c .before .before .before .before .before .before .reach-line in
-    let e : length (reached .last .1 .0) ≡ length (loop .text) = search needs in
+    let loop = c .before .before .before .before .before .before .before .before .before .before .before .loop in
+    let part = c .before .before .before .before .before .before .before .insert-batch in
+    let e : length (part .last .1 .0) ≡ length (loop .text) = search needs in
     e ∙ loop .inv .text
 
 returns-3 : tie.Need-returns-3 Inv-loop μ-loop
 returns-3 c =
-    let back = c .before .before .before .before .before .before .before .before .before .before in
-    let further = back .before .before .before .before .before .before .before .before .before .before in
-    let a = further .before .before .before .before .before .args in
-    let utf8 = back .before .before .before .before .before .before .before .is-utf8 in
-    let if2 = back .before .before .before .before .before .before .if2 in
-    let loop = back .before .before .before .before .before .loop in
-    let found = back .before .before .find-far in
-    let cut = back .line-length in
-    let reached = c .before .before .before .before .before .before .reach-line in
+    let a = c .before .before .before .before .before .before .before .before .before .before .before .before .before .before .before .before .before .before .before .before .before .args in
+    let loop = c .before .before .before .before .before .before .before .before .before .before .before .loop in
+    let part = c .before .before .before .before .before .before .before .insert-batch in
     insert-stop (a .index .now) (a .text .now) (a .lines .now) (loop .index) (loop .text) (loop .at) (loop .count)
-    (loop .inv) (search needs) (found .result)
-    (found .ensures ∙ ap (firstOf lf) (part-to-end (a .lines .now) (loop .at))) _
-    (cut-part (a .lines .now) (loop .at) (cut .result) (cut .ensures .1)) (reached .result) _ _ (reached .ensures)
-    (sym (utf8 .ensures) ∙ not-false _ (if2 .left)) (not-true _ (c .if3 .taken))
-
-add-count : tie.Need-add-count Inv-loop μ-loop
-add-count c =
-    let back = c .before .before .before .before .before .before .before .before .before .before in
-    let further = back .before .before .before .before .before .before .before .before .before .before in
-    let lines = further .before .before .before .before .before .args .lines .now in
-    let loop = back .before .before .before .before .before .loop in
-    omega (arith, tail-length (loop .at) lines, loop .inv .counted)
-
-add-at : tie.Need-add-at Inv-loop μ-loop
-add-at c =
-    let back = c .before .before .before .before .before .before .before .before .before .before in
-    let further = back .before .before .before .before .before .before .before .before .before .before in
-    let lines = further .before .before .before .before .before .args .lines .now in
-    let at = back .before .before .before .before .before .loop .at in
-    let end = back .before .before .find-far in
-    omega (arith, tail-length at lines, end .ensures, first-le lf (take (length lines - at) (drop at lines)))
-
-add-at-2 : tie.Need-add-at-2 Inv-loop μ-loop
-add-at-2 c =
-    let back = c .before .before .before .before .before .before .before .before .before .before in
-    let further = back .before .before .before .before .before .before .before .before .before .before in
-    let lines = further .before .before .before .before .before .args .lines .now in
-    let at = back .before .before .before .before .before .loop .at in
-    let end = back .before .before .find-far in
-    omega (arith, tail-length at lines, end .ensures, first-le lf (take (length lines - at) (drop at lines)))
+    (loop .inv) (part .result) _ _ (part .ensures .0)
+    (sym (c .before .before .before .before .before .before .before .before .before .before .before .before .before .is-utf8 .ensures) ∙ not-false _ (c .before .before .before .before .before .before .before .before .before .before .before .before .if2 .left)) (not-true _ (c .if3 .taken))
 
 loop-less : tie.Need-loop-less Inv-loop μ-loop
 loop-less c =
-    let back = c .before .before .before .before .before .before .before .before .before .before in
-    let further = back .before .before .before .before .before .before .before .before .before .before in
-    let a = further .before .before .before .before .before .args in
-    let loop = back .before .before .before .before .before .loop in
-    let found = back .before .before .find-far in
-    let within : found .result ≤ length (a .lines .now) - loop .at
-    = omega (
-      arith,
-      found .ensures,
-      first-le lf (take (length (a .lines .now) - loop .at) (drop (loop .at) (a .lines .now))),
-      tail-length (loop .at) (a .lines .now),
-    ) in
-    omega arith
+    let a = c .before .before .before .before .before .before .before .before .before .before .before .before .before .before .before .before .before .before .before .before .before .args in
+    let loop = c .before .before .before .before .before .before .before .before .before .before .before .loop in
+    let part = c .before .before .before .before .before .before .before .insert-batch in
+    let on : loop .at < part .result .at
+    = part .ensures .1 .moved (omega arith) (c .before .before .before .before .before .before .before .before .before .before .loop-test .taken) (not-false _ (c .if3 .left)) in
+    omega (arith, on, part .ensures .1 .within, loop .inv .within)
 
 loop-again : tie.Need-loop-again Inv-loop μ-loop
 loop-again c =
-    let back = c .before .before .before .before .before .before .before .before .before .before in
-    let further = back .before .before .before .before .before .before .before .before .before .before in
-    let a = further .before .before .before .before .before .args in
-    let loop = back .before .before .before .before .before .loop in
-    let found = back .before .before .find-far in
-    let cut = back .line-length in
-    let reached = c .before .before .before .before .before .before .reach-line in
-    let within : found .result ≤ length (a .lines .now) - loop .at
-    = omega (
-      arith,
-      found .ensures,
-      first-le lf (take (length (a .lines .now) - loop .at) (drop (loop .at) (a .lines .now))),
-      tail-length (loop .at) (a .lines .now),
-    ) in
+    let a = c .before .before .before .before .before .before .before .before .before .before .before .before .before .before .before .before .before .before .before .before .before .args in
+    let loop = c .before .before .before .before .before .before .before .before .before .before .before .loop in
+    let part = c .before .before .before .before .before .before .before .insert-batch in
     insert-turn (a .index .now) (a .text .now) (a .lines .now) (loop .index) (loop .text) (loop .at) (loop .count)
-    (loop .inv) (search needs) (found .result)
-    (found .ensures ∙ ap (firstOf lf) (part-to-end (a .lines .now) (loop .at))) _
-    (cut-part (a .lines .now) (loop .at) (cut .result) (cut .ensures .1)) (reached .result) _ _ (reached .ensures)
-    (not-false _ (c .if3 .left)) (omega arith)
+    (loop .inv) (part .result) _ _ (part .ensures .0) (not-false _ (c .if3 .left)) (part .ensures .1)
 
 same-length-7 : tie.Need-same-length-7 Inv-loop μ-loop
 same-length-7 c = c .before .loop .inv .index
@@ -264,25 +152,11 @@ insert-spec =
     same-length-4
     returns-2
     loop-holds
-    sub-find-far
-    part-find-far-start
-    part-find-far-end
-    find-far-requires
-    sub-line-length
-    part-line-length-start
-    part-line-length-end
-    line-length-requires
-    add-reach-line
-    sub-reach-line
-    part-reach-line-start
-    part-reach-line-end
-    reach-line-requires
+    insert-batch-requires
+    add-count
     same-length-5
     same-length-6
     returns-3
-    add-count
-    add-at
-    add-at-2
     loop-less
     loop-again
     same-length-7

@@ -41,7 +41,7 @@ loop-again c = let args = c .before .before .before .before .before .before .bef
     let loop = c .before .before .before .before .before .before .loop in
     let link = c .before .before .link in (
       omega arith,
-      link .ensures .1,
+      link .ensures .1 .0,
       apart-turn (keyAt (args .highs .now) (args .lows .now)) (loop .k) (link .result)
           (loop .inv .2) (link .ensures .0) (omega arith),
     )

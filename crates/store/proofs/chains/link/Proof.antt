@@ -62,12 +62,18 @@ returns : tie.Need-returns
 returns c = let args = c .before .before .before .before .before .before .before .args in
     let pre = c .before .before .before .before .before .before .before .pre in
     let bucket-of = c .before .before .before .before .bucket-of in
-    let number = c .before .number in (
+    let number = c .before .number in
+    let within = here (keyAt (args .highs .now) (args .lows .now)) (args .heads .now) (args .next .now) (args .k)
+    (bucket-of .result) (number .result) (pre .1) (bucket-of .ensures .0) (bucket-of .ensures .1)
+    (number .ensures .0) (pre .0) .within in (
       sought (keyAt (args .highs .now) (args .lows .now)) (args .heads .now) (args .next .now) (args .k)
           (bucket-of .result) (number .result) (pre .1) (bucket-of .ensures .0) (bucket-of .ensures .1)
-          (number .ensures .0) (pre .0) (c .seek .result) (c .seek .ensures),
-      chained-turn (keyAt (args .highs .now) (args .lows .now)) (args .heads .now) (args .next .now) (args .k)
-          (bucket-of .result) _ (pre .1) (bucket-of .ensures .0) (bucket-of .ensures .1) refl (pre .0) _ (omega arith),
+          (number .ensures .0) (pre .0) (c .seek .result) (c .seek .ensures .0),
+      (
+        chained-turn (keyAt (args .highs .now) (args .lows .now)) (args .heads .now) (args .next .now) (args .k)
+            (bucket-of .result) _ (pre .1) (bucket-of .ensures .0) (bucket-of .ensures .1) refl (pre .0) _ (omega arith),
+        λ l. c .seek .ensures .1 (omega (arith, within)),
+      ),
     )
 
 pub link-spec : {M : Type 1} → statement M

@@ -2,6 +2,7 @@
 use mathlib.Core.Path.{sym, _∙_}
 use native.Mathlib.Omega.{arith}
 use borrow.Author.Needs.{needs}
+use Prim.Native.Nat.{_≤_}
 use Rattle.store.specs.Keys.{keyAt}
 use Rattle.store.proofs.ChainLaws.{Seeking, seek-turn}
 use Rattle.store.proofs.HeldLaws.{same-eq}
@@ -9,19 +10,22 @@ use Rattle.store.proofs.chains.seek.Statement.{statement}
 use Rattle.store.proofs.chains.seek.Tie as tie
 
 abbrev Inv-loop : tie.InvT-loop
-Inv-loop highs lows next from k c₀ left₀ c left = Seeking (keyAt highs lows) k from c
+Inv-loop highs lows next from k most c₀ left₀ c left = Seeking (keyAt highs lows) k from c × (from ≤ most → c ≤ left)
 
 abbrev μ-loop : tie.MeasureT-loop
-μ-loop highs lows next from k c₀ left₀ c left = c
+μ-loop highs lows next from k most c₀ left₀ c left = c
 
 loop-holds : tie.Need-loop-holds Inv-loop μ-loop
-loop-holds c = record { passed = λ j l m e. omega arith; kin = c .pre .1 .1; within = c .pre .0 .1 }
+loop-holds c = (record { passed = λ j l m e. omega arith; kin = c .pre .1 .1; within = c .pre .0 .1 }, λ l. l)
 
 add-result : tie.Need-add-result Inv-loop μ-loop
 add-result c = search needs
 
 returns : tie.Need-returns Inv-loop μ-loop
-returns c = record { clear = λ l. absurd (omega arith); hit = λ p l. absurd (omega arith) }
+returns c = (
+  record { clear = λ l. absurd (omega arith); hit = λ p l. absurd (omega arith) },
+  λ l. let loop = c .before .before .loop in let left : loop .c ≤ loop .left = loop .inv .1 l in omega arith,
+)
 
 sub-same-at : tie.Need-sub-same-at Inv-loop μ-loop
 sub-same-at c = search needs
@@ -30,11 +34,13 @@ same-at-requires : tie.Need-same-at-requires Inv-loop μ-loop
 same-at-requires c κs = search needs
 
 returns-2 : tie.Need-returns-2 Inv-loop μ-loop
-returns-2 c = let loop = c .before .before .before .before .loop in
-    record {
-      clear = λ l. loop .inv .passed;
-      hit = λ p l. same-eq _ _ (sym (c .before .same-at .ensures) ∙ c .if2 .taken);
-    }
+returns-2 c = let loop = c .before .before .before .before .loop in (
+  record {
+    clear = λ l. loop .inv .0 .passed;
+    hit = λ p l. same-eq _ _ (sym (c .before .same-at .ensures) ∙ c .if2 .taken);
+  },
+  λ l. loop .inv .0 .within,
+)
 
 sub-number : tie.Need-sub-number Inv-loop μ-loop
 sub-number c = search needs
@@ -58,7 +64,7 @@ loop-less c = let args = c .before .before .before .before .before .before .befo
     let same-at = c .before .before .before .same-at in
     let if2 = c .before .before .if2 in
     seek-turn (keyAt (args .highs .now) (args .lows .now)) (args .next .now) (args .k) (args .from) (loop .c)
-    (c .number .result) (pre .1 .0) (loop .inv) (omega arith) (sym (same-at .ensures) ∙ if2 .left)
+    (c .number .result) (pre .1 .0) (loop .inv .0) (omega arith) (sym (same-at .ensures) ∙ if2 .left)
     (c .number .ensures .0) .1
 
 loop-again : tie.Need-loop-again Inv-loop μ-loop
@@ -67,13 +73,16 @@ loop-again c = let args = c .before .before .before .before .before .before .bef
     let loop = c .before .before .before .before .before .before .loop in
     let same-at = c .before .before .before .same-at in
     let if2 = c .before .before .if2 in
-    seek-turn (keyAt (args .highs .now) (args .lows .now)) (args .next .now) (args .k) (args .from) (loop .c)
-    (c .number .result) (pre .1 .0) (loop .inv) (omega arith) (sym (same-at .ensures) ∙ if2 .left)
-    (c .number .ensures .0) .0
+    let on = seek-turn (keyAt (args .highs .now) (args .lows .now)) (args .next .now) (args .k) (args .from) (loop .c)
+    (c .number .result) (pre .1 .0) (loop .inv .0) (omega arith) (sym (same-at .ensures) ∙ if2 .left)
+    (c .number .ensures .0) in
+    (on .0, λ l. let left : loop .c ≤ loop .left = loop .inv .1 l in omega (arith, on .1))
 
 returns-3 : tie.Need-returns-3 Inv-loop μ-loop
-returns-3 c = let loop = c .before .loop in
-    record { clear = λ l j a b e. loop .inv .passed j (omega arith) b e; hit = λ p l. absurd (omega arith) }
+returns-3 c = let loop = c .before .loop in (
+  record { clear = λ l j a b e. loop .inv .0 .passed j (omega arith) b e; hit = λ p l. absurd (omega arith) },
+  λ l. omega arith,
+)
 
 pub seek-spec : {M : Type 1} → statement M
 seek-spec =

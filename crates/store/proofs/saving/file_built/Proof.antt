@@ -1,4 +1,4 @@
--- 19 where the store is not sound; else `file_at` says whether there was room.
+-- 19 where the store is not sound; else `file_line` says whether there was room.
 use mathlib.Core.Path.{sym, _∙_}
 use borrow.Author.Needs.{needs}
 use borrow.Author.Tests.{not-true, not-false}
@@ -24,8 +24,8 @@ returns c =
     file-unsound (args .index .now) (args .text .now) (under (args .uuid) (args .line .now)) (sym (check-store
     .ensures .is) ∙ not-true _ (if1 .taken))
 
-file-at-requires : tie.Need-file-at-requires
-file-at-requires c κs =
+file-line-requires : tie.Need-file-line-requires
+file-line-requires c κs =
     let pre = c .before .before .before .before .before .before .before .before .before .before .before .pre in
     let check-store = c .before .before .before .before .before .check-store in
     let if1 = c .before .before .before .if1 in (
@@ -50,10 +50,10 @@ returns-2 c =
     let check-store = c .before .before .before .before .before .before .before .before .before .before .before
     .check-store in
     let if1 = c .before .before .before .before .before .before .before .before .before .if1 in
-    let file-at = c .before .before .before .before .before .file-at in
+    let file-line = c .before .before .before .before .before .file-line in
     let if2 = c .if2 in
     file-full (args .index .now) (args .text .now) (under (args .uuid) (args .line .now)) (sym (check-store .ensures
-    .is) ∙ not-false _ (if1 .left)) (file-at .result) _ _ (file-at .ensures) (not-true _ (if2 .taken))
+    .is) ∙ not-false _ (if1 .left)) (file-line .result) _ _ (file-line .ensures) (not-true _ (if2 .taken))
 
 same-length-5 : tie.Need-same-length-5
 same-length-5 c = search needs
@@ -68,10 +68,10 @@ returns-3 c =
     let check-store = c .before .before .before .before .before .before .before .before .before .before .before
     .check-store in
     let if1 = c .before .before .before .before .before .before .before .before .before .if1 in
-    let file-at = c .before .before .before .before .before .file-at in
+    let file-line = c .before .before .before .before .before .file-line in
     let if2 = c .if2 in
     file-done (args .index .now) (args .text .now) (under (args .uuid) (args .line .now)) (sym (check-store .ensures
-    .is) ∙ not-false _ (if1 .left)) (file-at .result) _ _ (file-at .ensures) (not-false _ (if2 .left))
+    .is) ∙ not-false _ (if1 .left)) (file-line .result) _ _ (file-line .ensures) (not-false _ (if2 .left))
 
 pub file-built-spec : {M : Type 1} → statement M
 file-built-spec =
@@ -81,7 +81,7 @@ file-built-spec =
     same-length
     same-length-2
     returns
-    file-at-requires
+    file-line-requires
     same-length-3
     same-length-4
     returns-2

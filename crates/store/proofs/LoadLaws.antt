@@ -1,0 +1,249 @@
+-- The lines of a sound store by number, as `load` writes them down one behind the other.
+-- Assumes nothing.
+use mathlib.Core.Bool.{Bool, true, false}
+use mathlib.Core.List.{List, [], _∷_, _++_, append-assoc, append-nil}
+use mathlib.Core.Option.{some}
+use mathlib.Core.Path.{_≡_, refl, sym, ap, ap₂, _∙_, subst}
+use Prim.Native.Nat.{ℕ, zero, suc, _+_, _-_, _*_, _≤_, _<_}
+use native.Mathlib.Nat.{zero-add}
+use native.Mathlib.Numerals.{add-one}
+use native.Mathlib.Omega.{arith}
+use lib.Dec.{ltb}
+use lib.ListN.{length, getD, set, take, drop}
+use lib.Seq.{getD-set-same, getD-set-other, take-at, drop-at}
+use borrow.Author.Count.{below-more}
+use borrow.Author.Tests.{lt-ltb}
+use Rattle.text.specs.Bytes.{pick}
+use Rattle.store.specs.declared.records.Head.{Head}
+use Rattle.store.specs.declared.slots.Fill.{Fill}
+use Rattle.store.specs.Decode.{headAt, decode}
+use Rattle.store.specs.Held.{Key, Held, distinct, bufferMax}
+use Rattle.store.specs.Inner.{Bytes, Lies, sizeOf, sizes}
+use Rattle.store.specs.Keys.{slots, keyAt, Chained}
+use Rattle.store.specs.Layout.{Shapes, texts}
+use Rattle.store.specs.Slots.{living, Table, more, sourceOf, slotAt, Long, Tabled, Slotted, Loads}
+use Rattle.store.proofs.DecodeLaws.{Laid, laid, good}
+use Rattle.store.proofs.HeldLaws.{texts-append}
+use Rattle.store.proofs.OnceLaws.{Listing, list-first, list-end, list-turn, twice-once}
+use Rattle.store.proofs.RecordLaws.{head-least, size-move}
+use Rattle.store.proofs.RowLaws.{Rest, first, Onward, ended, stands, onward, size-not, next-within}
+use Rattle.store.proofs.RowLaws.{sizes-append, sizes-cons, sizes-none, texts-sum, texts-cons, texts-none, texts-first}
+use Rattle.store.proofs.SlotLaws.{living-same, slot-other, slot-new, more-long}
+
+-- the first n lines are written down, and the rest of the lines lies from `at` on
+pub record Loaded (i : List ℕ) (at : ℕ) (a : Table) (n u : ℕ) (hs : List Held) : Type 0 where
+  pub rest : Rest i at
+  pub front : List Held
+  pub is : hs ≡ front ++ rest .hs
+  pub off : rest .off ≡ length (texts front)
+  pub end : at ≡ sizes 0 front
+  pub used : u ≡ length (texts front)
+  pub inside : (k : ℕ) → k < n → getD (a .starts) k 0 + getD (a .lens) k 0 ≤ length (texts front)
+  pub lives : (t s z : List ℕ) (old : ℕ) → n ≤ old → t ≡ texts hs ++ z → living (slotAt t s a old) n ≡ front
+  pub ahead : (t s z : List ℕ) (old : ℕ) → n ≤ old → t ≡ texts hs ++ z → (k : ℕ) → k < n
+      → length (texts (living (slotAt t s a old) k)) ≤ getD (a .starts) k 0
+
+pub record Loading (i : List ℕ) (at : ℕ) (a : Table) (heads next : List ℕ) (n used : ℕ) : Type 0 where
+  pub many : 16 * n ≤ at
+  pub small : length i ≤ bufferMax
+  pub long : Long a
+  pub chained : Chained (keyAt (a .highs) (a .lows)) heads next n
+  pub listing : Listing i at (a .highs) (a .lows) n
+  pub loaded : (hs : List Held) → Lies 0 hs i → Loaded i at a n used hs
+
+pub load-first : (i : List ℕ) (a : Table) (heads next : List ℕ) → length i ≤ bufferMax → Long a
+    → Chained (keyAt (a .highs) (a .lows)) heads next 0 → Loading i 0 a heads next 0 0
+load-first i a heads next m l c = record {
+  many = omega arith;
+  small = m;
+  long = l;
+  chained = c;
+  listing = list-first i (a .highs) (a .lows) (l .highs) (l .lows);
+  loaded = λ hs q. record {
+    rest = first i 0 hs q;
+    front = [];
+    is = refl;
+    off = sym texts-none;
+    end = sym (sizes-none 0);
+    used = sym texts-none;
+    inside = λ k p. absurd (omega arith);
+    lives = λ t s z old p e. unfold living in refl;
+    ahead = λ t s z old p e k q. absurd (omega arith);
+  };
+}
+
+module _ (i : List ℕ) (at : ℕ) (a : Table) (heads next : List ℕ) (n used : ℕ) (w : Loading i at a heads next n used)
+  where
+    pub load-less : n < slots
+    load-less = omega (arith, w .many, w .small, w .listing .within)
+
+    module _ (head : Head) (e : head ≡ headAt (drop at i)) where
+      pub load-end : head .size ≡ 0 → Bytes i → Loads i a heads next (record { count = n; end = at; used = used })
+      load-end z b t s hs d = go (w .loaded hs (l .rows .lies)) (onward i at head e (w .loaded hs (l .rows .lies) .rest))
+        where
+          l : Laid i t hs
+          l = laid i t hs b d
+
+          apart : (j k : ℕ) → j < k → k < n → keyAt (a .highs) (a .lows) j ≡ keyAt (a .highs) (a .lows) k
+              → getD (a .lens) j 0 ≡ 0
+          apart j k p q x =
+              let o : false ≡ distinct hs
+              = twice-once i (keyAt (a .highs) (a .lows)) n
+              (list-end i at (a .highs) (a .lows) n (w .listing) head e z)
+              (record { a = j; b = k; less = p; below = q; same = x }) 0 hs (l .rows .lies) in
+              let y : _≡_ {A = Bool} false true = o ∙ l .once in
+              let v : _≡_ {A = ℕ} 0 1 = cc in
+              absurd (omega arith)
+
+          go : (x : Loaded i at a n used hs) → Onward i at head e (x .rest)
+              → Slotted (length i) (length t) t s a heads next n (record { count = n; end = at; used = used }) hs
+          go x (stands h ks q y r) = absurd (size-not i at head e (x .rest .off) h y z)
+          go x (ended q y) =
+              let f : hs ≡ x .front = x .is ∙ ap (λ (r : List Held). x .front ++ r) q ∙ append-nil (x .front) in
+              record {
+                tabled = record {
+                  is = f ∙ sym (x .lives t s _ n (omega arith) (l .rows .text));
+                  inside = λ k p. subst (λ (c : Bool). getD (a .starts) k 0 + getD (a .lens) k 0 ≤ length (pick c t s))
+                      (sym (lt-ltb k n p))
+                      (omega (arith, x .inside k p, ap (λ (r : List Held). length (texts r)) f, good i t hs l .text));
+                  ahead = x .ahead t s _ n (omega arith) (l .rows .text);
+                  olds = omega arith;
+                  most = omega (arith, load-less);
+                  long = w .long;
+                  good = good i t hs l;
+                };
+                older = apart;
+                chained = w .chained;
+                end = x .end ∙ ap (sizes 0) (sym f);
+                used = x .used ∙ ap (λ (r : List Held). length (texts r)) (sym f);
+                limits = (l .index, l .text);
+              }
+
+      -- one line more
+      module _ (m : head .size ≡ 0 → ⊥) (b : Table) (eb : b ≡ more a n (head .key) (head .off) (head .len))
+          (heads′ next′ : List ℕ) (ch : Chained (keyAt (b .highs) (b .lows)) heads′ next′ (n + 1)) where
+        step : (hs : List Held) (x : Loaded i at a n used hs) → Onward i at head e (x .rest)
+            → Loaded i (at + head .size) (more a n (head .key) (head .off) (head .len)) (n + 1) (head .off + head .len) hs
+        step hs x (ended q y) = absurd (m y)
+        step hs x (stands h ks q y l) =
+            record {
+              rest = record { off = x .rest .off + length (h .line); hs = ks; lies = l };
+              front = front′;
+              is = is′;
+              off = omega (arith, x .off, longer);
+              end = omega (
+                arith,
+                x .end,
+                sizes-append (x .front) (h ∷ []) 0,
+                sizes-cons (0 + length (texts (x .front))) h [],
+                sizes-none (0 + length (texts (x .front)) + length (h .line)),
+                size-is,
+              );
+              used = omega (arith, off-is, len-is, longer);
+              inside = below-more (λ (k : ℕ). getD (set (a .starts) n (head .off)) k 0 + getD (set (a .lens) n (head .len)) k 0
+                  ≤ length (texts front′)) n
+                  (λ k p. omega (
+                    arith,
+                    x .inside k p,
+                    getD-set-other (a .starts) n k (head .off) 0 (λ z. omega arith),
+                    getD-set-other (a .lens) n k (head .len) 0 (λ z. omega arith),
+                    longer,
+                  ))
+                  (omega (
+                    arith,
+                    getD-set-same (a .starts) n (head .off) 0 (omega (arith, load-less, w .long .starts)),
+                    getD-set-same (a .lens) n (head .len) 0 (omega (arith, load-less, w .long .lens)),
+                    off-is,
+                    len-is,
+                    longer,
+                  ));
+              lives = λ t s z old p et.
+                  ap (living (slotAt t s a′ old)) (add-one n)
+                  ∙ unfold living in
+                  (ap₂ (λ (v w : List Held). v ++ w) (before t s z old n (omega arith) (omega arith) et)
+                  (here t s z old (omega arith) et));
+              ahead = λ t s z old p et.
+                  below-more (λ (k : ℕ). length (texts (living (slotAt t s a′ old) k)) ≤ getD (set (a .starts) n (head .off)) k 0)
+                  n
+                  (λ k q′. omega (
+                    arith,
+                    x .ahead t s z old (omega arith) et k q′,
+                    ap (λ (v : List Held). length (texts v)) (same t s old k (omega arith)),
+                    getD-set-other (a .starts) n k (head .off) 0 (λ z. omega arith),
+                  ))
+                  (omega (
+                    arith,
+                    ap (λ (v : List Held). length (texts v)) (before t s z old n (omega arith) (omega arith) et),
+                    getD-set-same (a .starts) n (head .off) 0 (omega (arith, load-less, w .long .starts)),
+                    off-is,
+                  ));
+            }
+          where
+            a′ : Table
+            a′ = more a n (head .key) (head .off) (head .len)
+
+            front′ : List Held
+            front′ = x .front ++ (h ∷ [])
+
+            is′ : hs ≡ (x .front ++ (h ∷ [])) ++ ks
+            is′ = x .is ∙ ap (λ (r : List Held). x .front ++ r) q ∙ sym (append-assoc (x .front) (h ∷ []) ks)
+
+            off-is : head .off ≡ length (texts (x .front))
+            off-is = ap (λ (v : Head). v .off) y ∙ x .off
+
+            len-is : head .len ≡ length (h .line)
+            len-is = ap (λ (v : Head). v .len) y
+
+            size-is : head .size ≡ sizeOf (0 + length (texts (x .front))) h
+            size-is = ap (λ (v : Head). v .size) y ∙ size-move (h .key) _ _ _ _
+
+            longer : length (texts (x .front ++ (h ∷ []))) ≡ length (texts (x .front)) + length (h .line)
+            longer = texts-sum (x .front) (h ∷ []) ∙ omega (arith, texts-cons h [], texts-none)
+
+            some : 1 ≤ length (h .line)
+            some = subst Shapes q (x .rest .lies .shapes) .0 .some
+
+            line-is : (t z : List ℕ) → t ≡ texts hs ++ z
+                → take (length (h .line)) (drop (length (texts (x .front))) t) ≡ h .line
+            line-is t z et =
+                ap (λ (r : List ℕ). take (length (h .line)) (drop (length (texts (x .front))) r))
+                (et ∙ ap (λ (r : List Held). texts r ++ z) (x .is ∙ ap (λ (r : List Held). x .front ++ r) q)
+                ∙ ap (λ (r : List ℕ). r ++ z) (texts-append (x .front) (h ∷ ks))
+                ∙ append-assoc (texts (x .front)) (texts (h ∷ ks)) z
+                ∙ ap (λ (r : List ℕ). texts (x .front) ++ r) (texts-first h ks z))
+                ∙ ap (take (length (h .line))) (drop-at (texts (x .front)) (h .line ++ (texts ks ++ z)) _ refl)
+                ∙ take-at (h .line) (texts ks ++ z) _ refl
+
+            same : (t s : List ℕ) (old k : ℕ) → k ≤ n
+                → living (slotAt t s (more a n (head .key) (head .off) (head .len)) old) k ≡ living (slotAt t s a old) k
+            same t s old k p = living-same _ _ k
+                (λ j q′. slot-other t s a old n (head .key) (head .off) (head .len) j (λ z. omega arith))
+
+            before : (t s z : List ℕ) (old k : ℕ) → k ≡ n → n + 1 ≤ old → t ≡ texts hs ++ z
+                → living (slotAt t s (more a n (head .key) (head .off) (head .len)) old) n ≡ x .front
+            before t s z old k ek p et = same t s old n (omega arith) ∙ x .lives t s z old (omega arith) et
+
+            here : (t s z : List ℕ) (old : ℕ) → n < old → t ≡ texts hs ++ z
+                → slotAt t s (more a n (head .key) (head .off) (head .len)) old n ≡ h ∷ []
+            here t s z old p et =
+                slot-new t s a old n (head .key) (head .off) (head .len) (w .long) load-less (omega (arith, len-is, some))
+                ∙ ap (λ (c : Bool). record { key = head .key; line = take (head .len) (drop (head .off) (pick c t s)) } ∷ [])
+                (lt-ltb n old p)
+                ∙ ap₂ (λ (v : Key) (r : List ℕ). record { key = v; line = r } ∷ []) (ap (λ (v : Head). v .key) y)
+                (ap₂ (λ (c d : ℕ). take c (drop d t)) len-is off-is ∙ line-is t z et)
+
+        pub load-turn : Loading i (at + head .size) b heads′ next′ (n + 1) (head .off + head .len)
+        load-turn = subst (λ (v : Table). Loading i (at + head .size) v heads′ next′ (n + 1) (head .off + head .len)) (sym eb)
+            (record {
+              many = omega (
+                arith,
+                w .many,
+                ap (λ (v : Head). v .size) e,
+                head-least (drop at i) (λ z. m (ap (λ (v : Head). v .size) e ∙ z)),
+              );
+              small = w .small;
+              long = more-long [] [] a 0 n (head .key) (head .off) (head .len) (w .long);
+              chained = subst (λ (v : Table). Chained (keyAt (v .highs) (v .lows)) heads′ next′ (n + 1)) eb ch;
+              listing = list-turn i at (a .highs) (a .lows) n (w .listing) head e m load-less;
+              loaded = λ hs l. step hs (w .loaded hs l) (onward i at head e (w .loaded hs l .rest));
+            })

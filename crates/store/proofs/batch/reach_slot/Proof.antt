@@ -1,0 +1,109 @@
+-- Each exit is that of the book's line: not wanted, over the limit, without room, or filed.
+use lib.ListN.{length}
+use Rattle.store.proofs.BatchLaws.{wanted-part, slot-not, slot-long, slot-files, slot-full, slot-filed}
+use borrow.Author.Needs.{needs}
+use Rattle.store.proofs.batch.reach_slot.Statement.{statement}
+use Rattle.store.proofs.batch.reach_slot.Tie as tie
+
+add-wanted : tie.Need-add-wanted
+add-wanted c = search needs
+
+sub-wanted : tie.Need-sub-wanted
+sub-wanted c = search needs
+
+part-wanted-start : tie.Need-part-wanted-start
+part-wanted-start c = search needs
+
+part-wanted-end : tie.Need-part-wanted-end
+part-wanted-end c = search needs
+
+wanted-requires : tie.Need-wanted-requires
+wanted-requires c κs = search needs
+
+enum-known-uuid : tie.Need-enum-known-uuid
+enum-known-uuid c = search needs
+
+enum-told : tie.Need-enum-told
+enum-told c = search needs
+
+returns : tie.Need-returns
+returns c =
+    let args = c .before .before .before .before .before .before .before .args in
+    let pre = c .before .before .before .before .before .before .before .pre in
+    slot-not (length (args .index .now)) (length (args .text .now)) (args .text .now) (args .lines .now) _
+    (args .heads .now) (args .next .now) (args .fill) (args .at) (args .len) (pre .0 .1)
+    (wanted-part (args .lines .now) (args .at) (args .len) _ _ (c .before .before .wanted .ensures)
+    (c .enum-told .given .1))
+
+stop-requires : tie.Need-stop-requires
+stop-requires c κs = search needs
+
+returns-2 : tie.Need-returns-2
+returns-2 c =
+    let args = c .before .before .before .before .before .before .before .before .before .before .args in
+    let pre = c .before .before .before .before .before .before .before .before .before .before .pre in
+    slot-long (length (args .index .now)) (length (args .text .now)) (args .text .now) (args .lines .now) _
+    (args .heads .now) (args .next .now) (args .fill) (args .at) (args .len) (pre .0 .1)
+    _ (wanted-part (args .lines .now) (args .at) (args .len) _ _ (c .before .before .before .before .before .wanted .ensures) (c .before .before .before .uuid .given .1))
+    (c .before .if1 .taken) (c .stop .result) (c .stop .ensures)
+
+file-slot-requires : tie.Need-file-slot-requires
+file-slot-requires c κs =
+    let args = c .before .before .before .before .before .before .before .before .before .before .before .before .before .before .before .args in
+    let pre = c .before .before .before .before .before .before .before .before .before .before .before .before .before .before .before .pre in (
+      pre .0 .0,
+      (
+        args .lines .now,
+        (
+          pre .1 .0,
+          (
+            pre .1 .1 .0,
+            slot-files (length (args .index .now)) (length (args .text .now)) (args .text .now) (args .lines .now) _
+                (args .heads .now) (args .next .now) (args .fill) (args .at) (args .len) (pre .0 .1)
+                _ (wanted-part (args .lines .now) (args .at) (args .len) _ _ (c .before .before .before .before .before .before .before .before .before .before .wanted .ensures) (c .before .before .before .before .before .before .before .before .uuid .given .1))
+                (c .before .before .before .before .before .before .if1 .left) (pre .1 .0) (pre .1 .1 .0) (pre .1 .1 .1),
+          ),
+        ),
+      ),
+    )
+
+stop-requires-2 : tie.Need-stop-requires-2
+stop-requires-2 c κs = search needs
+
+returns-3 : tie.Need-returns-3
+returns-3 c =
+    let args = c .before .before .before .before .before .before .before .before .before .before .before .before .before .before .before .before .before .before .before .before .args in
+    let pre = c .before .before .before .before .before .before .before .before .before .before .before .before .before .before .before .before .before .before .before .before .pre in
+    slot-full (length (args .index .now)) (length (args .text .now)) (args .text .now) (args .lines .now) _
+    (args .heads .now) (args .next .now) (args .fill) (args .at) (args .len) (pre .0 .1)
+    _ (wanted-part (args .lines .now) (args .at) (args .len) _ _ (c .before .before .before .before .before .before .before .before .before .before .before .before .before .before .before .wanted .ensures) (c .before .before .before .before .before .before .before .before .before .before .before .before .before .uuid .given .1))
+    (c .before .before .before .before .before .before .before .before .before .before .before .if1 .left) _ _ _ (c .before .before .before .before .file-slot .result) (c .before .before .before .before .file-slot .ensures) (c .before .if2 .taken)
+    (c .stop2 .result) (c .stop2 .ensures)
+
+returns-4 : tie.Need-returns-4
+returns-4 c =
+    let args = c .before .before .before .before .before .before .before .before .before .before .before .before .before .before .before .before .before .before .before .args in
+    let pre = c .before .before .before .before .before .before .before .before .before .before .before .before .before .before .before .before .before .before .before .pre in
+    slot-filed (length (args .index .now)) (length (args .text .now)) (args .text .now) (args .lines .now) _
+    (args .heads .now) (args .next .now) (args .fill) (args .at) (args .len) (pre .0 .1)
+    _ (wanted-part (args .lines .now) (args .at) (args .len) _ _ (c .before .before .before .before .before .before .before .before .before .before .before .before .before .before .wanted .ensures) (c .before .before .before .before .before .before .before .before .before .before .before .before .uuid .given .1))
+    (c .before .before .before .before .before .before .before .before .before .before .if1 .left) _ _ _ (c .before .before .before .file-slot .result) (c .before .before .before .file-slot .ensures) (c .if2 .left)
+
+pub reach-slot-spec : {M : Type 1} → statement M
+reach-slot-spec =
+    tie.close
+    (tie.spec
+    add-wanted
+    sub-wanted
+    part-wanted-start
+    part-wanted-end
+    wanted-requires
+    enum-known-uuid
+    enum-told
+    returns
+    stop-requires
+    returns-2
+    file-slot-requires
+    stop-requires-2
+    returns-3
+    returns-4)

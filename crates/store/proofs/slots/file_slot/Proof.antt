@@ -1,0 +1,105 @@
+use mathlib.Core.Path.{_≡_}
+use lib.ListN.{length, take, drop, length-drop}
+use lib.Seq.{length-take-le}
+use native.Mathlib.Omega.{arith}
+use Rattle.store.proofs.FileSlotLaws.{had-less, files-index, files-text, files-fit}
+use borrow.Author.Needs.{needs}
+use Rattle.store.proofs.slots.file_slot.Statement.{statement}
+use Rattle.store.proofs.slots.file_slot.Tie as tie
+
+put-slot-requires : tie.Need-put-slot-requires
+put-slot-requires c κs = search needs
+
+len-before-requires : tie.Need-len-before-requires
+len-before-requires c κs = search needs
+
+sub-used : tie.Need-sub-used
+sub-used c =
+    let args = c .before .before .before .before .before .before .before .before .before .before .before .before .args in
+    let pre = c .before .before .before .before .before .before .before .before .before .before .before .before .pre in
+    let put = c .before .before .before .put-slot in
+    let had = c .before .len-before in
+    let w = pre .1 .1 .1 .1 in
+    had-less (args .index .now) (args .text .now) (pre .1 .0) _ (args .heads .now) (args .next .now) (pre .1 .1 .0)
+    (args .fill) (args .key) (args .start) (args .len) (pre .1 .1 .1 .0) w (pre .0) _ (put .ensures .0) (put .result)
+    (put .ensures .1 .0 .0) (put .ensures .1 .0 .1) (had .result) (had .ensures)
+
+add-used : tie.Need-add-used
+add-used c =
+    let args = c .before .before .before .before .before .before .before .before .before .before .before .before .args in
+    let pre = c .before .before .before .before .before .before .before .before .before .before .before .before .pre in
+    let put = c .before .before .before .put-slot in
+    let had = c .before .len-before in
+    let w = pre .1 .1 .1 .1 in
+    let line : length (take (args .len) (drop (args .start) (pre .1 .0))) ≡ args .len
+    = length-take-le (args .len) (drop (args .start) (pre .1 .0))
+    (omega (arith, length-drop (args .start) (pre .1 .0), w .inside)) in
+    omega (
+      arith,
+      w .slotted .used,
+      w .slotted .tabled .good .text,
+      w .slotted .limits .1,
+      w .shape .most,
+      line,
+    )
+
+end-with-requires : tie.Need-end-with-requires
+end-with-requires c κs = search needs
+
+returns : tie.Need-returns
+returns c = λ s old hs w.
+    let args = c .before .before .before .before .before .before .before .before .before .before .before .before .before .before .args in
+    let pre = c .before .before .before .before .before .before .before .before .before .before .before .before .before .before .pre in
+    let put = c .before .before .before .before .before .put-slot in
+    let had = c .before .before .before .len-before in
+    let ends = c .before .end-with in
+    files-index (args .index .now) (args .text .now) s _ (args .heads .now) (args .next .now) old (args .fill) (args .key)
+    (args .start) (args .len) hs w (pre .0) _ (put .ensures .0) (put .result) (put .ensures .1 .0 .0)
+    (put .ensures .1 .0 .1) (had .result) (had .ensures)
+    (ends .result) (ends .ensures) _ _ (c .if1 .taken)
+
+returns-2 : tie.Need-returns-2
+returns-2 c = λ s old hs w.
+    let args = c .before .before .before .before .before .before .before .before .before .before .before .before .before .before .before .args in
+    let pre = c .before .before .before .before .before .before .before .before .before .before .before .before .before .before .before .pre in
+    let put = c .before .before .before .before .before .before .put-slot in
+    let had = c .before .before .before .before .len-before in
+    let ends = c .before .before .end-with in
+    files-text (args .index .now) (args .text .now) s _ (args .heads .now) (args .next .now) old (args .fill) (args .key)
+    (args .start) (args .len) hs w (pre .0) _ (put .ensures .0) (put .result) (put .ensures .1 .0 .0)
+    (put .ensures .1 .0 .1) (had .result) (had .ensures)
+    (ends .result) (ends .ensures) _ _ (c .if2 .taken)
+
+strike-slot-requires : tie.Need-strike-slot-requires
+strike-slot-requires c κs = search needs
+
+add-t25 : tie.Need-add-t25
+add-t25 c = search needs
+
+returns-3 : tie.Need-returns-3
+returns-3 c = λ s old hs w.
+    let args = c .before .before .before .before .before .before .before .before .before .before .before .before .before .before .before .before .before .args in
+    let pre = c .before .before .before .before .before .before .before .before .before .before .before .before .before .before .before .before .before .pre in
+    let put = c .before .before .before .before .before .before .before .before .put-slot in
+    let had = c .before .before .before .before .before .before .len-before in
+    let ends = c .before .before .before .before .end-with in
+    files-fit (args .index .now) (args .text .now) s _ (args .heads .now) (args .next .now) old (args .fill) (args .key)
+    (args .start) (args .len) hs w (pre .0) _ (put .ensures .0) (put .result) (put .ensures .1 .0 .0)
+    (put .ensures .1 .0 .1) (had .result) (had .ensures)
+    (ends .result) (ends .ensures) _ _ (omega (arith, c .before .before .before .if1 .left)) (omega (arith, c .before .before .if2 .left))
+    (put .ensures .1 .1) _ (c .strike-slot .ensures)
+
+pub file-slot-spec : {M : Type 1} → statement M
+file-slot-spec =
+    tie.close
+    (tie.spec
+    put-slot-requires
+    len-before-requires
+    sub-used
+    add-used
+    end-with-requires
+    returns
+    returns-2
+    strike-slot-requires
+    add-t25
+    returns-3)
