@@ -1,59 +1,27 @@
--- Laws of entries that are put into a map one after the other.
+-- Laws of entries that are put one after the other, as entries and as numbers.
 -- Assumes nothing.
 use Prim.Native.Nat.{ℕ, _+_, _<_, _≤_}
 use mathlib.Core.Path.{_≡_, refl, sym, ap, _∙_}
 use mathlib.Core.Bool.{false}
 use mathlib.Core.List.{List, [], _∷_, _++_}
 use native.Mathlib.Omega.{arith}
-use lib.ListN.{length, drop, getD, length-take, drop-of-length-le}
+use lib.ListN.{length, drop, getD, replicate, length-take, drop-of-length-le}
 use Rattle.line.specs.declared.mapping.Entry.{Entry}
 use Rattle.line.specs.declared.mapping.Mapping.{Mapping}
-use Rattle.line.specs.Maps.{CODES_MAX, MapView, Ascending, putEntry, putOf, toMap, emptyMap, putsInto}
+use Rattle.line.specs.declared.reading.draft.Draft.{Draft}
+use Rattle.line.specs.Maps.{CODES_MAX, MapView, Ascending, putEntry, toMap, unusedEntry, putsInto}
+use Rattle.line.specs.Inner.{entriesIn, PutIn}
 use Rattle.line.proofs.PutLaws.{put-ascending}
-use Rattle.line.proofs.ViewLaws.{with, put-adds, put-map}
+use Rattle.line.proofs.ViewLaws.{put-adds}
+use Rattle.line.proofs.DraftLaws.{many-in}
+use Rattle.line.proofs.TurnLaws.{draft-map}
 use Rattle.line.proofs.FoldLaws.{puts-append}
 use Rattle.map.specs.declared.from_data.filled.Filled.{Filled}
 use Rattle.map.specs.declared.mapping_data.MappingData.{MappingData}
+use Rattle.map.specs.Slots.{buttonSlots}
 use Rattle.map.specs.Build.{filledButtons, filledAxes, nameStart, builtView, builtMap}
-use Rattle.map.specs.Inner.{heldIn, putAll}
-use Rattle.map.proofs.FilledLaws.{held-next, buttons-few, axes-few}
-
--- the empty map with a name of n bytes
-abbrev named : Mapping → ℕ → Mapping
-named m n =
-    record {
-      count = m .count;
-      entries = m .entries;
-      «name_start» = nameStart;
-      «name_len» = n;
-      «is_default» = m .«is_default»;
-      «hats_mapped» = m .«hats_mapped»;
-    }
-
-abbrev namedView : ℕ → MapView
-namedView n = record { list = []; nameStart = nameStart; nameLen = n; isDefault = false; hatFlags = 0 }
-
--- ---- the program's puts, entry after entry
-module _ (f : Filled) (m : Mapping) (i : ℕ) where
-  pub puts-next : (d : Entry) → i < f .count → f .count ≤ length (f .entries)
-      → putAll (putOf m (getD (f .entries) i d) .map) (drop (i + 1) (heldIn f)) ≡ putAll m (drop i (heldIn f))
-  unfolding putAll
-  puts-next d h l = rw (held-next f i d h l)
-
-  pub puts-end : f .count ≤ i → putAll m (drop i (heldIn f)) ≡ m
-  unfolding putAll
-  puts-end h =
-      let l : length (heldIn f) ≤ i = simp length-take (omega arith) in
-      rw (drop-of-length-le (heldIn f) l)
-
--- ---- puts that are sure to fit
-pub puts-view : (es : List Entry) (v : MapView) → length (v .list) + length es ≤ CODES_MAX
-    → putAll (toMap v) es ≡ toMap (with v (putsInto es (v .list)))
-unfolding putAll putsInto
-puts-view [] v h = refl
-puts-view (e ∷ es) v h =
-    rw (put-map v e (omega arith))
-    (puts-view es (with v (putEntry e (v .list))) (omega (arith, put-adds e (v .list))))
+use Rattle.map.specs.Inner.{heldIn, Holds, PutsIn}
+use Rattle.map.proofs.FilledLaws.{held-next}
 
 -- as many as before and one for each at most
 pub puts-few : (es zs : List Entry) → length (putsInto es zs) ≤ length zs + length es
@@ -74,18 +42,61 @@ none-ascending = tt
 pub built-ascending : (d : MappingData) (name : List ℕ) → Ascending (builtView d name .list)
 built-ascending d name = puts-ascending (filledButtons d ++ filledAxes d) [] none-ascending
 
--- ---- the map of a build
-named-map : (m : Mapping) (n : ℕ) → m ≡ emptyMap → named m n ≡ toMap (namedView n)
-unfolding emptyMap toMap
-named-map m n e = ap (λ (x : Mapping). named x n) e
+-- ---- numbers, of which those before i are put
+module _ (n : ℕ) (xs : List ℕ) (f : Filled) where
+  pub record Putting (i m : ℕ) (ys : List ℕ) : Type 0 where
+    pub whole : putsInto (drop i (heldIn f)) (entriesIn m ys) ≡ putsInto (heldIn f) (entriesIn n xs)
+    pub upto : i ≤ f .count
+    pub few : m ≤ n + i
+    pub long : length ys ≡ CODES_MAX
 
-pub built : (d : MappingData) (name : List ℕ) (m : Mapping) → m ≡ emptyMap
-    → putAll (putAll (named m (length name)) (filledButtons d)) (filledAxes d) ≡ builtMap d name
+  module _ (i m : ℕ) (ys : List ℕ) (p : Putting i m ys) where
+    pub put-turn : (d : Entry) (r : ℕ) (zs : List ℕ) → i < f .count → f .count ≤ length (f .entries)
+        → n + f .count < CODES_MAX → PutIn m ys (getD (f .entries) i d) r zs → Putting (i + 1) r zs
+    unfolding putsInto
+    put-turn d r zs h l room w =
+        let e = getD (f .entries) i d in
+        let many = many-in m ys (omega (arith, p .few, p .long)) in
+        let few : r ≤ n + (i + 1) = omega (arith, w .many, put-adds e (entriesIn m ys), p .few) in
+        let one : putsInto (drop (i + 1) (heldIn f)) (putEntry e (entriesIn m ys))
+        ≡ putsInto (drop i (heldIn f)) (entriesIn m ys) = rw (held-next f i d h l) in
+        record {
+          whole =
+              ap (λ (es : List Entry). putsInto (drop (i + 1) (heldIn f)) es) (w .are (omega arith)) ∙ one
+              ∙ p .whole;
+          upto = omega arith;
+          few = few;
+          long = w .long;
+        }
+
+    pub put-end : f .count ≤ i → PutsIn n xs f m ys
+    unfolding putsInto
+    put-end h =
+        let l : length (heldIn f) ≤ i = simp length-take (omega arith) in
+        let q : putsInto (drop i (heldIn f)) (entriesIn m ys) ≡ entriesIn m ys =
+        rw (drop-of-length-le (heldIn f) l) in
+        record { are = sym q ∙ p .whole; few = omega (arith, p .upto, p .few); long = p .long }
+
+-- ---- the map of a build
+pub built : (d : MappingData) (name : List ℕ) (f g : Filled) (xs ys zs : List ℕ) (n m : ℕ) (es : List Entry)
+    → Holds f (filledButtons d) → PutsIn 0 xs f n ys → Holds g (filledAxes d) → PutsIn n ys g m zs
+    → es ≡ entriesIn m zs ++ drop m (replicate CODES_MAX unusedEntry)
+    → _≡_ {A = Mapping} (record {
+      count = m;
+      entries = es;
+      «name_start» = nameStart;
+      «name_len» = length name;
+      «is_default» = false;
+      «hats_mapped» = 0;
+    })
+    (builtMap d name)
 unfolding builtMap
-built d name m e =
-    let b = filledButtons d in
-    let a = filledAxes d in
-    let few = puts-few b [] in
-    rw (named-map m (length name) e, puts-view b (namedView (length name)) (omega (arith, buttons-few d)))
-    (puts-view a (with (namedView (length name)) (putsInto b [])) (omega (arith, buttons-few d, axes-few d))
-    ∙ ap (λ (l : List Entry). toMap (with (namedView (length name)) l)) (sym (puts-append b a [])))
+built d name f g xs ys zs n m es b p a q e =
+    let draft : Draft =
+    record { count = m; «name_start» = nameStart; «name_len» = length name; «hats_mapped» = 0 } in
+    let h : m ≤ CODES_MAX = omega (arith, p .few, q .few, b .most, a .most) in
+    let l : entriesIn m zs ≡ putsInto (filledButtons d ++ filledAxes d) [] =
+    q .are ∙ rw (a .are, p .are, b .are) (sym (puts-append (filledButtons d) (filledAxes d) [])) in
+    draft-map draft zs es (h, q .long) e
+    ∙ ap (λ (v : MapView). toMap v) (ap (λ (k : List Entry).
+    record { list = k; nameStart = nameStart; nameLen = length name; isDefault = false; hatFlags = 0 }) l)

@@ -12,8 +12,8 @@ use Rattle.text.specs.declared.bytes.Written.{Written}
 use Rattle.text.specs.declared.bytes.Written.the-variants.{Upto, TooShort}
 use Rattle.text.specs.declared.uuid.Uuid.{Uuid}
 use Rattle.line.specs.declared.mapping.Entry.{Entry}
-use Rattle.line.specs.declared.mapping.Mapping.{Mapping}
-use Rattle.line.specs.Maps.{unusedEntry, putOf}
+use Rattle.line.specs.Maps.{CODES_MAX, unusedEntry, putsInto}
+use Rattle.line.specs.Inner.{entriesIn}
 use Rattle.line.specs.Reading.{LIST_MAX}
 use Rattle.line.specs.declared.ev.AxisOrBtn.{AxisOrBtn}
 use Rattle.line.specs.Tables.{identText, asButton, asAxis}
@@ -91,10 +91,11 @@ abbrev pub uptoOf : Written → ℕ
 uptoOf (Upto n) = n
 uptoOf TooShort = 0
 
--- ---- entries put into a map, one after the other
-unfoldable pub putAll : Mapping → List Entry → Mapping
-putAll m [] = m
-putAll m (e ∷ es) = putAll (putOf m e .map) es
+-- ---- the filled slots put among the first n of xs: r is the new count, and ys has the entries
+pub record PutsIn (n : ℕ) (xs : List ℕ) (f : Filled) (r : ℕ) (ys : List ℕ) : Type 0 where
+  pub are : entriesIn r ys ≡ putsInto (heldIn f) (entriesIn n xs)
+  pub few : r ≤ n + f .count
+  pub long : length ys ≡ CODES_MAX
 
 -- ---- how long a built line is at most
 -- a pair: its ident, `:b` or `:a`, the digits of the greatest place in a list, a comma

@@ -1,38 +1,155 @@
-// The map of a build, by the same puts as its line.
+// The map of a build, by the same puts as its line: its entries are numbers in one array until all are put.
 use crate::from_data::NAME_START;
 use crate::from_data::filled::Filled;
 use crate::from_data::filled::filled_axes;
 use crate::from_data::filled::filled_buttons;
 use crate::mapping_data::MappingData;
+use line::ev::Axis;
+use line::ev::AxisOrBtn;
+use line::ev::Button;
+use line::ev::Code;
+use line::mapping::CODES_MAX;
+use line::mapping::Entry;
 use line::mapping::Mapping;
+use line::mapping::Place;
 ghost use mathlib.Core.Path.{_≡_};
-ghost use Prim.Native.Nat.{_≤_};
+ghost use mathlib.Core.List.{_++_};
+ghost use Prim.Native.Nat.{_+_, _≤_, _<_};
+ghost use lib.ListN.{take, drop, replicate};
+ghost use Rattle.line.specs.Elements.{codeOf};
+ghost use Rattle.line.specs.Maps.{CODES_MAX, entryOf, unusedEntry};
+ghost use Rattle.line.specs.Inner.{elementIn, entryIn, entriesIn, numbersWith, Placed, PutIn, Roomy};
 ghost use Rattle.map.specs.Slots.{buttonSlots};
 ghost use Rattle.map.specs.Build.{builtMap};
-ghost use Rattle.map.specs.Inner.{heldIn, putAll};
+ghost use Rattle.map.specs.Inner.{PutsIn};
 
-fn put_all(map: Mapping, filled: Filled) -> Mapping
-    requires { ⌜ filled .count ≤ buttonSlots ⌝ }
-    ensures { λ r. ⌜ r ≡ putAll map (heldIn filled) ⌝ }
+// What a code counts in the number of an entry, and what the kind of the element does: 0 for a button, 1 for an axis.
+const CODE_UNIT: u64 = 4294967296;
+
+const KIND_UNIT: u64 = 65536;
+
+fn pack(code: u32, kind: u16, number: u16) -> u64
+    ensures { λ r. ⌜ entryIn r ≡ entryOf (codeOf code) (elementIn kind number) ⌝ }
 {
-    let n = filled.count;
-    let mut more = map;
+    code as u64 * CODE_UNIT + kind as u64 * KIND_UNIT + number as u64
+}
+
+// An entry as a number.
+fn packed(e: Entry) -> u64
+    ensures { λ r. ⌜ entryIn r ≡ e ⌝ }
+{
+    let element = e.element;
+    match element {
+        AxisOrBtn::Axis(a) => pack(e.code.0, 1, a.0),
+        AxisOrBtn::Btn(b) => pack(e.code.0, 0, b.0),
+    }
+}
+
+// The entry that a number is.
+fn unpacked(x: u64) -> Entry
+    ensures { λ r. ⌜ r ≡ entryIn x ⌝ }
+{
+    let code = Code((x / CODE_UNIT) as u32);
+    let number = (x % KIND_UNIT) as u16;
+    if x / KIND_UNIT % KIND_UNIT == 0 {
+        return Entry::new(code, AxisOrBtn::Btn(Button(number)));
+    }
+    Entry::new(code, AxisOrBtn::Axis(Axis(number)))
+}
+
+// Where an entry goes among the first n.
+fn find_place(xs: &[u64], n: usize, e: Entry) -> Place
+    requires { ⌜ Roomy n (now xs) ⌝ }
+    ensures { λ r. ⌜ Placed (entriesIn n (now (xs .entry))) e r ⌝ }
+{
     let mut i: usize = 0;
     while i < n {
-        let e = filled.entries[i];
-        let a = more.put(e);
-        more = a.map;
+        let x = unpacked(xs[i]);
+        if e.code.0 < x.code.0 {
+            return Place::Before(i);
+        }
+        if x.code.0 == e.code.0 {
+            return Place::Held(i);
+        }
         i += 1;
     }
-    more
+    Place::Before(i)
+}
+
+// One number more at i, those from i up to n moved up by one. The number at n is dropped.
+fn insert_at(xs: &mut [u64], i: usize, n: usize, x: u64)
+    requires { ⌜ (i ≤ n) × (n < CODES_MAX) × Roomy n (now xs) ⌝ }
+    ensures { λ _. ⌜ now (xs .exit) ≡ take (n + 1) (numbersWith i x (now (xs .entry)))
+        ++ drop (n + 1) (now (xs .entry)) ⌝ }
+{
+    let mut moved = x;
+    let mut k = i;
+    while k <= n {
+        let next = xs[k];
+        xs[k] = moved;
+        moved = next;
+        k += 1;
+    }
+}
+
+// An entry put among the first n. The new count.
+fn put_number(xs: &mut [u64], n: usize, e: Entry) -> usize
+    requires { ⌜ (n < CODES_MAX) × Roomy n (now xs) ⌝ }
+    ensures { λ r. ⌜ PutIn n (now (xs .entry)) e r (now (xs .exit)) ⌝ }
+{
+    match find_place(xs, n, e) {
+        Place::Held(i) => {
+            xs[i] = packed(e);
+            n
+        }
+        Place::Before(i) => {
+            insert_at(xs, i, n, packed(e));
+            n + 1
+        }
+    }
+}
+
+// The filled slots put among the first n. The new count.
+fn put_all(xs: &mut [u64], n: usize, filled: Filled) -> usize
+    requires { ⌜ (filled .count ≤ buttonSlots) × (n + filled .count < CODES_MAX) × Roomy n (now xs) ⌝ }
+    ensures { λ r. ⌜ PutsIn n (now (xs .entry)) filled r (now (xs .exit)) ⌝ }
+{
+    let mut m = n;
+    let mut i: usize = 0;
+    while i < filled.count {
+        let e = filled.entries[i];
+        m = put_number(xs, m, e);
+        i += 1;
+    }
+    m
+}
+
+// The entries as a map holds them.
+fn entries_of(xs: &[u64], n: usize) -> [Entry; CODES_MAX]
+    requires { ⌜ Roomy n (now xs) ⌝ }
+    ensures { λ r. ⌜ r ≡ entriesIn n (now (xs .entry)) ++ drop n (replicate CODES_MAX unusedEntry) ⌝ }
+{
+    let mut entries = [Entry::UNUSED; CODES_MAX];
+    let mut i: usize = 0;
+    while i < n {
+        entries[i] = unpacked(xs[i]);
+        i += 1;
+    }
+    entries
 }
 
 pub fn built_map(slots: MappingData, name: &[u8]) -> Mapping
     ensures { λ r. ⌜ r ≡ builtMap slots (now (name .entry)) ⌝ }
 {
-    let mut map = Mapping::new();
-    map.name_start = NAME_START;
-    map.name_len = name.len();
-    let with_buttons = put_all(map, filled_buttons(slots));
-    put_all(with_buttons, filled_axes(slots))
+    let mut xs = [0u64; CODES_MAX];
+    let n = put_all(&mut xs, 0, filled_buttons(slots));
+    let count = put_all(&mut xs, n, filled_axes(slots));
+    Mapping {
+        count,
+        entries: entries_of(&xs, count),
+        name_start: NAME_START,
+        name_len: name.len(),
+        is_default: false,
+        hats_mapped: 0,
+    }
 }

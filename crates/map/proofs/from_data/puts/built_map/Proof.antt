@@ -4,40 +4,51 @@ use borrow.Author.Needs.{needs}
 use Rattle.map.proofs.from_data.puts.built_map.Statement.{statement}
 use Rattle.map.proofs.from_data.puts.built_map.Tie as tie
 
-new-requires : tie.Need-new-requires
-new-requires c κs = search needs
+slice-aggregate-put-all : tie.Need-slice-aggregate-put-all
+slice-aggregate-put-all c = search needs
 
 filled-buttons-requires : tie.Need-filled-buttons-requires
 filled-buttons-requires c κs = search needs
 
 put-all-requires : tie.Need-put-all-requires
-put-all-requires c κs = c .filled-buttons .ensures .most
+put-all-requires c κs = search needs
+
+slice-aggregate-put-all-2 : tie.Need-slice-aggregate-put-all-2
+slice-aggregate-put-all-2 c = search needs
 
 filled-axes-requires : tie.Need-filled-axes-requires
 filled-axes-requires c κs = search needs
 
 put-all-requires-2 : tie.Need-put-all-requires-2
-put-all-requires-2 c κs = c .filled-axes .ensures .most
+put-all-requires-2 c κs = search needs
+
+slice-aggregate-entries-of : tie.Need-slice-aggregate-entries-of
+slice-aggregate-entries-of c = search needs
+
+entries-of-requires : tie.Need-entries-of-requires
+entries-of-requires c κs = search needs
 
 returns : tie.Need-returns
 returns c =
-    let a = c .before .before .before .before .before .before .args in
-    rw (
-      c .put-all2 .ensures,
-      c .before .filled-axes .ensures .are,
-      c .before .before .put-all .ensures,
-      c .before .before .before .filled-buttons .ensures .are,
-    )
-    (built (a .slots) (a .name .now) (c .before .before .before .before .new .result)
-    (c .before .before .before .before .new .ensures))
+    let second = c .before .before .before in
+    let axes = second .before in
+    let first = axes .before .before .before in
+    let buttons = first .before in
+    let a = buttons .before .before .before .args in
+    built (a .slots) (a .name .now) (buttons .filled-buttons .result) (axes .filled-axes .result) _ _ _ _ _ _
+    (buttons .filled-buttons .ensures) (first .put-all .ensures) (axes .filled-axes .ensures) (second .put-all2 .ensures)
+    (c .entries-of .ensures)
 
 pub built-map-spec : {M : Type 1} → statement M
 built-map-spec =
     tie.close
     (tie.spec
-    new-requires
+    slice-aggregate-put-all
     filled-buttons-requires
     put-all-requires
+    slice-aggregate-put-all-2
     filled-axes-requires
     put-all-requires-2
+    slice-aggregate-entries-of
+    entries-of-requires
     returns)

@@ -1,34 +1,38 @@
--- The puts of the entries from i on are left to do, at every turn: one law per turn and for the end. Assumes nothing.
+-- Numbers that are put one after the other: one law for the turn and one for the end. Assumes nothing.
 use Prim.Native.Nat.{_+_, _-_, _≤_}
-use mathlib.Core.Path.{_≡_, refl, sym, ap, _∙_}
+use mathlib.Core.Path.{_≡_, refl, sym, _∙_}
 use native.Mathlib.Omega.{arith}
 use borrow.Author.Needs.{needs}
-use lib.ListN.{length, drop}
-use Rattle.line.specs.declared.mapping.PutAnswer.{PutAnswer}
+use lib.ListN.{length}
 use Rattle.line.proofs.MapLaws.{entries-long, past}
 use Rattle.map.specs.Slots.{buttonSlots}
-use Rattle.map.specs.Inner.{heldIn, putAll}
-use Rattle.map.proofs.PutsLaws.{puts-next, puts-end}
+use Rattle.map.proofs.PutsLaws.{Putting, put-turn, put-end}
 use Rattle.map.proofs.from_data.puts.put_all.Statement.{statement}
 use Rattle.map.proofs.from_data.puts.put_all.Tie as tie
 
 abbrev Inv-loop : tie.InvT-loop
-Inv-loop filled n more₀ i₀ more i = (i ≤ n) × (putAll more (drop i (heldIn filled)) ≡ putAll more₀ (heldIn filled))
+Inv-loop xs₀ n filled m₀ i₀ xs m i = Putting n xs₀ filled i m xs
 
 abbrev μ-loop : tie.MeasureT-loop
-μ-loop filled n more₀ i₀ more i = n - i
+μ-loop xs₀ n filled m₀ i₀ xs m i = filled .count - i
 
 loop-holds : tie.Need-loop-holds Inv-loop μ-loop
-loop-holds c = (omega arith, refl)
+loop-holds c = record { whole = refl; upto = omega arith; few = omega arith; long = c .before .pre .2 .1 }
 
 mul-e : tie.Need-mul-e Inv-loop μ-loop
 mul-e c = search needs
 
 element-copy-out-e : tie.Need-element-copy-out-e Inv-loop μ-loop
-element-copy-out-e c = search needs
+element-copy-out-e c = let s = c .before .before .before in omega (arith, s .pre .0, c .loop-test .taken)
 
-put-requires : tie.Need-put-requires Inv-loop μ-loop
-put-requires c κs = search needs
+put-number-requires : tie.Need-put-number-requires Inv-loop μ-loop
+put-number-requires c κs =
+    let l = c .before .before .before in
+    let s = l .before .before in
+    let p = l .loop .inv in (
+      omega (arith, p .few, p .upto, s .pre .1),
+      (omega (arith, p .few, p .upto, s .pre .1), p .long),
+    )
 
 add-i : tie.Need-add-i Inv-loop μ-loop
 add-i c = search needs
@@ -38,19 +42,22 @@ loop-less c = search needs
 
 loop-again : tie.Need-loop-again Inv-loop μ-loop
 loop-again c =
-    let l = c .before .before .before .before in
-    let a = l .before .args in
-    let n : length (a .t2 .entries) ≡ buttonSlots = search (needs, entries-long) in (
-      omega arith,
-      ap (λ (r : PutAnswer). putAll (r .map) (drop (l .loop .i + 1) (heldIn (a .t2)))) (c .before .put .ensures)
-          ∙ puts-next (a .t2) (l .loop .more) (l .loop .i) past (omega arith) (omega arith)
-          ∙ l .loop .inv .1,
-    )
+    let l = c .before .before .before .before .before .before in
+    let s = l .before .before in
+    let a = s .args in
+    let n : length (a .t3 .entries) ≡ buttonSlots = search (needs, entries-long) in
+    put-turn (a .n) (a .xs .now) (a .t3) (l .loop .i) (l .loop .m) (l .loop .xs) (l .loop .inv) past _ _
+    (c .before .before .before .before .before .loop-test .taken)
+    (omega (arith, s .pre .0)) (s .pre .1) (c .before .before .put-number .ensures)
+
+same-length : tie.Need-same-length Inv-loop μ-loop
+same-length c = let l = c .before in l .loop .inv .long ∙ sym (l .before .before .pre .2 .1)
 
 returns : tie.Need-returns Inv-loop μ-loop
 returns c =
     let l = c .before in
-    sym (puts-end (l .before .args .t2) (l .loop .more) (l .loop .i) (omega arith)) ∙ l .loop .inv .1
+    let a = l .before .before .args in
+    put-end (a .n) (a .xs .now) (a .t3) (l .loop .i) (l .loop .m) (l .loop .xs) (l .loop .inv) (c .loop-test .left)
 
 pub put-all-spec : {M : Type 1} → statement M
 put-all-spec =
@@ -61,8 +68,9 @@ put-all-spec =
     loop-holds
     mul-e
     element-copy-out-e
-    put-requires
+    put-number-requires
     add-i
     loop-less
     loop-again
+    same-length
     returns)
