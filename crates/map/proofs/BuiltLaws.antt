@@ -5,7 +5,8 @@ use mathlib.Core.Path.{_≡_, refl}
 use mathlib.Core.Bool.{Bool, true, false}
 use mathlib.Core.List.{List, _∷_}
 use native.Mathlib.Omega.{arith}
-use borrow.Author.Tests.{ltb-true, le-leb}
+use borrow.Author.Tests.{ltb-true, ltb-false, leb-true, le-leb}
+use lib.Dec.{leb, ltb}
 use lib.ListN.{length}
 use Rattle.text.specs.Bytes.{pick}
 use Rattle.text.specs.Decimal.{digits, decimal}
@@ -26,7 +27,7 @@ use Rattle.map.specs.Build.{also, filledFrom, filledButtons, filledAxes,
 use Rattle.map.specs.Build.{answerOf}
 use Rattle.map.specs.Bounds.{lineMax}
 use Rattle.map.specs.Inner.{pairMax, pairsMax, builtMax}
-use Rattle.map.specs.Inner.{pairLength, pairsLength}
+use Rattle.map.specs.Inner.{pairLength, pairsLength, lineLength, BUILT_MAX, shortOf}
 use Rattle.map.proofs.CheckLaws.{Passed, passed}
 use Rattle.map.proofs.LengthLaws.{decimal-grows, line-length}
 use Rattle.map.proofs.PlainLaws.{AllPlain, buttons-plain, axes-plain, namedButtons, namedAxes, buttons-named}
@@ -124,3 +125,27 @@ module _ (d : MappingData) (buttons axes name : List ℕ) (uuid : Uuid) where
   -- an output of that length is never too short
   pub room-enough : (room : ℕ) → builtMax ≤ room → answerOf d buttons axes name uuid room ≡ checksOf d buttons axes name
   room-enough room h = answer-by (checksOf d buttons axes name) room h refl
+
+-- ---- whether an output is too short: one that holds every line is not
+pub short-so : (room n : ℕ) → shortOf room n ≡ true → room < n
+short-so room n h = by (leb BUILT_MAX room) h
+  where
+    by : (t : Bool) → pick t false (ltb room n) ≡ true → room < n
+    by true q = let z : _≡_ {A = ℕ} 0 1 = cc in absurd (omega arith)
+    by false q = ltb-true room n q
+
+pub fits-so : (d : MappingData) (buttons axes name : List ℕ) (uuid : Uuid) → checksOf d buttons axes name ≡ Accepted
+    → (room n : ℕ) → n ≡ lineLength d buttons axes name → shortOf room n ≡ false → n ≤ room
+fits-so d buttons axes name uuid c room n e h = by (leb BUILT_MAX room) refl h
+  where
+    by : (t : Bool) → leb BUILT_MAX room ≡ t → pick t false (ltb room n) ≡ false → n ≤ room
+    by true p q =
+        omega (
+          arith,
+          e,
+          leb-true BUILT_MAX room p,
+          built-length d buttons axes name uuid c,
+          built-max,
+          line-length d buttons axes name uuid,
+        )
+    by false p q = ltb-false room n q

@@ -1,14 +1,18 @@
 -- Laws of the filled slots: how they are gathered, slot after slot, and read, entry after entry.
 -- Assumes nothing.
 use Prim.Native.Nat.{ℕ, zero, suc, _+_, _-_, _<_, _≤_}
-use mathlib.Core.Path.{_≡_, refl, sym, ap, _∙_}
+use mathlib.Core.Path.{_≡_, refl, sym, ap, subst, _∙_}
+use mathlib.Core.Logic.{⊎-elim}
 use mathlib.Core.List.{List, [], _∷_, _++_, append-assoc, append-nil}
 use native.Mathlib.Numerals.{add-one}
 use native.Mathlib.Omega.{arith}
-use lib.ListN.{length, drop, getD, set}
-use lib.Seq.{drop-cons, getD-take, take-suc-set, length-take-le}
+use lib.ListN.{length, drop, getD, set, length-set, length-replicate}
+use lib.Seq.{drop-cons, getD-take, take-suc-set, length-take-le, getD-set-same, getD-set-other}
+use Rattle.text.proofs.ListLaws.{lt-or-le}
+use Rattle.line.specs.declared.ev.Code.{Code}
 use Rattle.line.specs.declared.ev.AxisOrBtn.{AxisOrBtn}
 use Rattle.line.specs.declared.mapping.Entry.{Entry}
+use Rattle.line.specs.Maps.{unusedEntry, entryOf}
 use Rattle.line.specs.Tables.{asButton, asAxis}
 use Rattle.map.specs.declared.from_data.filled.Filled.{Filled}
 use Rattle.map.specs.declared.mapping_data.MappingData.{MappingData}
@@ -16,54 +20,116 @@ use Rattle.map.specs.declared.mapping_data.SlotCode.{SlotCode}
 use Rattle.map.specs.declared.mapping_data.SlotCode.the-variants.{Is, Nothing}
 use Rattle.map.specs.Slots.{buttonSlots, axisSlots, buttonOf, axisOf}
 use Rattle.map.specs.Build.{also, filledFrom, filledButtons, filledAxes}
-use Rattle.map.specs.Inner.{heldIn, noneFilled, Grown}
+use Rattle.map.specs.Lists.{placeOf}
+use Rattle.map.specs.Inner.{heldIn, noneFilled, PlacedIn}
 
--- ---- one slot more
-pub grown-one : (f : Filled) (e : Entry) → f .count < length (f .entries)
-    → Grown f (e ∷ []) (record { count = f .count + 1; entries = set (f .entries) (f .count) e })
-grown-one f e h = record { are = rw (add-one, take-suc-set (f .entries) (f .count) e h); most = omega arith }
+-- ---- one entry more, with its place
+abbrev pub grown : Filled → Entry → ℕ → Filled
+grown f e p =
+    record {
+      count = f .count + 1;
+      entries = set (f .entries) (f .count) e;
+      places = set (f .places) (f .count) p;
+    }
 
-pub grown-none : (f : Filled) → Grown f [] f
-grown-none f = record { are = sym (append-nil (heldIn f)); most = omega arith }
+grown-held : (f : Filled) (e : Entry) (p : ℕ) → f .count < length (f .entries)
+    → heldIn (grown f e p) ≡ heldIn f ++ e ∷ []
+grown-held f e p h = rw (add-one, take-suc-set (f .entries) (f .count) e h)
+
+module _ (codes : List ℕ) where
+  placed-none : PlacedIn codes noneFilled
+  placed-none = record { at = λ i d h. absurd (omega arith) }
+
+  module _ (f : Filled) (e : Entry) (p : ℕ) (w : PlacedIn codes f) (h : f .count < length (f .entries))
+      (l : f .count < length (f .places)) (q : p ≡ placeOf (e .code) codes) where
+    abbrev Here : Entry → ℕ → Type 0
+    Here d i =
+        getD (set (f .places) (f .count) p) i 0
+        ≡ placeOf (getD (set (f .entries) (f .count) e) i d .code) codes
+
+    before : (d : Entry) (i : ℕ) → i < f .count → Here d i
+    before d i k =
+        getD-set-other (f .places) (f .count) i p 0 (λ z. omega arith) ∙ w .at i d k
+        ∙ ap (λ (x : Entry). placeOf (x .code) codes)
+        (sym (getD-set-other (f .entries) (f .count) i e d (λ z. omega arith)))
+
+    here : (d : Entry) → Here d (f .count)
+    here d =
+        getD-set-same (f .places) (f .count) p 0 l ∙ q
+        ∙ ap (λ (x : Entry). placeOf (x .code) codes) (sym (getD-set-same (f .entries) (f .count) e d h))
+
+    pub placed-more : PlacedIn codes (grown f e p)
+    placed-more =
+        record {
+          at =
+              λ i d k. ⊎-elim (λ lt. before d i lt)
+              (λ ge. let z : f .count ≡ i = omega arith in subst (λ (j : ℕ). Here d j) z (here d))
+              (lt-or-le i (f .count));
+        }
 
 -- ---- all slots, one after the other
 also-rest : (s : SlotCode) (to : AxisOrBtn) (rest : List Entry) → also s to rest ≡ also s to [] ++ rest
 also-rest (Is c) to rest = refl
 also-rest Nothing to rest = refl
 
-module _ (code : ℕ → SlotCode) (to : ℕ → AxisOrBtn) where
+module _ (codes : List ℕ) (code : ℕ → SlotCode) (to : ℕ → AxisOrBtn) (n : ℕ) where
   -- f has the filled ones of the slots before i, and those from i on are still to come
-  pub record Gathering (n i : ℕ) (f : Filled) : Type 0 where
+  pub record Gathering (i : ℕ) (f : Filled) : Type 0 where
     pub whole : heldIn f ++ filledFrom code to (n - i) i ≡ filledFrom code to n 0
     pub most : f .count ≤ i
+    pub placed : PlacedIn codes f
+    pub room : (length (f .entries) ≡ buttonSlots) × (length (f .places) ≡ buttonSlots)
 
-  filled-next : (n i : ℕ) → i < n
+  filled-next : (i : ℕ) → i < n
       → filledFrom code to (n - i) i ≡ also (code i) (to i) [] ++ filledFrom code to (n - (i + 1)) (i + 1)
   unfolding filledFrom
-  filled-next n i h =
+  filled-next i h =
       let e : n - i ≡ suc (n - (i + 1)) = omega arith in
       rw (e, add-one) (also-rest (code i) (to i) (filledFrom code to (n - suc i) (suc i)))
 
-  pub gather-none : (n : ℕ) (f : Filled) → f ≡ noneFilled → Gathering n 0 f
-  gather-none n f e =
+  pub gather-none : (f : Filled) → f ≡ noneFilled → Gathering 0 f
+  gather-none f e =
       let k : n - 0 ≡ n = omega arith in
-      rw e (record { whole = rw k; most = omega arith })
+      rw e (record {
+        whole = rw k;
+        most = omega arith;
+        placed = placed-none codes;
+        room = (length-replicate buttonSlots unusedEntry, length-replicate {A = ℕ} buttonSlots 0);
+      })
 
-  pub gather-turn : (n i : ℕ) (f g : Filled) (s : SlotCode) → i < n → s ≡ code i → Grown f (also s (to i) []) g
-      → Gathering n i f → Gathering n (i + 1) g
-  gather-turn n i f g s h e w p =
-      record {
-        whole =
-            ap (λ (l : List Entry). l ++ filledFrom code to (n - (i + 1)) (i + 1)) (w .are)
-            ∙ append-assoc (heldIn f) (also s (to i) []) (filledFrom code to (n - (i + 1)) (i + 1))
-            ∙ ap (λ (l : List Entry). heldIn f ++ l) (rw e (sym (filled-next n i h)))
-            ∙ p .whole;
-        most = omega (arith, w .most, p .most);
-      }
+  module _ (i : ℕ) (f : Filled) (s : SlotCode) (h : i < n) (e : s ≡ code i) (p : Gathering i f) where
+    pub gather-empty : s ≡ Nothing → Gathering (i + 1) f
+    gather-empty q =
+        let o : filledFrom code to (n - i) i ≡ filledFrom code to (n - (i + 1)) (i + 1) =
+        filled-next i h ∙ rw (sym e ∙ q) in
+        record {
+          whole = ap (λ (l : List Entry). heldIn f ++ l) (sym o) ∙ p .whole;
+          most = omega (arith, p .most);
+          placed = p .placed;
+          room = p .room;
+        }
 
-  pub gather-end : (n i : ℕ) (f : Filled) → n ≤ i → Gathering n i f → heldIn f ≡ filledFrom code to n 0
+    pub gather-filled : (c : Code) (x : Entry) (k : ℕ) → s ≡ Is c → x ≡ entryOf c (to i)
+        → k ≡ placeOf c codes → i < buttonSlots → Gathering (i + 1) (grown f x k)
+    gather-filled c x k q r z m =
+        let j : f .count < length (f .entries) = omega (arith, p .most, p .room .0) in
+        let l : f .count < length (f .places) = omega (arith, p .most, p .room .1) in
+        let rest = filledFrom code to (n - (i + 1)) (i + 1) in
+        let o : filledFrom code to (n - i) i ≡ x ∷ rest = filled-next i h ∙ rw (sym e ∙ q, r) in
+        record {
+          whole =
+              ap (λ (es : List Entry). es ++ rest) (grown-held f x k j) ∙ append-assoc (heldIn f) (x ∷ []) rest
+              ∙ ap (λ (es : List Entry). heldIn f ++ es) (sym o)
+              ∙ p .whole;
+          most = omega (arith, p .most);
+          placed = placed-more codes f x k (p .placed) j l (z ∙ rw r);
+          room =
+              (length-set (f .entries) (f .count) x ∙ p .room .0, length-set (f .places) (f .count) k ∙ p .room .1);
+        }
+
+  pub gather-end : (i : ℕ) (f : Filled) → n ≤ i → Gathering i f → heldIn f ≡ filledFrom code to n 0
   unfolding filledFrom
-  gather-end n i f h p =
+  gather-end i f h p =
       let e : n - i ≡ 0 = omega arith in
       sym (append-nil (heldIn f)) ∙ (rw e at (p .whole))
 

@@ -78,12 +78,16 @@ limit-digits : length (decimal LIST_MAX) ≡ 4
 unfolding decimal digits
 limit-digits = refl
 
-pub index-short : (codes : List ℕ) (e : Entry) → ListFits codes → length (decimal (placeOf (e .code) codes)) ≤ 4
-index-short codes e h =
-    omega (arith, limit-digits, decimal-grows (placeOf (e .code) codes) LIST_MAX (omega (arith, place-le codes e)))
+pub index-short : (n : ℕ) → n ≤ LIST_MAX → length (decimal n) ≤ 4
+index-short n h = omega (arith, limit-digits, decimal-grows n LIST_MAX h)
 
 pub pair-short : (codes : List ℕ) (e : Entry) → ListFits codes → pairLength codes e ≤ 20
-pair-short codes e h = omega (arith, ident-short (e .element), index-short codes e h)
+pair-short codes e h =
+    omega (
+      arith,
+      ident-short (e .element),
+      index-short (placeOf (e .code) codes) (omega (arith, place-le codes e)),
+    )
 
 pub pairs-short : (codes : List ℕ) (es : List Entry) → ListFits codes → pairsLength codes es ≤ 20 * length es
 unfolding pairsLength

@@ -19,7 +19,8 @@ use Rattle.line.specs.Tables.{IDENT_MAX, identText, identOf}
 use Rattle.map.specs.declared.from_data.filled.Filled.{Filled}
 use Rattle.map.specs.declared.mapping_data.MappingData.{MappingData}
 use Rattle.map.specs.Build.{ended, pairText, pairTexts, filledButtons, filledAxes, builtLine}
-use Rattle.map.specs.Inner.{heldIn, pairField, pairFields, headText, Room, uptoOf}
+use Rattle.map.specs.Inner.{heldIn, Holds, pairField, pairFields, headText, lineText, lineLength, lengthOf}
+use Rattle.map.specs.Inner.{Room, uptoOf}
 
 -- ---- puts
 -- what a writer of the text layer leaves where there is room
@@ -172,11 +173,13 @@ line-parts d buttons axes name uuid =
     )
     (simp append-assoc)
 
-pub line-room : (d : MappingData) (buttons axes name : List ℕ) (uuid : Uuid) (l : List ℕ)
-    → length (builtLine d buttons axes name uuid) ≤ length l
-    → Room l 0 ((headText uuid name ++ pairFields (byte "b") buttons (filledButtons d))
-    ++ pairFields (byte "a") axes (filledAxes d))
-line-room d buttons axes name uuid l h = omega (arith, ap length (line-parts d buttons axes name uuid))
+module _ (d : MappingData) (buttons axes name : List ℕ) (uuid : Uuid) (f g : Filled)
+    (b : Holds buttons f (filledButtons d)) (a : Holds axes g (filledAxes d)) where
+  pub line-held : lineText buttons f axes g name uuid ≡ builtLine d buttons axes name uuid
+  line-held = rw (b .are, a .are) (sym (line-parts d buttons axes name uuid))
+
+  pub length-held : lengthOf buttons f axes g name ≡ lineLength d buttons axes name
+  length-held = rw (b .are, a .are)
 
 -- ---- an ident as the table hands it out
 module _ (e : AxisOrBtn) (i : Ident) (p : i ≡ identOf e) where

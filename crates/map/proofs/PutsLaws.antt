@@ -18,9 +18,8 @@ use Rattle.line.proofs.TurnLaws.{draft-map}
 use Rattle.line.proofs.FoldLaws.{puts-append}
 use Rattle.map.specs.declared.from_data.filled.Filled.{Filled}
 use Rattle.map.specs.declared.mapping_data.MappingData.{MappingData}
-use Rattle.map.specs.Slots.{buttonSlots}
 use Rattle.map.specs.Build.{filledButtons, filledAxes, nameStart, builtView, builtMap}
-use Rattle.map.specs.Inner.{heldIn, Holds, PutsIn}
+use Rattle.map.specs.Inner.{heldIn, Few, Holds, PutsIn, putMap}
 use Rattle.map.proofs.FilledLaws.{held-next}
 
 -- as many as before and one for each at most
@@ -78,25 +77,29 @@ module _ (n : ℕ) (xs : List ℕ) (f : Filled) where
         record { are = sym q ∙ p .whole; few = omega (arith, p .upto, p .few); long = p .long }
 
 -- ---- the map of a build
-pub built : (d : MappingData) (name : List ℕ) (f g : Filled) (xs ys zs : List ℕ) (n m : ℕ) (es : List Entry)
-    → Holds f (filledButtons d) → PutsIn 0 xs f n ys → Holds g (filledAxes d) → PutsIn n ys g m zs
-    → es ≡ entriesIn m zs ++ drop m (replicate CODES_MAX unusedEntry)
+pub put-map : (f g : Filled) (xs ys zs : List ℕ) (n m k : ℕ) (es : List Entry) → Few f → PutsIn 0 xs f n ys
+    → Few g → PutsIn n ys g m zs → es ≡ entriesIn m zs ++ drop m (replicate CODES_MAX unusedEntry)
     → _≡_ {A = Mapping} (record {
       count = m;
       entries = es;
       «name_start» = nameStart;
-      «name_len» = length name;
+      «name_len» = k;
       «is_default» = false;
       «hats_mapped» = 0;
     })
-    (builtMap d name)
-unfolding builtMap
-built d name f g xs ys zs n m es b p a q e =
+    (putMap f g k)
+unfolding putMap
+put-map f g xs ys zs n m k es b p a q e =
     let draft : Draft =
-    record { count = m; «name_start» = nameStart; «name_len» = length name; «hats_mapped» = 0 } in
-    let h : m ≤ CODES_MAX = omega (arith, p .few, q .few, b .most, a .most) in
-    let l : entriesIn m zs ≡ putsInto (filledButtons d ++ filledAxes d) [] =
-    q .are ∙ rw (a .are, p .are, b .are) (sym (puts-append (filledButtons d) (filledAxes d) [])) in
+    record { count = m; «name_start» = nameStart; «name_len» = k; «hats_mapped» = 0 } in
+    let h : m ≤ CODES_MAX = omega (arith, p .few, q .few) in
+    let l : entriesIn m zs ≡ putsInto (heldIn f ++ heldIn g) [] =
+    q .are ∙ rw (p .are) (sym (puts-append (heldIn f) (heldIn g) [])) in
     draft-map draft zs es (h, q .long) e
-    ∙ ap (λ (v : MapView). toMap v) (ap (λ (k : List Entry).
-    record { list = k; nameStart = nameStart; nameLen = length name; isDefault = false; hatFlags = 0 }) l)
+    ∙ ap (λ (v : MapView). toMap v) (ap (λ (z : List Entry).
+    record { list = z; nameStart = nameStart; nameLen = k; isDefault = false; hatFlags = 0 }) l)
+
+pub map-held : (d : MappingData) (name buttons axes : List ℕ) (f g : Filled) → Holds buttons f (filledButtons d)
+    → Holds axes g (filledAxes d) → putMap f g (length name) ≡ builtMap d name
+unfolding putMap builtMap
+map-held d name buttons axes f g b a = rw (b .are, a .are)

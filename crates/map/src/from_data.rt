@@ -7,8 +7,10 @@ mod puts;
 use crate::error::MappingAnswer;
 use crate::error::MappingError;
 use crate::from_data::checks::checked;
-use crate::from_data::output::line_len;
+use crate::from_data::filled::filled_axes;
+use crate::from_data::filled::filled_buttons;
 use crate::from_data::output::put_line;
+use crate::from_data::output::too_short;
 use crate::from_data::puts::built_map;
 use crate::mapping_data::MappingData;
 use line::mapping::Mapping;
@@ -58,17 +60,18 @@ pub fn from_data(
     ensures { λ r. ⌜ Builds «data» (now (buttons .entry)) (now (axes .entry)) (now (name .entry)) uuid
         (now (out .entry)) r (now (out .exit)) ⌝ }
 {
-    match checked(data, buttons, axes, name) {
+    let first = filled_buttons(data, buttons);
+    let last = filled_axes(data, axes);
+    match checked(data, first, last, buttons, axes, name) {
         MappingAnswer::Refused(e) => refused(e),
         MappingAnswer::Accepted => {
-            let len = line_len(data, buttons, axes, name);
-            if out.len() < len {
+            if too_short(out.len(), first, last, buttons, axes, name) {
                 return refused(MappingError::OutputTooShort);
             }
-            put_line(out, data, buttons, axes, name, uuid);
+            let len = put_line(out, first, last, buttons, axes, name, uuid);
             Built {
                 answer: MappingAnswer::Accepted,
-                map: built_map(data, name),
+                map: built_map(first, last, name.len()),
                 len,
             }
         }

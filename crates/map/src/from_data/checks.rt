@@ -3,9 +3,6 @@ use crate::error::MappingAnswer;
 use crate::error::MappingError;
 use crate::from_data::NAME_MAX;
 use crate::from_data::filled::Filled;
-use crate::from_data::filled::filled_axes;
-use crate::from_data::filled::filled_buttons;
-use crate::lists::in_list;
 use crate::lists::lists_fit;
 use crate::mapping_data::MappingData;
 use crate::mapping_data::SlotCode;
@@ -14,22 +11,20 @@ use line::ev::Button;
 use text::bytes::find_byte;
 use text::utf8::valid_up_to;
 ghost use mathlib.Core.Path.{_≡_};
-ghost use Prim.Native.Nat.{_≤_};
-ghost use Rattle.map.specs.Slots.{buttonSlots};
-ghost use Rattle.map.specs.Build.{missingOf, axisChecks, slotChecks, checksOf};
-ghost use Rattle.map.specs.Inner.{heldIn};
+ghost use Rattle.map.specs.Build.{filledButtons, filledAxes, missingOf, axisChecks, slotChecks, checksOf};
+ghost use Rattle.map.specs.Inner.{heldIn, Few, PlacedIn, Holds};
 
 // The first code that is not in the list.
 fn missing(filled: Filled, list: &[u32]) -> SlotCode
-    requires { ⌜ filled .count ≤ buttonSlots ⌝ }
+    requires { ⌜ Few filled × PlacedIn (now list) filled ⌝ }
     ensures { λ r. ⌜ r ≡ missingOf (heldIn filled) (now (list .entry)) ⌝ }
 {
     let n = filled.count;
     let mut i: usize = 0;
     while i < n {
-        let e = filled.entries[i];
-        let code = e.code;
-        if !in_list(list, code) {
+        if list.len() <= filled.places[i] {
+            let e = filled.entries[i];
+            let code = e.code;
             return SlotCode::Is(code);
         }
         i += 1;
@@ -38,13 +33,14 @@ fn missing(filled: Filled, list: &[u32]) -> SlotCode
 }
 
 // The axes' slots: 14, 15, 16.
-fn axes_checked(slots: MappingData, axes: &[u32]) -> MappingAnswer
+fn axes_checked(slots: MappingData, filled: Filled, axes: &[u32]) -> MappingAnswer
+    requires { ⌜ Holds (now axes) filled (filledAxes slots) ⌝ }
     ensures { λ r. ⌜ r ≡ axisChecks slots (now (axes .entry)) ⌝ }
 {
     if slots.axis(Axis::Unknown).is_some() {
         return MappingAnswer::Refused(MappingError::UnknownElement);
     }
-    match missing(filled_axes(slots), axes) {
+    match missing(filled, axes) {
         SlotCode::Is(code) => MappingAnswer::Refused(MappingError::InvalidCode(code)),
         SlotCode::Nothing => {
             if slots.axis(Axis::DPadX).is_some() {
@@ -59,20 +55,35 @@ fn axes_checked(slots: MappingData, axes: &[u32]) -> MappingAnswer
 }
 
 // The buttons' slots: 14, 15; then the axes'.
-fn slots_checked(slots: MappingData, buttons: &[u32], axes: &[u32]) -> MappingAnswer
+fn slots_checked(
+    slots: MappingData,
+    first: Filled,
+    last: Filled,
+    buttons: &[u32],
+    axes: &[u32],
+) -> MappingAnswer
+    requires { ⌜ Holds (now buttons) first (filledButtons slots) × Holds (now axes) last (filledAxes slots) ⌝ }
     ensures { λ r. ⌜ r ≡ slotChecks slots (now (buttons .entry)) (now (axes .entry)) ⌝ }
 {
     if slots.button(Button::Unknown).is_some() {
         return MappingAnswer::Refused(MappingError::UnknownElement);
     }
-    match missing(filled_buttons(slots), buttons) {
+    match missing(first, buttons) {
         SlotCode::Is(code) => MappingAnswer::Refused(MappingError::InvalidCode(code)),
-        SlotCode::Nothing => axes_checked(slots, axes),
+        SlotCode::Nothing => axes_checked(slots, last, axes),
     }
 }
 
 // The name and the lists: 10, 17, 12, 13; then the slots.
-pub fn checked(slots: MappingData, buttons: &[u32], axes: &[u32], name: &[u8]) -> MappingAnswer
+pub fn checked(
+    slots: MappingData,
+    first: Filled,
+    last: Filled,
+    buttons: &[u32],
+    axes: &[u32],
+    name: &[u8],
+) -> MappingAnswer
+    requires { ⌜ Holds (now buttons) first (filledButtons slots) × Holds (now axes) last (filledAxes slots) ⌝ }
     ensures { λ r. ⌜ r ≡ checksOf slots (now (buttons .entry)) (now (axes .entry)) (now (name .entry)) ⌝ }
 {
     let run = valid_up_to(name);
@@ -88,5 +99,5 @@ pub fn checked(slots: MappingData, buttons: &[u32], axes: &[u32], name: &[u8]) -
     if find_byte(name, b',') != name.len() {
         return MappingAnswer::Refused(MappingError::InvalidName);
     }
-    slots_checked(slots, buttons, axes)
+    slots_checked(slots, first, last, buttons, axes)
 }

@@ -1,4 +1,5 @@
-// The filled slots as entries, in ascending order.
+// The filled slots as entries, in ascending order, and the places of their codes.
+use crate::lists::find_code;
 use crate::mapping_data::AXES;
 use crate::mapping_data::BUTTONS;
 use crate::mapping_data::MappingData;
@@ -8,16 +9,14 @@ use line::ev::AxisOrBtn;
 use line::ev::Button;
 use line::mapping::Entry;
 ghost use mathlib.Core.Path.{_≡_};
-ghost use mathlib.Core.List.{[], _++_};
-ghost use Prim.Native.Nat.{_<_};
-ghost use Rattle.map.specs.Slots.{buttonSlots};
-ghost use Rattle.map.specs.Build.{also, filledButtons, filledAxes};
-ghost use Rattle.map.specs.Inner.{noneFilled, Holds, Grown};
+ghost use Rattle.map.specs.Build.{filledButtons, filledAxes};
+ghost use Rattle.map.specs.Inner.{noneFilled, Holds};
 
-// The first `count` entries.
+// The first `count` entries, and the place of each one's code in its list: the list's length where it has none.
 pub struct Filled {
     pub count: usize,
     pub entries: [Entry; BUTTONS],
+    pub places: [usize; BUTTONS],
 }
 
 impl Filled {
@@ -27,49 +26,49 @@ impl Filled {
         Filled {
             count: 0,
             entries: [Entry::UNUSED; BUTTONS],
-        }
-    }
-
-    // One entry more, where the slot is filled.
-    pub fn also(self, slot: SlotCode, to: AxisOrBtn) -> Filled
-        requires { ⌜ self .count < buttonSlots ⌝ }
-        ensures { λ r. ⌜ Grown self (also slot to []) r ⌝ }
-    {
-        match slot {
-            SlotCode::Is(code) => {
-                let n = self.count;
-                let mut more = self;
-                more.entries[n] = Entry::new(code, to);
-                more.count = n + 1;
-                more
-            }
-            SlotCode::Nothing => self,
+            places: [0; BUTTONS],
         }
     }
 }
 
-pub fn filled_buttons(slots: MappingData) -> Filled
-    ensures { λ r. ⌜ Holds r (filledButtons slots) ⌝ }
+pub fn filled_buttons(slots: MappingData, list: &[u32]) -> Filled
+    ensures { λ r. ⌜ Holds (now (list .entry)) r (filledButtons slots) ⌝ }
 {
     let mut filled = Filled::new();
     let mut i: usize = 0;
     while i < BUTTONS {
         let b = Button(i as u16);
-        filled = filled.also(slots.button(b), AxisOrBtn::Btn(b));
         i += 1;
+        match slots.button(b) {
+            SlotCode::Is(code) => {
+                let n = filled.count;
+                filled.entries[n] = Entry::new(code, AxisOrBtn::Btn(b));
+                filled.places[n] = find_code(list, code);
+                filled.count = n + 1;
+            }
+            SlotCode::Nothing => {}
+        }
     }
     filled
 }
 
-pub fn filled_axes(slots: MappingData) -> Filled
-    ensures { λ r. ⌜ Holds r (filledAxes slots) ⌝ }
+pub fn filled_axes(slots: MappingData, list: &[u32]) -> Filled
+    ensures { λ r. ⌜ Holds (now (list .entry)) r (filledAxes slots) ⌝ }
 {
     let mut filled = Filled::new();
     let mut i: usize = 0;
     while i < AXES {
         let a = Axis(i as u16);
-        filled = filled.also(slots.axis(a), AxisOrBtn::Axis(a));
         i += 1;
+        match slots.axis(a) {
+            SlotCode::Is(code) => {
+                let n = filled.count;
+                filled.entries[n] = Entry::new(code, AxisOrBtn::Axis(a));
+                filled.places[n] = find_code(list, code);
+                filled.count = n + 1;
+            }
+            SlotCode::Nothing => {}
+        }
     }
     filled
 }

@@ -1,10 +1,7 @@
 // The line of a build: its length, and its bytes in a lent output that has room for them.
+use crate::from_data::BUILT_MAX;
 use crate::from_data::NAME_START;
 use crate::from_data::filled::Filled;
-use crate::from_data::filled::filled_axes;
-use crate::from_data::filled::filled_buttons;
-use crate::lists::find_code;
-use crate::mapping_data::MappingData;
 use line::ev::AxisOrBtn;
 use line::mapping::Entry;
 use line::tables::ident_of;
@@ -19,24 +16,24 @@ ghost use lib.ListN.{length};
 ghost use Rattle.text.specs.Decimal.{decimal};
 ghost use Rattle.text.specs.Uuid.{uuidText};
 ghost use Rattle.text.specs.Inner.{Put};
+ghost use Rattle.line.specs.Reading.{LIST_MAX};
 ghost use Rattle.line.specs.Tables.{identText};
-ghost use Rattle.map.specs.Slots.{buttonSlots};
-ghost use Rattle.map.specs.Build.{NAME_MAX, builtLine};
-ghost use Rattle.map.specs.Inner.{ListFits, heldIn, withComma, valueText, pairField, pairFields, headText};
-ghost use Rattle.map.specs.Inner.{Room, WritesPairs, WritesLine, pairLength, pairsLength, lineLength, uptoOf};
+ghost use Rattle.map.specs.Build.{NAME_MAX};
+ghost use Rattle.map.specs.Inner.{Few, Ready, PlacedIn, heldIn, withComma, valueText, pairAt, pairFields};
+ghost use Rattle.map.specs.Inner.{headText, lineText, Room, WritesPairs, lengthAt, pairsLength, lengthOf};
+ghost use Rattle.map.specs.Inner.{shortOf, uptoOf};
 
-// How long the pair of an entry is, with its comma.
-fn pair_len(list: &[u32], e: Entry) -> usize
-    requires { ⌜ ListFits (now list) ⌝ }
-    ensures { λ r. ⌜ r ≡ pairLength (now (list .entry)) e ⌝ }
+// How long the pair of an entry is, with its comma, where its code has the place n.
+fn pair_len(n: usize, e: Entry) -> usize
+    requires { ⌜ n ≤ LIST_MAX ⌝ }
+    ensures { λ r. ⌜ r ≡ lengthAt n e ⌝ }
 {
     let element = e.element;
-    let code = e.code;
-    ident_of(element).len + 2 + index_len(find_code(list, code)) + 1
+    ident_of(element).len + 2 + index_len(n) + 1
 }
 
 fn pairs_len(list: &[u32], filled: Filled) -> usize
-    requires { ⌜ (filled .count ≤ buttonSlots) × ListFits (now list) ⌝ }
+    requires { ⌜ Ready (now list) filled ⌝ }
     ensures { λ r. ⌜ r ≡ pairsLength (now (list .entry)) (heldIn filled) ⌝ }
 {
     let n = filled.count;
@@ -44,20 +41,37 @@ fn pairs_len(list: &[u32], filled: Filled) -> usize
     let mut i: usize = 0;
     while i < n {
         let e = filled.entries[i];
-        len += pair_len(list, e);
+        len += pair_len(filled.places[i], e);
         i += 1;
     }
     len
 }
 
 // How long the line is.
-pub fn line_len(slots: MappingData, buttons: &[u32], axes: &[u32], name: &[u8]) -> usize
-    requires { ⌜ ListFits (now buttons) × ListFits (now axes) × (length (now name) ≤ NAME_MAX) ⌝ }
-    ensures { λ r. ⌜ r ≡ lineLength slots (now (buttons .entry)) (now (axes .entry)) (now (name .entry)) ⌝ }
+fn line_len(first: Filled, last: Filled, buttons: &[u32], axes: &[u32], name: &[u8]) -> usize
+    requires { ⌜ Ready (now buttons) first × Ready (now axes) last × (length (now name) ≤ NAME_MAX) ⌝ }
+    ensures { λ r. ⌜ r ≡ lengthOf (now (buttons .entry)) first (now (axes .entry)) last (now (name .entry)) ⌝ }
 {
-    let first = pairs_len(buttons, filled_buttons(slots));
-    let last = pairs_len(axes, filled_axes(slots));
-    NAME_START + name.len() + 1 + first + last
+    NAME_START + name.len() + 1 + pairs_len(buttons, first) + pairs_len(axes, last)
+}
+
+// Whether an output of so many bytes is too short for the line. One that holds every line needs no count.
+pub fn too_short(
+    room: usize,
+    first: Filled,
+    last: Filled,
+    buttons: &[u32],
+    axes: &[u32],
+    name: &[u8],
+) -> bool
+    requires { ⌜ Ready (now buttons) first × Ready (now axes) last × (length (now name) ≤ NAME_MAX) ⌝ }
+    ensures { λ r. ⌜ r ≡ shortOf room (lengthOf (now (buttons .entry)) first (now (axes .entry)) last
+        (now (name .entry))) ⌝ }
+{
+    if BUILT_MAX <= room {
+        return false;
+    }
+    room < line_len(first, last, buttons, axes, name)
 }
 
 // The place after what was written.
@@ -111,21 +125,21 @@ fn put_value(out: &mut [u8], at: usize, letter: u8, n: usize) -> usize
     put_index(out, index, n)
 }
 
-// The pair of an entry, with its comma.
-fn put_pair(out: &mut [u8], at: usize, letter: u8, list: &[u32], e: Entry) -> usize
-    requires { ⌜ at + length (pairField letter (now list) e) ≤ length (now out) ⌝ }
-    ensures { λ r. ⌜ Put (now (out .entry)) at (pairField letter (now (list .entry)) e) r (now (out .exit)) ⌝ }
+// The pair of an entry whose code has the place n, with its comma.
+fn put_pair(out: &mut [u8], at: usize, letter: u8, n: usize, e: Entry) -> usize
+    requires { ⌜ at + length (pairAt letter n e) ≤ length (now out) ⌝ }
+    ensures { λ r. ⌜ Put (now (out .entry)) at (pairAt letter n e) r (now (out .exit)) ⌝ }
 {
     let element = e.element;
-    let code = e.code;
-    let n = find_code(list, code);
     let colon = put_ident(out, at, element);
     let comma = put_value(out, colon, letter, n);
     put_bytes(out, comma, b",")
 }
 
+// The pairs of the filled slots, whose places are those in the list.
 fn put_pairs(out: &mut [u8], at: usize, letter: u8, list: &[u32], filled: Filled) -> usize
-    requires { ⌜ (filled .count ≤ buttonSlots) × Room (now out) at (pairFields letter (now list) (heldIn filled)) ⌝ }
+    requires { ⌜ Few filled × PlacedIn (now list) filled × Room (now out) at (pairFields letter (now list)
+        (heldIn filled)) ⌝ }
     ensures { λ r. ⌜ WritesPairs letter (now (list .entry)) filled (now (out .entry)) at r (now (out .exit)) ⌝ }
 {
     let n = filled.count;
@@ -133,7 +147,7 @@ fn put_pairs(out: &mut [u8], at: usize, letter: u8, list: &[u32], filled: Filled
     let mut i: usize = 0;
     while i < n {
         let e = filled.entries[i];
-        next = put_pair(out, next, letter, list, e);
+        next = put_pair(out, next, letter, filled.places[i], e);
         i += 1;
     }
     next
@@ -161,17 +175,19 @@ fn put_head(out: &mut [u8], uuid: Uuid, name: &[u8]) -> usize
 // The line, at the output's start.
 pub fn put_line(
     out: &mut [u8],
-    slots: MappingData,
+    first: Filled,
+    last: Filled,
     buttons: &[u32],
     axes: &[u32],
     name: &[u8],
     uuid: Uuid,
 ) -> usize
-    requires { ⌜ length (builtLine slots (now buttons) (now axes) (now name) uuid) ≤ length (now out) ⌝ }
-    ensures { λ r. ⌜ WritesLine slots (now (buttons .entry)) (now (axes .entry)) (now (name .entry)) uuid
-        (now (out .entry)) r (now (out .exit)) ⌝ }
+    requires { ⌜ Few first × PlacedIn (now buttons) first × Few last × PlacedIn (now axes) last ⌝ }
+    requires { ⌜ Room (now out) 0 (lineText (now buttons) first (now axes) last (now name) uuid) ⌝ }
+    ensures { λ r. ⌜ Put (now (out .entry)) 0 (lineText (now (buttons .entry)) first (now (axes .entry)) last
+        (now (name .entry)) uuid) r (now (out .exit)) ⌝ }
 {
-    let first = put_head(out, uuid, name);
-    let last = put_pairs(out, first, b'b', buttons, filled_buttons(slots));
-    put_pairs(out, last, b'a', axes, filled_axes(slots))
+    let pairs = put_head(out, uuid, name);
+    let more = put_pairs(out, pairs, b'b', buttons, first);
+    put_pairs(out, more, b'a', axes, last)
 }

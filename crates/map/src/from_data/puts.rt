@@ -1,9 +1,6 @@
 // The map of a build, by the same puts as its line: its entries are numbers in one array until all are put.
 use crate::from_data::NAME_START;
 use crate::from_data::filled::Filled;
-use crate::from_data::filled::filled_axes;
-use crate::from_data::filled::filled_buttons;
-use crate::mapping_data::MappingData;
 use line::ev::Axis;
 use line::ev::AxisOrBtn;
 use line::ev::Button;
@@ -19,9 +16,7 @@ ghost use lib.ListN.{take, drop, replicate};
 ghost use Rattle.line.specs.Elements.{codeOf};
 ghost use Rattle.line.specs.Maps.{CODES_MAX, entryOf, unusedEntry};
 ghost use Rattle.line.specs.Inner.{elementIn, entryIn, entriesIn, numbersWith, Placed, PutIn, Roomy};
-ghost use Rattle.map.specs.Slots.{buttonSlots};
-ghost use Rattle.map.specs.Build.{builtMap};
-ghost use Rattle.map.specs.Inner.{PutsIn};
+ghost use Rattle.map.specs.Inner.{Few, PutsIn, putMap};
 
 // What a code counts in the number of an entry, and what the kind of the element does: 0 for a button, 1 for an axis.
 const CODE_UNIT: u64 = 4294967296;
@@ -111,7 +106,7 @@ fn put_number(xs: &mut [u64], n: usize, e: Entry) -> usize
 
 // The filled slots put among the first n. The new count.
 fn put_all(xs: &mut [u64], n: usize, filled: Filled) -> usize
-    requires { ⌜ (filled .count ≤ buttonSlots) × (n + filled .count < CODES_MAX) × Roomy n (now xs) ⌝ }
+    requires { ⌜ Few filled × (n + filled .count < CODES_MAX) × Roomy n (now xs) ⌝ }
     ensures { λ r. ⌜ PutsIn n (now (xs .entry)) filled r (now (xs .exit)) ⌝ }
 {
     let mut m = n;
@@ -138,17 +133,19 @@ fn entries_of(xs: &[u64], n: usize) -> [Entry; CODES_MAX]
     entries
 }
 
-pub fn built_map(slots: MappingData, name: &[u8]) -> Mapping
-    ensures { λ r. ⌜ r ≡ builtMap slots (now (name .entry)) ⌝ }
+// The map of both, its name of so many bytes.
+pub fn built_map(first: Filled, last: Filled, len: usize) -> Mapping
+    requires { ⌜ Few first × Few last ⌝ }
+    ensures { λ r. ⌜ r ≡ putMap first last len ⌝ }
 {
     let mut xs = [0u64; CODES_MAX];
-    let n = put_all(&mut xs, 0, filled_buttons(slots));
-    let count = put_all(&mut xs, n, filled_axes(slots));
+    let n = put_all(&mut xs, 0, first);
+    let count = put_all(&mut xs, n, last);
     Mapping {
         count,
         entries: entries_of(&xs, count),
         name_start: NAME_START,
-        name_len: name.len(),
+        name_len: len,
         is_default: false,
         hats_mapped: 0,
     }

@@ -15,11 +15,8 @@ returns : tie.Need-returns
 unfolding axisChecks
 returns c = rw (sym (c .before .before .axis .ensures), sym (c .before .is-some .ensures) ∙ c .if1 .taken)
 
-filled-axes-requires : tie.Need-filled-axes-requires
-filled-axes-requires c κs = search needs
-
 missing-requires : tie.Need-missing-requires
-missing-requires c κs = c .filled-axes .ensures .most
+missing-requires c κs = let p = c .before .before .before .before .pre in (p .most, p .placed)
 
 enum-known-code : tie.Need-enum-known-code
 enum-known-code c = search needs
@@ -38,9 +35,9 @@ unfolding axisChecks
 returns-2 c =
     let s = c .before .before .before .before .before in
     rw (
-      sym (s .before .before .before .before .axis .ensures),
-      sym (s .before .before .before .is-some .ensures) ∙ s .before .before .if1 .left,
-      sym (s .before .filled-axes .ensures .are),
+      sym (s .before .before .before .axis .ensures),
+      sym (s .before .before .is-some .ensures) ∙ s .before .if1 .left,
+      sym (s .before .before .before .before .before .pre .are),
       sym (s .missing .ensures) ∙ c .before .before .before .enum-told .given .1,
       sym (c .before .before .axis2 .ensures),
       sym (c .before .is-some2 .ensures) ∙ c .if2 .taken,
@@ -58,9 +55,9 @@ returns-3 c =
     let t = c .before .before .before in
     let s = t .before .before .before .before .before in
     rw (
-      sym (s .before .before .before .before .axis .ensures),
-      sym (s .before .before .before .is-some .ensures) ∙ s .before .before .if1 .left,
-      sym (s .before .filled-axes .ensures .are),
+      sym (s .before .before .before .axis .ensures),
+      sym (s .before .before .is-some .ensures) ∙ s .before .if1 .left,
+      sym (s .before .before .before .before .before .pre .are),
       sym (s .missing .ensures) ∙ t .before .before .before .enum-told .given .1,
       sym (t .before .before .axis2 .ensures),
       sym (t .before .is-some2 .ensures) ∙ t .if2 .left,
@@ -73,9 +70,9 @@ unfolding axisChecks
 returns-4 c =
     let s = c .before .before .before in
     rw (
-      sym (s .before .before .before .before .axis .ensures),
-      sym (s .before .before .before .is-some .ensures) ∙ s .before .before .if1 .left,
-      sym (s .before .filled-axes .ensures .are),
+      sym (s .before .before .before .axis .ensures),
+      sym (s .before .before .is-some .ensures) ∙ s .before .if1 .left,
+      sym (s .before .before .before .before .before .pre .are),
       sym (s .missing .ensures) ∙ c .before .code .given .1,
     )
 
@@ -85,9 +82,9 @@ returns-5 c =
     let t = c .before .before .before in
     let s = t .before .before .before .before .before in
     rw (
-      sym (s .before .before .before .before .axis .ensures),
-      sym (s .before .before .before .is-some .ensures) ∙ s .before .before .if1 .left,
-      sym (s .before .filled-axes .ensures .are),
+      sym (s .before .before .before .axis .ensures),
+      sym (s .before .before .is-some .ensures) ∙ s .before .if1 .left,
+      sym (s .before .before .before .before .before .pre .are),
       sym (s .missing .ensures) ∙ t .before .before .before .enum-told .given .1,
       sym (t .before .before .axis2 .ensures),
       sym (t .before .is-some2 .ensures) ∙ t .if2 .left,
@@ -102,7 +99,6 @@ axes-checked-spec =
     axis-requires
     is-some-requires
     returns
-    filled-axes-requires
     missing-requires
     enum-known-code
     enum-told

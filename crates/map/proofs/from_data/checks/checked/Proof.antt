@@ -52,7 +52,7 @@ returns-4 c =
     )
 
 slots-checked-requires : tie.Need-slots-checked-requires
-slots-checked-requires c κs = search needs
+slots-checked-requires c κs = c .before .before .before .before .before .before .before .before .before .before .pre
 
 returns-5 : tie.Need-returns-5
 unfolding checksOf isUtf8

@@ -21,22 +21,26 @@ abbrev μ-loop : tie.MeasureT-loop
 loop-holds : tie.Need-loop-holds Inv-loop μ-loop
 loop-holds c = (omega arith, refl)
 
+mul-if1 : tie.Need-mul-if1 Inv-loop μ-loop
+mul-if1 c = search needs
+
+element-copy-out-if1 : tie.Need-element-copy-out-if1 Inv-loop μ-loop
+element-copy-out-if1 c = search needs
+
 mul-e : tie.Need-mul-e Inv-loop μ-loop
 mul-e c = search needs
 
 element-copy-out-e : tie.Need-element-copy-out-e Inv-loop μ-loop
 element-copy-out-e c = search needs
 
-in-list-requires : tie.Need-in-list-requires Inv-loop μ-loop
-in-list-requires c κs = search needs
-
 returns : tie.Need-returns Inv-loop μ-loop
 returns c =
     let l = c .before .before .before .before .before in
-    let a = l .before .before .args in
+    let s = l .before in
+    let a = s .args in
     let n : length (a .t1 .entries) ≡ buttonSlots = search (needs, entries-long) in
-    sym (missing-hit (a .t1) (a .list .now) (l .loop .i) past (omega arith) (omega arith) (c .before .in-list .result)
-    (c .before .in-list .ensures) (c .if1 .taken)) ∙ l .loop .inv .1
+    sym (missing-hit (a .t1) (a .list .now) (l .loop .i) past (omega arith) (omega arith) (s .pre .1)
+    (c .before .before .if1 .taken)) ∙ l .loop .inv .1
 
 add-i : tie.Need-add-i Inv-loop μ-loop
 add-i c = search needs
@@ -46,18 +50,19 @@ loop-less c = search needs
 
 loop-again : tie.Need-loop-again Inv-loop μ-loop
 loop-again c =
-    let l = c .before .before .before .before .before in
-    let a = l .before .before .args in
+    let l = c .before .before .before in
+    let s = l .before in
+    let a = s .args in
     let n : length (a .t1 .entries) ≡ buttonSlots = search (needs, entries-long) in (
       omega arith,
-      missing-on (a .t1) (a .list .now) (l .loop .i) past (omega arith) (omega arith) (c .before .in-list .result)
-          (c .before .in-list .ensures) (c .if1 .left) ∙ l .loop .inv .1,
+      missing-on (a .t1) (a .list .now) (l .loop .i) past (omega arith) (omega arith) (s .pre .1) (c .if1 .left)
+          ∙ l .loop .inv .1,
     )
 
 returns-2 : tie.Need-returns-2 Inv-loop μ-loop
 returns-2 c =
     let l = c .before in
-    let a = l .before .before .args in
+    let a = l .before .args in
     sym (missing-end (a .t1) (a .list .now) (l .loop .i) (omega arith)) ∙ l .loop .inv .1
 
 pub missing-spec : {M : Type 1} → statement M
@@ -67,9 +72,10 @@ missing-spec =
     Inv-loop
     μ-loop
     loop-holds
+    mul-if1
+    element-copy-out-if1
     mul-e
     element-copy-out-e
-    in-list-requires
     returns
     add-i
     loop-less

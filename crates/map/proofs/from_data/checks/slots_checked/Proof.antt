@@ -15,11 +15,8 @@ returns : tie.Need-returns
 unfolding slotChecks
 returns c = rw (sym (c .before .before .button .ensures), sym (c .before .is-some .ensures) ∙ c .if1 .taken)
 
-filled-buttons-requires : tie.Need-filled-buttons-requires
-filled-buttons-requires c κs = search needs
-
 missing-requires : tie.Need-missing-requires
-missing-requires c κs = c .filled-buttons .ensures .most
+missing-requires c κs = let p = c .before .before .before .before .before .pre .0 in (p .most, p .placed)
 
 enum-known-code : tie.Need-enum-known-code
 enum-known-code c = search needs
@@ -28,16 +25,16 @@ enum-told : tie.Need-enum-told
 enum-told c = search needs
 
 axes-checked-requires : tie.Need-axes-checked-requires
-axes-checked-requires c κs = search needs
+axes-checked-requires c κs = c .before .before .before .before .before .before .before .before .pre .1
 
 returns-2 : tie.Need-returns-2
 unfolding slotChecks
 returns-2 c =
     let s = c .before .before .before in
     rw (
-      sym (s .before .before .before .before .button .ensures),
-      sym (s .before .before .before .is-some .ensures) ∙ s .before .before .if1 .left,
-      sym (s .before .filled-buttons .ensures .are),
+      sym (s .before .before .before .button .ensures),
+      sym (s .before .before .is-some .ensures) ∙ s .before .if1 .left,
+      sym (s .before .before .before .before .before .before .pre .0 .are),
       sym (s .missing .ensures) ∙ c .before .code .given .1,
     )
 
@@ -46,9 +43,9 @@ unfolding slotChecks
 returns-3 c =
     let s = c .before .before .before in
     rw (
-      sym (s .before .before .before .before .button .ensures),
-      sym (s .before .before .before .is-some .ensures) ∙ s .before .before .if1 .left,
-      sym (s .before .filled-buttons .ensures .are),
+      sym (s .before .before .before .button .ensures),
+      sym (s .before .before .is-some .ensures) ∙ s .before .if1 .left,
+      sym (s .before .before .before .before .before .before .pre .0 .are),
       sym (s .missing .ensures) ∙ c .before .enum-told .given .1,
     )
     (c .axes-checked .ensures)
@@ -60,7 +57,6 @@ slots-checked-spec =
     button-requires
     is-some-requires
     returns
-    filled-buttons-requires
     missing-requires
     enum-known-code
     enum-told

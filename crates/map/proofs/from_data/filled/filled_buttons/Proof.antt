@@ -1,13 +1,14 @@
 -- The slots before i are gathered, and those from i on still to come: one law per turn and for the end.
 -- Assumes nothing.
 use Prim.Native.Nat.{ℕ, _≤_, _-_}
+use mathlib.Core.List.{List}
 use native.Mathlib.Omega.{arith}
 use borrow.Author.Needs.{needs}
 use Rattle.line.specs.Tables.{asButton}
 use Rattle.map.specs.declared.mapping_data.MappingData.{MappingData}
 use Rattle.map.specs.declared.mapping_data.SlotCode.{SlotCode}
 use Rattle.map.specs.Slots.{buttonSlots, buttonOf}
-use Rattle.map.proofs.FilledLaws.{Gathering, gather-none, gather-turn, gather-end}
+use Rattle.map.proofs.FilledLaws.{Gathering, gather-none, gather-empty, gather-filled, gather-end}
 use Rattle.map.proofs.from_data.filled.filled_buttons.Statement.{statement}
 use Rattle.map.proofs.from_data.filled.filled_buttons.Tie as tie
 
@@ -15,49 +16,98 @@ abbrev codes : MappingData → ℕ → SlotCode
 codes slots k = buttonOf slots (record { 0 = k })
 
 abbrev Inv-loop : tie.InvT-loop
-Inv-loop slots filled₀ i₀ filled i = (i ≤ buttonSlots) × Gathering (codes slots) asButton buttonSlots i filled
+Inv-loop slots list filled₀ i₀ filled i = (i ≤ buttonSlots) × Gathering list (codes slots) asButton buttonSlots i filled
 
 abbrev μ-loop : tie.MeasureT-loop
-μ-loop slots filled₀ i₀ filled i = buttonSlots - i
+μ-loop slots list filled₀ i₀ filled i = buttonSlots - i
 
 new-requires : tie.Need-new-requires Inv-loop μ-loop
 new-requires c κs = search needs
 
 loop-holds : tie.Need-loop-holds Inv-loop μ-loop
 loop-holds c =
-    (omega arith, gather-none (codes (c .before .args .slots)) asButton buttonSlots (c .new .result) (c .new .ensures))
+    let a = c .before .before .args in (
+      omega arith,
+      gather-none (a .list .now) (codes (a .slots)) asButton buttonSlots (c .new .result) (c .new .ensures),
+    )
 
-cast-t6 : tie.Need-cast-t6 Inv-loop μ-loop
-cast-t6 c = search needs
+cast-t10 : tie.Need-cast-t10 Inv-loop μ-loop
+cast-t10 c = search needs
+
+add-i : tie.Need-add-i Inv-loop μ-loop
+add-i c = search needs
 
 button-requires : tie.Need-button-requires Inv-loop μ-loop
 button-requires c κs = search needs
 
-also-requires : tie.Need-also-requires Inv-loop μ-loop
-also-requires c κs = omega (arith, c .before .before .loop .inv .1 .most)
+enum-known-code : tie.Need-enum-known-code Inv-loop μ-loop
+enum-known-code c = search needs
 
-add-i : tie.Need-add-i Inv-loop μ-loop
-add-i c = search needs
+new-requires-2 : tie.Need-new-requires-2 Inv-loop μ-loop
+new-requires-2 c κs = search needs
+
+mul-t14 : tie.Need-mul-t14 Inv-loop μ-loop
+mul-t14 c = let p = c .before .before .before .before .before .before .loop .inv .1 in omega (arith, p .most)
+
+element-set-from-filled : tie.Need-element-set-from-filled Inv-loop μ-loop
+element-set-from-filled c =
+    let l = c .before .before .before .before .before .before in
+    omega (arith, l .loop .inv .1 .most, l .loop .inv .1 .room .0)
+
+find-code-requires : tie.Need-find-code-requires Inv-loop μ-loop
+find-code-requires c κs = search needs
+
+mul-filled : tie.Need-mul-filled Inv-loop μ-loop
+mul-filled c = let p = c .before .before .before .before .before .before .before .loop .inv .1 in omega (arith, p .most)
+
+element-write-filled : tie.Need-element-write-filled Inv-loop μ-loop
+element-write-filled c =
+    let l = c .before .before .before .before .before .before .before in
+    omega (arith, l .loop .inv .1 .most, l .loop .inv .1 .room .1)
+
+add-filled : tie.Need-add-filled Inv-loop μ-loop
+add-filled c = let p = c .before .before .before .before .before .before .before .loop .inv .1 in omega (arith, p .most)
 
 loop-less : tie.Need-loop-less Inv-loop μ-loop
 loop-less c = search needs
 
 loop-again : tie.Need-loop-again Inv-loop μ-loop
 loop-again c =
-    let l = c .before .before .before in
-    let a = l .before .before .args in (
+    let told = c .before .before .before in
+    let slot = told .before .before in
+    let l = slot .before .before in
+    let a = l .before .before .before .args in (
       omega arith,
-      gather-turn (codes (a .slots)) asButton buttonSlots (l .loop .i) _ _ _ (omega arith)
-          (c .before .button .ensures) (c .also .ensures) (l .loop .inv .1),
+      gather-filled (a .list .now) (codes (a .slots)) asButton buttonSlots (l .loop .i) (l .loop .filled) _ (omega arith)
+          (slot .button .ensures) (l .loop .inv .1) _ _ _ (told .code .given .1) (c .before .new2 .ensures)
+          (c .find-code .ensures) (omega arith),
+    )
+
+enum-told : tie.Need-enum-told Inv-loop μ-loop
+enum-told c = search needs
+
+loop-less-2 : tie.Need-loop-less-2 Inv-loop μ-loop
+loop-less-2 c = search needs
+
+loop-again-2 : tie.Need-loop-again-2 Inv-loop μ-loop
+loop-again-2 c =
+    let slot = c .before .before in
+    let l = slot .before .before in
+    let a = l .before .before .before .args in (
+      omega arith,
+      gather-empty (a .list .now) (codes (a .slots)) asButton buttonSlots (l .loop .i) (l .loop .filled) _ (omega arith)
+          (slot .button .ensures) (l .loop .inv .1) (c .enum-told .given .1),
     )
 
 returns : tie.Need-returns Inv-loop μ-loop
 returns c =
     let l = c .before in
-    let a = l .before .before .args in
+    let a = l .before .before .before .args in
+    let p = l .loop .inv .1 in
     record {
-      are = gather-end (codes (a .slots)) asButton buttonSlots (l .loop .i) _ (omega arith) (l .loop .inv .1);
-      most = omega (arith, l .loop .inv .1 .most);
+      are = gather-end (a .list .now) (codes (a .slots)) asButton buttonSlots (l .loop .i) _ (omega arith) p;
+      most = omega (arith, p .most);
+      placed = p .placed;
     }
 
 pub filled-buttons-spec : {M : Type 1} → statement M
@@ -68,10 +118,20 @@ filled-buttons-spec =
     μ-loop
     new-requires
     loop-holds
-    cast-t6
-    button-requires
-    also-requires
+    cast-t10
     add-i
+    button-requires
+    enum-known-code
+    new-requires-2
+    mul-t14
+    element-set-from-filled
+    find-code-requires
+    mul-filled
+    element-write-filled
+    add-filled
     loop-less
     loop-again
+    enum-told
+    loop-less-2
+    loop-again-2
     returns)

@@ -12,39 +12,38 @@ ident-of-requires c κs = search needs
 
 add-result : tie.Need-add-result
 add-result c =
-    let a = c .before .before .before .before .args in
+    let a = c .before .before .args in
     omega (arith, ap (λ (x : Ident). x .len) (c .before .ident-of .ensures), ident-short (a .e .element))
-
-find-code-requires : tie.Need-find-code-requires
-find-code-requires c κs = search needs
 
 index-len-requires : tie.Need-index-len-requires
 index-len-requires c κs = search needs
 
 add-result-2 : tie.Need-add-result-2
 add-result-2 c =
-    let a = c .before .before .before .before .before .before .args in
+    let s = c .before .before .before in
+    let a = s .args in
     omega (
       arith,
-      ap (λ (x : Ident). x .len) (c .before .before .before .ident-of .ensures),
+      ap (λ (x : Ident). x .len) (c .before .before .ident-of .ensures),
       ident-short (a .e .element),
-      rw (c .before .find-code .ensures) at (c .index-len .ensures),
-      index-short (a .list .now) (a .e) (c .before .before .before .before .before .before .pre),
+      c .index-len .ensures,
+      index-short (a .n) (s .pre),
     )
 
 add-result-3 : tie.Need-add-result-3
 add-result-3 c =
-    let a = c .before .before .before .before .before .before .args in
+    let s = c .before .before .before in
+    let a = s .args in
     omega (
       arith,
-      ap (λ (x : Ident). x .len) (c .before .before .before .ident-of .ensures),
+      ap (λ (x : Ident). x .len) (c .before .before .ident-of .ensures),
       ident-short (a .e .element),
-      rw (c .before .find-code .ensures) at (c .index-len .ensures),
-      index-short (a .list .now) (a .e) (c .before .before .before .before .before .before .pre),
+      c .index-len .ensures,
+      index-short (a .n) (s .pre),
     )
 
 returns : tie.Need-returns
-returns c = rw (c .before .before .before .ident-of .ensures, c .index-len .ensures, c .before .find-code .ensures)
+returns c = rw (c .before .before .ident-of .ensures, c .index-len .ensures)
 
 pub pair-len-spec : {M : Type 1} → statement M
 pair-len-spec =
@@ -52,7 +51,6 @@ pair-len-spec =
     (tie.spec
     ident-of-requires
     add-result
-    find-code-requires
     index-len-requires
     add-result-2
     add-result-3

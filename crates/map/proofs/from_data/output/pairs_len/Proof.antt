@@ -7,7 +7,7 @@ use lib.ListN.{length, drop, getD}
 use Rattle.line.proofs.MapLaws.{entries-long, past}
 use Rattle.map.specs.Slots.{buttonSlots}
 use Rattle.map.specs.Inner.{heldIn, pairsLength}
-use Rattle.map.proofs.LengthLaws.{pair-short, lengths-next, lengths-end}
+use Rattle.map.proofs.LengthLaws.{place-le, pair-short, lengths-next, lengths-end}
 use Rattle.map.proofs.from_data.output.pairs_len.Statement.{statement}
 use Rattle.map.proofs.from_data.output.pairs_len.Tie as tie
 
@@ -29,19 +29,35 @@ mul-e c = search needs
 element-copy-out-e : tie.Need-element-copy-out-e Inv-loop μ-loop
 element-copy-out-e c = search needs
 
+mul-pair-len : tie.Need-mul-pair-len Inv-loop μ-loop
+mul-pair-len c = search needs
+
+element-copy-out-pair-len : tie.Need-element-copy-out-pair-len Inv-loop μ-loop
+element-copy-out-pair-len c = search needs
+
 pair-len-requires : tie.Need-pair-len-requires Inv-loop μ-loop
-pair-len-requires c κs = c .before .before .before .before .pre .1
+pair-len-requires c κs =
+    let l = c .before .before .before in
+    let s = l .before .before in
+    let a = s .args in
+    omega (
+      arith,
+      s .pre .1 .at (l .loop .i) past (omega arith),
+      place-le (a .list .now) (getD (a .t2 .entries) (l .loop .i) past),
+      s .pre .2,
+    )
 
 add-len : tie.Need-add-len Inv-loop μ-loop
 add-len c =
-    let l = c .before .before .before in
-    let a = l .before .before .args in
+    let l = c .before .before .before .before in
+    let s = l .before .before in
+    let a = s .args in
+    let r = rw (s .pre .1 .at (l .loop .i) past (omega arith)) at (c .pair-len .ensures) in
     omega (
       arith,
       l .loop .inv .2,
-      c .pair-len .ensures,
-      pair-short (a .list .now)
-          (getD (a .t2 .entries) (l .loop .i) past) (l .before .before .pre .1),
+      r,
+      pair-short (a .list .now) (getD (a .t2 .entries) (l .loop .i) past) (s .pre .2),
     )
 
 add-i : tie.Need-add-i Inv-loop μ-loop
@@ -52,14 +68,16 @@ loop-less c = search needs
 
 loop-again : tie.Need-loop-again Inv-loop μ-loop
 loop-again c =
-    let l = c .before .before .before in
-    let a = l .before .before .args in
+    let l = c .before .before .before .before in
+    let s = l .before .before in
+    let a = s .args in
     let n : length (a .t2 .entries) ≡ buttonSlots = search (needs, entries-long) in
     let w = lengths-next (a .list .now) (a .t2) (l .loop .i) past (omega arith) (omega arith) in
-    let s = pair-short (a .list .now) (getD (a .t2 .entries) (l .loop .i) past) (l .before .before .pre .1) in (
+    let r = rw (s .pre .1 .at (l .loop .i) past (omega arith)) at (c .pair-len .ensures) in
+    let z = pair-short (a .list .now) (getD (a .t2 .entries) (l .loop .i) past) (s .pre .2) in (
       omega arith,
-      omega (arith, c .pair-len .ensures),
-      omega (arith, c .pair-len .ensures),
+      omega (arith, r),
+      omega (arith, r),
     )
 
 returns : tie.Need-returns Inv-loop μ-loop
@@ -77,6 +95,8 @@ pairs-len-spec =
     loop-holds
     mul-e
     element-copy-out-e
+    mul-pair-len
+    element-copy-out-pair-len
     pair-len-requires
     add-len
     add-i

@@ -1,9 +1,7 @@
 -- Three puts, one after the other. Assumes nothing.
-use mathlib.Core.List.{_++_}
 use Rattle.text.specs.Bytes.{byte}
-use Rattle.map.specs.Build.{filledButtons, filledAxes}
-use Rattle.map.specs.Inner.{headText, pairFields, Room}
-use Rattle.map.proofs.OutputLaws.{room-first, room-second, room-third, three-put, line-parts, line-room}
+use Rattle.map.specs.Inner.{heldIn, headText, pairFields}
+use Rattle.map.proofs.OutputLaws.{room-first, room-second, room-third, three-put}
 use borrow.Author.Needs.{needs}
 use Rattle.map.proofs.from_data.output.put_line.Statement.{statement}
 use Rattle.map.proofs.from_data.output.put_line.Tie as tie
@@ -14,47 +12,35 @@ put-head-requires c κs =
     let a = s .args in
     let l = a .out .now in
     let h = headText (a .uuid) (a .name .now) in
-    let x = pairFields (byte "b") (a .buttons .now) (filledButtons (a .slots)) in
-    let y = pairFields (byte "a") (a .axes .now) (filledAxes (a .slots)) in
-    let f : Room l 0 ((h ++ x) ++ y) =
-    line-room (a .slots) (a .buttons .now) (a .axes .now) (a .name .now) (a .uuid) l (s .pre) in
-    room-first l 0 h x y f
-
-filled-buttons-requires : tie.Need-filled-buttons-requires
-filled-buttons-requires c κs = search needs
+    let x = pairFields (byte "b") (a .buttons .now) (heldIn (a .first)) in
+    let y = pairFields (byte "a") (a .axes .now) (heldIn (a .last)) in
+    room-first l 0 h x y (s .pre .1)
 
 put-pairs-requires : tie.Need-put-pairs-requires
 put-pairs-requires c κs =
-    let head = c .before .before .before .before in
+    let head = c .before .before .before in
     let s = head .before .before .before .before .before .before in
     let a = s .args in
     let l = a .out .now in
     let h = headText (a .uuid) (a .name .now) in
-    let x = pairFields (byte "b") (a .buttons .now) (filledButtons (a .slots)) in
-    let y = pairFields (byte "a") (a .axes .now) (filledAxes (a .slots)) in
-    let f : Room l 0 ((h ++ x) ++ y) =
-    line-room (a .slots) (a .buttons .now) (a .axes .now) (a .name .now) (a .uuid) l (s .pre) in
-    let b = c .filled-buttons .ensures in
-    (b .most, rw (b .are) (room-second l 0 h x y f _ _ (head .put-head .ensures)))
-
-filled-axes-requires : tie.Need-filled-axes-requires
-filled-axes-requires c κs = search needs
+    let x = pairFields (byte "b") (a .buttons .now) (heldIn (a .first)) in
+    let y = pairFields (byte "a") (a .axes .now) (heldIn (a .last)) in
+    (s .pre .0 .0, s .pre .0 .1, room-second l 0 h x y (s .pre .1) _ _ (head .put-head .ensures))
 
 put-pairs-requires-2 : tie.Need-put-pairs-requires-2
 put-pairs-requires-2 c κs =
-    let first = c .before .before .before .before in
-    let head = first .before .before .before .before .before in
+    let first = c .before .before .before in
+    let head = first .before .before .before .before in
     let s = head .before .before .before .before .before .before in
     let a = s .args in
     let l = a .out .now in
     let h = headText (a .uuid) (a .name .now) in
-    let x = pairFields (byte "b") (a .buttons .now) (filledButtons (a .slots)) in
-    let y = pairFields (byte "a") (a .axes .now) (filledAxes (a .slots)) in
-    let f : Room l 0 ((h ++ x) ++ y) =
-    line-room (a .slots) (a .buttons .now) (a .axes .now) (a .name .now) (a .uuid) l (s .pre) in
-    let b = c .filled-axes .ensures in
-    let w = rw (first .before .filled-buttons .ensures .are) at (first .put-pairs .ensures) in
-    (b .most, rw (b .are) (room-third l 0 h x y f _ _ (head .put-head .ensures) _ _ w))
+    let x = pairFields (byte "b") (a .buttons .now) (heldIn (a .first)) in
+    let y = pairFields (byte "a") (a .axes .now) (heldIn (a .last)) in (
+      s .pre .0 .2,
+      s .pre .0 .3,
+      room-third l 0 h x y (s .pre .1) _ _ (head .put-head .ensures) _ _ (first .put-pairs .ensures),
+    )
 
 same-length : tie.Need-same-length
 same-length c = search needs
@@ -62,29 +48,18 @@ same-length c = search needs
 returns : tie.Need-returns
 returns c =
     let last = c .before .before in
-    let first = last .before .before .before .before .before in
-    let head = first .before .before .before .before .before in
+    let first = last .before .before .before .before in
+    let head = first .before .before .before .before in
     let s = head .before .before .before .before .before .before in
     let a = s .args in
     let l = a .out .now in
     let h = headText (a .uuid) (a .name .now) in
-    let x = pairFields (byte "b") (a .buttons .now) (filledButtons (a .slots)) in
-    let y = pairFields (byte "a") (a .axes .now) (filledAxes (a .slots)) in
-    let f : Room l 0 ((h ++ x) ++ y) =
-    line-room (a .slots) (a .buttons .now) (a .axes .now) (a .name .now) (a .uuid) l (s .pre) in
-    let v = rw (first .before .filled-buttons .ensures .are) at (first .put-pairs .ensures) in
-    let w = rw (last .before .filled-axes .ensures .are) at (last .put-pairs2 .ensures) in
-    rw (line-parts (a .slots) (a .buttons .now) (a .axes .now) (a .name .now) (a .uuid))
-    (three-put l 0 h x y f _ _ (head .put-head .ensures) _ _ v _ _ w)
+    let x = pairFields (byte "b") (a .buttons .now) (heldIn (a .first)) in
+    let y = pairFields (byte "a") (a .axes .now) (heldIn (a .last)) in
+    three-put l 0 h x y (s .pre .1) _ _ (head .put-head .ensures) _ _ (first .put-pairs .ensures) _ _
+    (last .put-pairs2 .ensures)
 
 pub put-line-spec : {M : Type 1} → statement M
 put-line-spec =
     tie.close
-    (tie.spec
-    put-head-requires
-    filled-buttons-requires
-    put-pairs-requires
-    filled-axes-requires
-    put-pairs-requires-2
-    same-length
-    returns)
+    (tie.spec put-head-requires put-pairs-requires put-pairs-requires-2 same-length returns)

@@ -2,34 +2,28 @@
 use mathlib.Core.List.{[], _∷_}
 use Rattle.text.specs.Bytes.{byte}
 use Rattle.line.specs.Tables.{identText}
-use Rattle.map.specs.Lists.{placeOf}
 use Rattle.map.specs.Inner.{valueText}
 use Rattle.map.proofs.OutputLaws.{room-first, room-second, room-third, three-put}
 use borrow.Author.Needs.{needs}
 use Rattle.map.proofs.from_data.output.put_pair.Statement.{statement}
 use Rattle.map.proofs.from_data.output.put_pair.Tie as tie
 
-find-code-requires : tie.Need-find-code-requires
-find-code-requires c κs = search needs
-
 put-ident-requires : tie.Need-put-ident-requires
 put-ident-requires c κs =
-    let s = c .before .before .before .before .before in
+    let s = c .before .before in
     let a = s .args in
     let i = identText (a .e .element) in
-    let v = valueText (a .letter) (placeOf (a .e .code) (a .list .now)) in
+    let v = valueText (a .letter) (a .n) in
     room-first (a .out .now) (a .at) i v (byte "," ∷ []) (s .pre)
 
 put-value-requires : tie.Need-put-value-requires
 put-value-requires c κs =
     let ident = c .before .before .before in
-    let place = ident .before .before in
-    let s = place .before .before .before .before in
+    let s = ident .before .before .before in
     let a = s .args in
     let i = identText (a .e .element) in
-    let v = valueText (a .letter) (placeOf (a .e .code) (a .list .now)) in
-    rw (place .find-code .ensures)
-    (room-second (a .out .now) (a .at) i v (byte "," ∷ []) (s .pre) _ _ (ident .put-ident .ensures))
+    let v = valueText (a .letter) (a .n) in
+    room-second (a .out .now) (a .at) i v (byte "," ∷ []) (s .pre) _ _ (ident .put-ident .ensures)
 
 slice-aggregate-put-bytes : tie.Need-slice-aggregate-put-bytes
 slice-aggregate-put-bytes c = search needs
@@ -38,12 +32,11 @@ put-bytes-requires : tie.Need-put-bytes-requires
 put-bytes-requires c κs =
     let value = c .before .before .before .before in
     let ident = value .before .before .before .before in
-    let place = ident .before .before in
-    let s = place .before .before .before .before in
+    let s = ident .before .before .before in
     let a = s .args in
     let i = identText (a .e .element) in
-    let v = valueText (a .letter) (placeOf (a .e .code) (a .list .now)) in
-    let w = rw (place .find-code .ensures) at (value .put-value .ensures) in
+    let v = valueText (a .letter) (a .n) in
+    let w = value .put-value .ensures in
     room-third (a .out .now) (a .at) i v (byte "," ∷ []) (s .pre) _ _ (ident .put-ident .ensures) _ _ w
 
 same-length : tie.Need-same-length
@@ -54,12 +47,11 @@ returns c =
     let comma = c .before .before in
     let value = comma .before .before .before .before .before in
     let ident = value .before .before .before .before in
-    let place = ident .before .before in
-    let s = place .before .before .before .before in
+    let s = ident .before .before .before in
     let a = s .args in
     let i = identText (a .e .element) in
-    let v = valueText (a .letter) (placeOf (a .e .code) (a .list .now)) in
-    let w = rw (place .find-code .ensures) at (value .put-value .ensures) in
+    let v = valueText (a .letter) (a .n) in
+    let w = value .put-value .ensures in
     three-put (a .out .now) (a .at) i v (byte "," ∷ []) (s .pre) _ _ (ident .put-ident .ensures) _ _ w _ _
     (comma .put-bytes .ensures)
 
@@ -67,7 +59,6 @@ pub put-pair-spec : {M : Type 1} → statement M
 put-pair-spec =
     tie.close
     (tie.spec
-    find-code-requires
     put-ident-requires
     put-value-requires
     slice-aggregate-put-bytes

@@ -30,14 +30,21 @@ mul-e c = search needs
 element-copy-out-e : tie.Need-element-copy-out-e Inv-loop μ-loop
 element-copy-out-e c = search needs
 
+mul-put-pair : tie.Need-mul-put-pair Inv-loop μ-loop
+mul-put-pair c = search needs
+
+element-copy-out-put-pair : tie.Need-element-copy-out-put-pair Inv-loop μ-loop
+element-copy-out-put-pair c = search needs
+
 put-pair-requires : tie.Need-put-pair-requires Inv-loop μ-loop
 put-pair-requires c κs =
-    let l = c .before .before .before in
+    let l = c .before .before .before .before in
     let s = l .before .before .before in
     let a = s .args in
     let n : length (a .t5 .entries) ≡ buttonSlots = search (needs, entries-long) in
-    pairs-room (a .letter) (a .list .now) (a .t5) (a .out .now) (a .at) (s .pre .1) (l .loop .i) _ _ (l .loop .inv .1)
-    past (omega arith) (omega arith)
+    rw (s .pre .1 .at (l .loop .i) past (omega arith))
+    (pairs-room (a .letter) (a .list .now) (a .t5) (a .out .now) (a .at) (s .pre .2) (l .loop .i) _ _
+    (l .loop .inv .1) past (omega arith) (omega arith))
 
 add-i : tie.Need-add-i Inv-loop μ-loop
 add-i c = search needs
@@ -47,13 +54,14 @@ loop-less c = search needs
 
 loop-again : tie.Need-loop-again Inv-loop μ-loop
 loop-again c =
-    let l = c .before .before .before .before .before .before in
+    let l = c .before .before .before .before .before .before .before in
     let s = l .before .before .before in
     let a = s .args in
-    let n : length (a .t5 .entries) ≡ buttonSlots = search (needs, entries-long) in (
+    let n : length (a .t5 .entries) ≡ buttonSlots = search (needs, entries-long) in
+    let w = rw (s .pre .1 .at (l .loop .i) past (omega arith)) at (c .before .before .put-pair .ensures) in (
       omega arith,
-      pairs-turn (a .letter) (a .list .now) (a .t5) (a .out .now) (a .at) (s .pre .1) (l .loop .i) _ _
-          (l .loop .inv .1) past (omega arith) (omega arith) _ _ (c .before .before .put-pair .ensures),
+      pairs-turn (a .letter) (a .list .now) (a .t5) (a .out .now) (a .at) (s .pre .2) (l .loop .i) _ _
+          (l .loop .inv .1) past (omega arith) (omega arith) _ _ w,
     )
 
 same-length : tie.Need-same-length Inv-loop μ-loop
@@ -61,7 +69,7 @@ same-length c =
     let l = c .before in
     let s = l .before .before .before in
     let a = s .args in
-    pairs-length (a .letter) (a .list .now) (a .t5) (a .out .now) (a .at) (s .pre .1) (l .loop .i) _ _ (l .loop .inv .1)
+    pairs-length (a .letter) (a .list .now) (a .t5) (a .out .now) (a .at) (s .pre .2) (l .loop .i) _ _ (l .loop .inv .1)
 
 returns : tie.Need-returns Inv-loop μ-loop
 returns c =
@@ -79,6 +87,8 @@ put-pairs-spec =
     loop-holds
     mul-e
     element-copy-out-e
+    mul-put-pair
+    element-copy-out-put-pair
     put-pair-requires
     add-i
     loop-less

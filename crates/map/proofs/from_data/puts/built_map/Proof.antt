@@ -1,5 +1,5 @@
 -- The puts of the buttons and of the axes are those of both, and they fit. Assumes nothing.
-use Rattle.map.proofs.PutsLaws.{built}
+use Rattle.map.proofs.PutsLaws.{put-map}
 use borrow.Author.Needs.{needs}
 use Rattle.map.proofs.from_data.puts.built_map.Statement.{statement}
 use Rattle.map.proofs.from_data.puts.built_map.Tie as tie
@@ -7,17 +7,11 @@ use Rattle.map.proofs.from_data.puts.built_map.Tie as tie
 slice-aggregate-put-all : tie.Need-slice-aggregate-put-all
 slice-aggregate-put-all c = search needs
 
-filled-buttons-requires : tie.Need-filled-buttons-requires
-filled-buttons-requires c κs = search needs
-
 put-all-requires : tie.Need-put-all-requires
 put-all-requires c κs = search needs
 
 slice-aggregate-put-all-2 : tie.Need-slice-aggregate-put-all-2
 slice-aggregate-put-all-2 c = search needs
-
-filled-axes-requires : tie.Need-filled-axes-requires
-filled-axes-requires c κs = search needs
 
 put-all-requires-2 : tie.Need-put-all-requires-2
 put-all-requires-2 c κs = search needs
@@ -31,23 +25,19 @@ entries-of-requires c κs = search needs
 returns : tie.Need-returns
 returns c =
     let second = c .before .before .before in
-    let axes = second .before in
-    let first = axes .before .before .before in
-    let buttons = first .before in
-    let a = buttons .before .before .before .args in
-    built (a .slots) (a .name .now) (buttons .filled-buttons .result) (axes .filled-axes .result) _ _ _ _ _ _
-    (buttons .filled-buttons .ensures) (first .put-all .ensures) (axes .filled-axes .ensures) (second .put-all2 .ensures)
-    (c .entries-of .ensures)
+    let first = second .before .before .before in
+    let s = first .before .before in
+    let a = s .args in
+    put-map (a .first) (a .last) _ _ _ _ _ _ _ (s .pre .0) (first .put-all .ensures) (s .pre .1)
+    (second .put-all2 .ensures) (c .entries-of .ensures)
 
 pub built-map-spec : {M : Type 1} → statement M
 built-map-spec =
     tie.close
     (tie.spec
     slice-aggregate-put-all
-    filled-buttons-requires
     put-all-requires
     slice-aggregate-put-all-2
-    filled-axes-requires
     put-all-requires-2
     slice-aggregate-entries-of
     entries-of-requires
