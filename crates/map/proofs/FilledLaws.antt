@@ -6,6 +6,7 @@ use mathlib.Core.Logic.{⊎-elim}
 use mathlib.Core.List.{List, [], _∷_, _++_, append-assoc, append-nil}
 use native.Mathlib.Numerals.{add-one}
 use native.Mathlib.Omega.{arith}
+use borrow.Author.Tests.{lt-ltb}
 use lib.ListN.{length, drop, getD, set, length-set, length-replicate}
 use lib.Seq.{drop-cons, getD-take, take-suc-set, length-take-le, getD-set-same, getD-set-other}
 use Rattle.text.proofs.ListLaws.{lt-or-le}
@@ -18,7 +19,7 @@ use Rattle.map.specs.declared.from_data.filled.Filled.{Filled}
 use Rattle.map.specs.declared.mapping_data.MappingData.{MappingData}
 use Rattle.map.specs.declared.mapping_data.SlotCode.{SlotCode}
 use Rattle.map.specs.declared.mapping_data.SlotCode.the-variants.{Is, Nothing}
-use Rattle.map.specs.Slots.{buttonSlots, axisSlots, buttonOf, axisOf}
+use Rattle.map.specs.Slots.{buttonSlots, axisSlots, emptySlot, codeIn, buttonOf, axisOf}
 use Rattle.map.specs.Build.{also, filledFrom, filledButtons, filledAxes}
 use Rattle.map.specs.Lists.{placeOf}
 use Rattle.map.specs.Inner.{heldIn, noneFilled, PlacedIn}
@@ -66,6 +67,16 @@ module _ (codes : List ℕ) where
               (λ ge. let z : f .count ≡ i = omega arith in subst (λ (j : ℕ). Here d j) z (here d))
               (lt-or-le i (f .count));
         }
+
+-- ---- a slot that is read by its number
+module _ (d : MappingData) (i : ℕ) (s : SlotCode) where
+  pub button-at : i < buttonSlots → s ≡ codeIn (getD (d .buttons) i emptySlot) → s ≡ buttonOf d (record { 0 = i })
+  unfolding buttonOf
+  button-at h e = rw (lt-ltb _ _ h) e
+
+  pub axis-at : i < axisSlots → s ≡ codeIn (getD (d .axes) i emptySlot) → s ≡ axisOf d (record { 0 = i })
+  unfolding axisOf
+  axis-at h e = rw (lt-ltb _ _ h) e
 
 -- ---- all slots, one after the other
 also-rest : (s : SlotCode) (to : AxisOrBtn) (rest : List Entry) → also s to rest ≡ also s to [] ++ rest

@@ -37,9 +37,10 @@ pub fn filled_buttons(slots: MappingData, list: &[u32]) -> Filled
     let mut filled = Filled::new();
     let mut i: usize = 0;
     while i < BUTTONS {
+        let slot = slots.buttons[i];
         let b = Button(i as u16);
         i += 1;
-        match slots.button(b) {
+        match slot.code() {
             SlotCode::Is(code) => {
                 let n = filled.count;
                 filled.entries[n] = Entry::new(code, AxisOrBtn::Btn(b));
@@ -58,9 +59,10 @@ pub fn filled_axes(slots: MappingData, list: &[u32]) -> Filled
     let mut filled = Filled::new();
     let mut i: usize = 0;
     while i < AXES {
+        let slot = slots.axes[i];
         let a = Axis(i as u16);
         i += 1;
-        match slots.axis(a) {
+        match slot.code() {
             SlotCode::Is(code) => {
                 let n = filled.count;
                 filled.entries[n] = Entry::new(code, AxisOrBtn::Axis(a));

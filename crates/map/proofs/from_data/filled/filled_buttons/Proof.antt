@@ -8,7 +8,7 @@ use Rattle.line.specs.Tables.{asButton}
 use Rattle.map.specs.declared.mapping_data.MappingData.{MappingData}
 use Rattle.map.specs.declared.mapping_data.SlotCode.{SlotCode}
 use Rattle.map.specs.Slots.{buttonSlots, buttonOf}
-use Rattle.map.proofs.FilledLaws.{Gathering, gather-none, gather-empty, gather-filled, gather-end}
+use Rattle.map.proofs.FilledLaws.{Gathering, gather-none, gather-empty, gather-filled, gather-end, button-at}
 use Rattle.map.proofs.from_data.filled.filled_buttons.Statement.{statement}
 use Rattle.map.proofs.from_data.filled.filled_buttons.Tie as tie
 
@@ -16,10 +16,10 @@ abbrev codes : MappingData → ℕ → SlotCode
 codes slots k = buttonOf slots (record { 0 = k })
 
 abbrev Inv-loop : tie.InvT-loop
-Inv-loop slots list filled₀ i₀ filled i = (i ≤ buttonSlots) × Gathering list (codes slots) asButton buttonSlots i filled
+Inv-loop list slots filled₀ i₀ filled i = (i ≤ buttonSlots) × Gathering list (codes slots) asButton buttonSlots i filled
 
 abbrev μ-loop : tie.MeasureT-loop
-μ-loop slots list filled₀ i₀ filled i = buttonSlots - i
+μ-loop list slots filled₀ i₀ filled i = buttonSlots - i
 
 new-requires : tie.Need-new-requires Inv-loop μ-loop
 new-requires c κs = search needs
@@ -28,17 +28,23 @@ loop-holds : tie.Need-loop-holds Inv-loop μ-loop
 loop-holds c =
     let a = c .before .before .args in (
       omega arith,
-      gather-none (a .list .now) (codes (a .slots)) asButton buttonSlots (c .new .result) (c .new .ensures),
+      gather-none (a .list .now) (codes (a .t1)) asButton buttonSlots (c .new .result) (c .new .ensures),
     )
 
-cast-t10 : tie.Need-cast-t10 Inv-loop μ-loop
-cast-t10 c = search needs
+mul-slot : tie.Need-mul-slot Inv-loop μ-loop
+mul-slot c = search needs
+
+element-copy-out-slot : tie.Need-element-copy-out-slot Inv-loop μ-loop
+element-copy-out-slot c = search needs
+
+cast-t16 : tie.Need-cast-t16 Inv-loop μ-loop
+cast-t16 c = search needs
 
 add-i : tie.Need-add-i Inv-loop μ-loop
 add-i c = search needs
 
-button-requires : tie.Need-button-requires Inv-loop μ-loop
-button-requires c κs = search needs
+code-requires : tie.Need-code-requires Inv-loop μ-loop
+code-requires c κs = search needs
 
 enum-known-code : tie.Need-enum-known-code Inv-loop μ-loop
 enum-known-code c = search needs
@@ -46,27 +52,27 @@ enum-known-code c = search needs
 new-requires-2 : tie.Need-new-requires-2 Inv-loop μ-loop
 new-requires-2 c κs = search needs
 
-mul-t14 : tie.Need-mul-t14 Inv-loop μ-loop
-mul-t14 c = let p = c .before .before .before .before .before .before .loop .inv .1 in omega (arith, p .most)
+mul-t20 : tie.Need-mul-t20 Inv-loop μ-loop
+mul-t20 c = let p = c .before .before .before .before .before .before .before .loop .inv .1 in omega (arith, p .most)
 
 element-set-from-filled : tie.Need-element-set-from-filled Inv-loop μ-loop
 element-set-from-filled c =
-    let l = c .before .before .before .before .before .before in
+    let l = c .before .before .before .before .before .before .before in
     omega (arith, l .loop .inv .1 .most, l .loop .inv .1 .room .0)
 
 find-code-requires : tie.Need-find-code-requires Inv-loop μ-loop
 find-code-requires c κs = search needs
 
 mul-filled : tie.Need-mul-filled Inv-loop μ-loop
-mul-filled c = let p = c .before .before .before .before .before .before .before .loop .inv .1 in omega (arith, p .most)
+mul-filled c = let p = c .before .before .before .before .before .before .before .before .loop .inv .1 in omega (arith, p .most)
 
 element-write-filled : tie.Need-element-write-filled Inv-loop μ-loop
 element-write-filled c =
-    let l = c .before .before .before .before .before .before .before in
+    let l = c .before .before .before .before .before .before .before .before in
     omega (arith, l .loop .inv .1 .most, l .loop .inv .1 .room .1)
 
 add-filled : tie.Need-add-filled Inv-loop μ-loop
-add-filled c = let p = c .before .before .before .before .before .before .before .loop .inv .1 in omega (arith, p .most)
+add-filled c = let p = c .before .before .before .before .before .before .before .before .loop .inv .1 in omega (arith, p .most)
 
 loop-less : tie.Need-loop-less Inv-loop μ-loop
 loop-less c = search needs
@@ -75,11 +81,11 @@ loop-again : tie.Need-loop-again Inv-loop μ-loop
 loop-again c =
     let told = c .before .before .before in
     let slot = told .before .before in
-    let l = slot .before .before in
+    let l = slot .before .before .before in
     let a = l .before .before .before .args in (
       omega arith,
-      gather-filled (a .list .now) (codes (a .slots)) asButton buttonSlots (l .loop .i) (l .loop .filled) _ (omega arith)
-          (slot .button .ensures) (l .loop .inv .1) _ _ _ (told .code .given .1) (c .before .new2 .ensures)
+      gather-filled (a .list .now) (codes (a .t1)) asButton buttonSlots (l .loop .i) (l .loop .filled) _ (omega arith)
+          (button-at (a .t1) (l .loop .i) _ (omega arith) (slot .code .ensures)) (l .loop .inv .1) _ _ _ (told .code2 .given .1) (c .before .new2 .ensures)
           (c .find-code .ensures) (omega arith),
     )
 
@@ -92,11 +98,11 @@ loop-less-2 c = search needs
 loop-again-2 : tie.Need-loop-again-2 Inv-loop μ-loop
 loop-again-2 c =
     let slot = c .before .before in
-    let l = slot .before .before in
+    let l = slot .before .before .before in
     let a = l .before .before .before .args in (
       omega arith,
-      gather-empty (a .list .now) (codes (a .slots)) asButton buttonSlots (l .loop .i) (l .loop .filled) _ (omega arith)
-          (slot .button .ensures) (l .loop .inv .1) (c .enum-told .given .1),
+      gather-empty (a .list .now) (codes (a .t1)) asButton buttonSlots (l .loop .i) (l .loop .filled) _ (omega arith)
+          (button-at (a .t1) (l .loop .i) _ (omega arith) (slot .code .ensures)) (l .loop .inv .1) (c .enum-told .given .1),
     )
 
 returns : tie.Need-returns Inv-loop μ-loop
@@ -105,7 +111,7 @@ returns c =
     let a = l .before .before .before .args in
     let p = l .loop .inv .1 in
     record {
-      are = gather-end (a .list .now) (codes (a .slots)) asButton buttonSlots (l .loop .i) _ (omega arith) p;
+      are = gather-end (a .list .now) (codes (a .t1)) asButton buttonSlots (l .loop .i) _ (omega arith) p;
       most = omega (arith, p .most);
       placed = p .placed;
     }
@@ -118,12 +124,14 @@ filled-buttons-spec =
     μ-loop
     new-requires
     loop-holds
-    cast-t10
+    mul-slot
+    element-copy-out-slot
+    cast-t16
     add-i
-    button-requires
+    code-requires
     enum-known-code
     new-requires-2
-    mul-t14
+    mul-t20
     element-set-from-filled
     find-code-requires
     mul-filled
