@@ -2,6 +2,7 @@ pub mod DefaultLaws
 pub mod FilledLaws
 mod MissingLaws
 pub mod OutputLaws
+pub mod NameLaws
 pub mod LengthLaws
 pub mod PutsLaws
 pub mod CheckLaws

@@ -2,6 +2,8 @@
 use crate::from_data::BUILT_MAX;
 use crate::from_data::NAME_START;
 use crate::from_data::filled::Filled;
+use crate::from_data::names::known_name;
+use crate::from_data::names::put_name;
 use line::ev::AxisOrBtn;
 use line::mapping::Entry;
 use line::tables::ident_of;
@@ -106,6 +108,18 @@ fn put_uuid(out: &mut [u8], at: usize, uuid: Uuid) -> usize
 }
 
 fn put_ident(out: &mut [u8], at: usize, element: AxisOrBtn) -> usize
+    requires { ⌜ at + length (identText element) ≤ length (now out) ⌝ }
+    ensures { λ r. ⌜ Put (now (out .entry)) at (identText element) r (now (out .exit)) ⌝ }
+{
+    let name = known_name(element);
+    if name.some == 0 {
+        return put_sought(out, at, element);
+    }
+    put_name(out, at, name)
+}
+
+// An ident as the tables have it.
+fn put_sought(out: &mut [u8], at: usize, element: AxisOrBtn) -> usize
     requires { ⌜ at + length (identText element) ≤ length (now out) ⌝ }
     ensures { λ r. ⌜ Put (now (out .entry)) at (identText element) r (now (out .exit)) ⌝ }
 {

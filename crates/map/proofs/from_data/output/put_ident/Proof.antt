@@ -1,49 +1,47 @@
--- The bytes up to the ident's length are the ident. Assumes nothing.
-use mathlib.Core.Path.{sym, ap, _∙_}
+-- A name that is told is the ident; the others are sought. Assumes nothing.
+use mathlib.Core.Path.{ap}
 use native.Mathlib.Omega.{arith}
 use lib.ListN.{length}
-use Rattle.line.specs.declared.tables.Ident.{Ident}
-use Rattle.map.proofs.OutputLaws.{ident-part, ident-in}
 use borrow.Author.Needs.{needs}
 use Rattle.map.proofs.from_data.output.put_ident.Statement.{statement}
 use Rattle.map.proofs.from_data.output.put_ident.Tie as tie
 
-ident-of-requires : tie.Need-ident-of-requires
-ident-of-requires c κs = search needs
+known-name-requires : tie.Need-known-name-requires
+known-name-requires c κs = search needs
 
-array-share-prefix-name : tie.Need-array-share-prefix-name
-array-share-prefix-name c =
-    ident-in (c .before .before .before .before .args .element) (c .before .before .ident-of .result)
-    (c .before .before .ident-of .ensures)
-
-slice-aggregate-put-bytes : tie.Need-slice-aggregate-put-bytes
-slice-aggregate-put-bytes c =
-    let i = c .before .before .before .ident-of in
-    let e = c .before .before .before .before .before .args .element in
-    ap (λ (x : Ident). x .len) (i .ensures) ∙ sym (ap length (ident-part e (i .result) (i .ensures)))
-
-put-bytes-requires : tie.Need-put-bytes-requires
-put-bytes-requires c κs =
-    let i = c .before .before .before .ident-of in
-    let s = c .before .before .before .before .before in
-    omega (arith, ap length (ident-part (s .args .element) (i .result) (i .ensures)), s .pre)
+put-sought-requires : tie.Need-put-sought-requires
+put-sought-requires c κs = search needs
 
 same-length : tie.Need-same-length
 same-length c = search needs
 
 returns : tie.Need-returns
-returns c =
-    let i = c .before .before .before .before .before .before .ident-of in
-    let a = c .before .before .before .before .before .before .before .before .args in
-    rw (ident-part (a .element) (i .result) (i .ensures)) at (c .before .before .put-bytes .ensures)
+returns c = search needs
+
+put-name-requires : tie.Need-put-name-requires
+put-name-requires c κs =
+    let told = c .before .before .before in
+    let s = told .before .before in
+    let e = told .known-name .ensures (c .before .if1 .left) in
+    omega (arith, s .pre, ap length e)
+
+same-length-2 : tie.Need-same-length-2
+same-length-2 c = search needs
+
+returns-2 : tie.Need-returns-2
+returns-2 c =
+    let test = c .before .before .before .before in
+    let e = test .before .before .known-name .ensures (test .if1 .left) in
+    rw e at (c .before .before .put-name .ensures)
 
 pub put-ident-spec : {M : Type 1} → statement M
 put-ident-spec =
     tie.close
     (tie.spec
-    ident-of-requires
-    array-share-prefix-name
-    slice-aggregate-put-bytes
-    put-bytes-requires
+    known-name-requires
+    put-sought-requires
     same-length
-    returns)
+    returns
+    put-name-requires
+    same-length-2
+    returns-2)
