@@ -1,8 +1,10 @@
 -- Maps as numbers at the C boundary, and back.
 -- The contracts of the exports rest on these definitions; they assume nothing.
-use Prim.Native.Nat.{ℕ}
+use Prim.Native.Nat.{ℕ, _-_, _≤_}
+use mathlib.Core.Path.{_≡_}
 use mathlib.Core.Bool.{true, false}
-use mathlib.Core.List.{map}
+use mathlib.Core.List.{List, map}
+use lib.ListN.{drop, replicate}
 use Rattle.line.specs.declared.mapping.Entry.{Entry}
 use Rattle.line.specs.declared.mapping.Mapping.{Mapping}
 use Rattle.line.specs.declared.mapping.PutAnswer.{PutAnswer}
@@ -15,6 +17,7 @@ use Rattle.line.specs.declared.tables.KeyElement.the-variants as Ke
 use Rattle.line.specs.declared.tables.Ident.{Ident}
 use Rattle.line.specs.declared.reading.SdlMapping.{SdlMapping}
 use Rattle.line.specs.Elements.{codeOf}
+use Rattle.line.specs.Maps.{CODES_MAX, unusedEntry}
 use Rattle.line.specs.Refusals.{putOutcome, readingOutcome}
 use Rattle.exports.specs.declared.flat.FlatElement.{FlatElement}
 use Rattle.exports.specs.declared.flat_mapping.FlatEntry.{FlatEntry}
@@ -42,6 +45,10 @@ flatMapping m =
       «is_default» = m .«is_default»;
       «hats_mapped» = m .«hats_mapped»;
     }
+
+-- from n on the entries of a map are unused: what a private function needs
+abbrev pub Unused : ℕ → List Entry → Type 0
+Unused n es = (n ≤ CODES_MAX) × (drop n es ≡ replicate (CODES_MAX - n) unusedEntry)
 
 unfoldable pub mappingIn : FlatMapping → Mapping
 mappingIn m =

@@ -8,6 +8,7 @@ use crate::flat::uuid_of;
 use crate::flat_data::FlatData;
 use crate::flat_data::data_of;
 use crate::flat_mapping::FlatMapping;
+use crate::flat_mapping::flat_made;
 use crate::flat_mapping::flat_mapping;
 use map::error::MappingAnswer;
 use map::error::MappingError;
@@ -19,6 +20,7 @@ ghost use Rattle.map.specs.Build.{buildOf, outputOf};
 ghost use Rattle.map.specs.Refusals.{mappingRefusal};
 ghost use lib.ListN.{length};
 ghost use Rattle.exports.specs.Flat.{flatOutcome, uuidIn};
+ghost use Rattle.exports.specs.FlatMaps.{Unused};
 ghost use Rattle.exports.specs.FlatSlots.{dataIn, flatAnswer, flatDefault, flatBuilt};
 
 // A refused one has the empty map.
@@ -80,13 +82,14 @@ pub extern "C" fn raspteal_default(buttons: &[u32], axes: &[u32]) -> FlatDefault
 }
 
 fn flat_built(b: Built) -> FlatBuilt
+    requires { ⌜ Unused (b .map .count) (b .map .entries) ⌝ }
     ensures { λ r. ⌜ r ≡ flatBuilt b ⌝ }
 {
     let answer = b.answer;
     let map = b.map;
     FlatBuilt {
         refusal: flat_mapping_answer(answer),
-        map: flat_mapping(map),
+        map: flat_made(map),
         len: b.len,
     }
 }

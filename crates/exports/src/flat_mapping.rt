@@ -8,7 +8,7 @@ use line::mapping::Entry;
 use line::mapping::Mapping;
 ghost use mathlib.Core.Path.{_≡_};
 ghost use mathlib.Core.List.{map};
-ghost use Rattle.exports.specs.FlatMaps.{flatEntry, entryIn, flatMapping, mappingIn};
+ghost use Rattle.exports.specs.FlatMaps.{flatEntry, entryIn, flatMapping, mappingIn, Unused};
 
 #[repr(C)]
 pub struct FlatEntry {
@@ -65,6 +65,36 @@ pub fn flat_mapping(m: Mapping) -> FlatMapping
     FlatMapping {
         count: m.count,
         entries: flat_entries(entries),
+        name_start: m.name_start,
+        name_len: m.name_len,
+        is_default: m.is_default,
+        hats_mapped: m.hats_mapped,
+    }
+}
+
+// The entries of a map of which those from n on are unused.
+fn flat_first(entries: [Entry; CODES_MAX], n: usize) -> [FlatEntry; CODES_MAX]
+    requires { ⌜ Unused n entries ⌝ }
+    ensures { λ r. ⌜ r ≡ map flatEntry entries ⌝ }
+{
+    let mut out = [FlatEntry::UNUSED; CODES_MAX];
+    let mut i: usize = 0;
+    while i < n {
+        out[i] = flat_entry(entries[i]);
+        i += 1;
+    }
+    out
+}
+
+// A map that has nothing after its entries, as one that was built.
+pub fn flat_made(m: Mapping) -> FlatMapping
+    requires { ⌜ Unused (m .count) (m .entries) ⌝ }
+    ensures { λ r. ⌜ r ≡ flatMapping m ⌝ }
+{
+    let entries = m.entries;
+    FlatMapping {
+        count: m.count,
+        entries: flat_first(entries, m.count),
         name_start: m.name_start,
         name_len: m.name_len,
         is_default: m.is_default,

@@ -7,11 +7,11 @@ use Rattle.exports.proofs.build_calls.flat_built.Tie as tie
 flat-mapping-answer-requires : tie.Need-flat-mapping-answer-requires
 flat-mapping-answer-requires c κs = search needs
 
-flat-mapping-requires : tie.Need-flat-mapping-requires
-flat-mapping-requires c κs = search needs
+flat-made-requires : tie.Need-flat-made-requires
+flat-made-requires c κs = c .before .before .pre
 
 returns : tie.Need-returns
-returns c = simp (c .flat-mapping .ensures, c .before .flat-mapping-answer .ensures)
+returns c = simp (c .flat-made .ensures, c .before .flat-mapping-answer .ensures)
 
 pub flat-built-spec : {M : Type 1} → statement M
-flat-built-spec = tie.close (tie.spec flat-mapping-answer-requires flat-mapping-requires returns)
+flat-built-spec = tie.close (tie.spec flat-mapping-answer-requires flat-made-requires returns)

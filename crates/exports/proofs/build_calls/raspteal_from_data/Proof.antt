@@ -1,6 +1,10 @@
 -- The contract of the call, and that of the layout, give the result.
 -- Assumes nothing.
+use mathlib.Core.Path.{subst, sym}
 use borrow.Author.Needs.{needs}
+use Rattle.map.specs.declared.from_data.Built.{Built}
+use Rattle.exports.specs.FlatMaps.{Unused}
+use Rattle.exports.proofs.FlatLaws.{built-unused}
 use Rattle.exports.proofs.build_calls.raspteal_from_data.Statement.{statement}
 use Rattle.exports.proofs.build_calls.raspteal_from_data.Tie as tie
 
@@ -14,7 +18,9 @@ from-data-requires : tie.Need-from-data-requires
 from-data-requires c κs = search needs
 
 flat-built-requires : tie.Need-flat-built-requires
-flat-built-requires c κs = search needs
+flat-built-requires c κs =
+    subst (λ (b : Built). Unused (b .map .count) (b .map .entries)) (sym (c .before .before .from-data .ensures .0))
+    (built-unused _ _ _ _ _ _)
 
 same-length : tie.Need-same-length
 same-length c = search needs
