@@ -3,6 +3,7 @@ pub mod FilledLaws
 mod MissingLaws
 pub mod OutputLaws
 pub mod NameLaws
+pub mod DigitLaws
 pub mod LengthLaws
 pub mod PutsLaws
 pub mod CheckLaws

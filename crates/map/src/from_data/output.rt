@@ -93,10 +93,20 @@ fn put_bytes(out: &mut [u8], at: usize, v: &[u8]) -> usize
     upto(write_bytes(out, at, v))
 }
 
+// One digit or two are written here.
 fn put_index(out: &mut [u8], at: usize, n: usize) -> usize
     requires { ⌜ at + length (decimal n) ≤ length (now out) ⌝ }
     ensures { λ r. ⌜ Put (now (out .entry)) at (decimal n) r (now (out .exit)) ⌝ }
 {
+    if n < 10 {
+        out[at] = b'0' + (n % 10) as u8;
+        return at + 1;
+    }
+    if n < 100 {
+        out[at] = b'0' + (n / 10 % 10) as u8;
+        out[at + 1] = b'0' + (n % 10) as u8;
+        return at + 2;
+    }
     upto(write_index(out, at, n))
 }
 
