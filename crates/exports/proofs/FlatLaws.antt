@@ -70,7 +70,7 @@ laid-first n xs h =
     ∙ ap (λ (r : List Entry). map flatEntry r) (take-append-drop n xs)
 
 -- ---- a map that was made of its entries has nothing after them
-made-unused : (v : MapView) → length (v .list) ≤ CODES_MAX → Unused (toMap v .count) (toMap v .entries)
+pub made-unused : (v : MapView) → length (v .list) ≤ CODES_MAX → Unused (toMap v .count) (toMap v .entries)
 unfolding toMap
 made-unused v h = (h, drop-append-seam (v .list) (replicate (CODES_MAX - length (v .list)) unusedEntry))
 

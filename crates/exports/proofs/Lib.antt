@@ -1,2 +1,3 @@
 pub mod FlatLaws
+pub mod TidyLaws
 pub mod ListLaws

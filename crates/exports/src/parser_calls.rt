@@ -4,7 +4,7 @@ use crate::flat::flat_no_refusal;
 use crate::flat::flat_refusal;
 use crate::flat::flat_refusal_at;
 use crate::flat_mapping::FlatMapping;
-use crate::flat_mapping::flat_mapping;
+use crate::flat_mapping::flat_made;
 use crate::flat_token::FlatToken;
 use crate::flat_token::flat_answer;
 use crate::flat_token::flat_error;
@@ -98,7 +98,7 @@ pub extern "C" fn raspteal_parse_sdl_mapping(
     let map = read.map;
     FlatReading {
         refusal: flat_sdl_answer(answer),
-        map: flat_mapping(map),
+        map: flat_made(map),
     }
 }
 

@@ -1,6 +1,10 @@
 -- The contract of the call, and that of the layout, give the result.
 -- Assumes nothing.
+use mathlib.Core.Path.{subst, sym}
 use borrow.Author.Needs.{needs}
+use Rattle.line.specs.declared.reading.SdlMapping.{SdlMapping}
+use Rattle.exports.specs.FlatMaps.{Unused}
+use Rattle.exports.proofs.TidyLaws.{tidy-reading}
 use Rattle.exports.proofs.parser_calls.raspteal_parse_sdl_mapping.Statement.{statement}
 use Rattle.exports.proofs.parser_calls.raspteal_parse_sdl_mapping.Tie as tie
 
@@ -10,13 +14,17 @@ parse-sdl-mapping-requires c κs = search needs
 flat-sdl-answer-requires : tie.Need-flat-sdl-answer-requires
 flat-sdl-answer-requires c κs = search needs
 
-flat-mapping-requires : tie.Need-flat-mapping-requires
-flat-mapping-requires c κs = search needs
+flat-made-requires : tie.Need-flat-made-requires
+flat-made-requires c κs =
+    let read = c .before .before in
+    let a = read .before .before .before .before .args in
+    subst (λ (r : SdlMapping). Unused (r .map .count) (r .map .entries)) (sym (read .parse-sdl-mapping .ensures))
+    (tidy-reading (a .buttons .now) (a .axes .now) (a .line .now) .unused)
 
 returns : tie.Need-returns
 returns c =
     simp (
-      c .flat-mapping .ensures,
+      c .flat-made .ensures,
       c .before .flat-sdl-answer .ensures,
       c .before .before .before .parse-sdl-mapping .ensures,
     )
@@ -24,4 +32,4 @@ returns c =
 pub raspteal-parse-sdl-mapping-spec : {M : Type 1} → statement M
 raspteal-parse-sdl-mapping-spec =
     tie.close
-    (tie.spec parse-sdl-mapping-requires flat-sdl-answer-requires flat-mapping-requires returns)
+    (tie.spec parse-sdl-mapping-requires flat-sdl-answer-requires flat-made-requires returns)
