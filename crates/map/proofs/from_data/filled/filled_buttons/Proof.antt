@@ -53,7 +53,9 @@ new-requires-2 : tie.Need-new-requires-2 Inv-loop μ-loop
 new-requires-2 c κs = search needs
 
 mul-t20 : tie.Need-mul-t20 Inv-loop μ-loop
-mul-t20 c = let p = c .before .before .before .before .before .before .before .loop .inv .1 in omega (arith, p .most)
+mul-t20 c =
+    let p = c .before .before .before .before .before .before .before .loop .inv .1 in
+    omega (arith, p .most)
 
 element-set-from-filled : tie.Need-element-set-from-filled Inv-loop μ-loop
 element-set-from-filled c =
@@ -64,7 +66,9 @@ find-code-requires : tie.Need-find-code-requires Inv-loop μ-loop
 find-code-requires c κs = search needs
 
 mul-filled : tie.Need-mul-filled Inv-loop μ-loop
-mul-filled c = let p = c .before .before .before .before .before .before .before .before .loop .inv .1 in omega (arith, p .most)
+mul-filled c =
+    let p = c .before .before .before .before .before .before .before .before .loop .inv .1 in
+    omega (arith, p .most)
 
 element-write-filled : tie.Need-element-write-filled Inv-loop μ-loop
 element-write-filled c =
@@ -72,7 +76,9 @@ element-write-filled c =
     omega (arith, l .loop .inv .1 .most, l .loop .inv .1 .room .1)
 
 add-filled : tie.Need-add-filled Inv-loop μ-loop
-add-filled c = let p = c .before .before .before .before .before .before .before .before .loop .inv .1 in omega (arith, p .most)
+add-filled c =
+    let p = c .before .before .before .before .before .before .before .before .loop .inv .1 in
+    omega (arith, p .most)
 
 loop-less : tie.Need-loop-less Inv-loop μ-loop
 loop-less c = search needs
@@ -85,7 +91,8 @@ loop-again c =
     let a = l .before .before .before .args in (
       omega arith,
       gather-filled (a .list .now) (codes (a .t1)) asButton buttonSlots (l .loop .i) (l .loop .filled) _ (omega arith)
-          (button-at (a .t1) (l .loop .i) _ (omega arith) (slot .code .ensures)) (l .loop .inv .1) _ _ _ (told .code2 .given .1) (c .before .new2 .ensures)
+          (button-at (a .t1) (l .loop .i) _ (omega arith) (slot .code .ensures))
+          (l .loop .inv .1) _ _ _ (told .code2 .given .1) (c .before .new2 .ensures)
           (c .find-code .ensures) (omega arith),
     )
 
@@ -102,7 +109,8 @@ loop-again-2 c =
     let a = l .before .before .before .args in (
       omega arith,
       gather-empty (a .list .now) (codes (a .t1)) asButton buttonSlots (l .loop .i) (l .loop .filled) _ (omega arith)
-          (button-at (a .t1) (l .loop .i) _ (omega arith) (slot .code .ensures)) (l .loop .inv .1) (c .enum-told .given .1),
+          (button-at (a .t1) (l .loop .i) _ (omega arith) (slot .code .ensures))
+          (l .loop .inv .1) (c .enum-told .given .1),
     )
 
 returns : tie.Need-returns Inv-loop μ-loop

@@ -19,10 +19,14 @@ button-name-requires : tie.Need-button-name-requires
 button-name-requires c κs = search needs
 
 returns : tie.Need-returns
-returns c = subst (λ (x : AxisOrBtn). Tells x (c .axis-name .result)) (sym (c .before .before .e .given .1)) (c .axis-name .ensures)
+returns c =
+    subst (λ (x : AxisOrBtn). Tells x (c .axis-name .result))
+    (sym (c .before .before .e .given .1)) (c .axis-name .ensures)
 
 returns-2 : tie.Need-returns-2
-returns-2 c = subst (λ (x : AxisOrBtn). Tells x (c .button-name .result)) (sym (c .before .before .e2 .given .1)) (c .button-name .ensures)
+returns-2 c =
+    subst (λ (x : AxisOrBtn). Tells x (c .button-name .result))
+    (sym (c .before .before .e2 .given .1)) (c .button-name .ensures)
 
 pub known-name-spec : {M : Type 1} → statement M
 known-name-spec =
