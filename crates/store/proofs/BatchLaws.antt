@@ -78,7 +78,8 @@ module _ (n m : ℕ) (t s : List ℕ) (a : Table) (heads next : List ℕ) (f : F
           where
             go : Filed n m t s a′ heads′ next′ old f (under u l) hs r
                 → Comes n m t s a′ heads′ next′ old l hs (record { on = true; answer = A.Done; fill = r })
-            go (fits q c y) = goes (file (under u l) hs) (reach-room n m hs l u e (omega (arith, part-long)) true q) refl y
+            go (fits q c y) = goes (file (under u l) hs) (reach-room n m hs l u e (omega (arith, part-long)) true q)
+                refl y
             go (full q c y) = absurd (z c)
 
 pub wanted-part : (s : List ℕ) (at len : ℕ) (v p : UuidParse) → v ≡ wanted (take (at + len - at) (drop at s)) → v ≡ p
@@ -109,7 +110,8 @@ pub record Took (n m : ℕ) (t s : List ℕ) (a : Table) (heads next : List ℕ)
     (hs : List Held) : Type 0 where
   pub ks : List Held
   pub slotted : Slotted n m t s a heads next old f ks
-  pub run : (c : ℕ) → insertLines n m hs c (linesOf (drop from s)) ≡ insertLines n m ks (c + count) (linesOf (drop at s))
+  pub run : (c : ℕ) → insertLines n m hs c (linesOf (drop from s)) ≡ insertLines n m ks (c + count)
+      (linesOf (drop at s))
 
 pub record Taking (n m : ℕ) (t s : List ℕ) (a₀ : Table) (heads₀ next₀ : List ℕ) (from : ℕ) (f₀ : Fill) (a : Table)
     (heads next : List ℕ) (f : Fill) (at count : ℕ) : Type 0 where

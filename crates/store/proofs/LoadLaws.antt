@@ -27,7 +27,8 @@ use Rattle.store.proofs.HeldLaws.{texts-append}
 use Rattle.store.proofs.OnceLaws.{Listing, list-first, list-end, list-turn, twice-once}
 use Rattle.store.proofs.RecordLaws.{head-least, size-move}
 use Rattle.store.proofs.RowLaws.{Rest, first, Onward, ended, stands, onward, size-not, next-within}
-use Rattle.store.proofs.RowLaws.{sizes-append, sizes-cons, sizes-none, texts-sum, texts-cons, texts-none, texts-first}
+use Rattle.store.proofs.RowLaws.{sizes-append, sizes-cons, sizes-none}
+use Rattle.store.proofs.RowLaws.{texts-sum, texts-cons, texts-none, texts-first}
 use Rattle.store.proofs.SlotLaws.{living-same, slot-other, slot-new, more-long}
 
 -- the first n lines are written down, and the rest of the lines lies from `at` on
@@ -79,7 +80,8 @@ module _ (i : List ℕ) (at : ℕ) (a : Table) (heads next : List ℕ) (n used :
 
     module _ (head : Head) (e : head ≡ headAt (drop at i)) where
       pub load-end : head .size ≡ 0 → Bytes i → Loads i a heads next (record { count = n; end = at; used = used })
-      load-end z b t s hs d = go (w .loaded hs (l .rows .lies)) (onward i at head e (w .loaded hs (l .rows .lies) .rest))
+      load-end z b t s hs d = go (w .loaded hs (l .rows .lies))
+          (onward i at head e (w .loaded hs (l .rows .lies) .rest))
         where
           l : Laid i t hs
           l = laid i t hs b d
@@ -123,7 +125,8 @@ module _ (i : List ℕ) (at : ℕ) (a : Table) (heads next : List ℕ) (n used :
       module _ (m : head .size ≡ 0 → ⊥) (b : Table) (eb : b ≡ more a n (head .key) (head .off) (head .len))
           (heads′ next′ : List ℕ) (ch : Chained (keyAt (b .highs) (b .lows)) heads′ next′ (n + 1)) where
         step : (hs : List Held) (x : Loaded i at a n used hs) → Onward i at head e (x .rest)
-            → Loaded i (at + head .size) (more a n (head .key) (head .off) (head .len)) (n + 1) (head .off + head .len) hs
+            → Loaded i (at + head .size) (more a n (head .key) (head .off) (head .len)) (n + 1) (head .off + head .len)
+            hs
         step hs x (ended q y) = absurd (m y)
         step hs x (stands h ks q y l) =
             record {
@@ -140,7 +143,8 @@ module _ (i : List ℕ) (at : ℕ) (a : Table) (heads next : List ℕ) (n used :
                 size-is,
               );
               used = omega (arith, off-is, len-is, longer);
-              inside = below-more (λ (k : ℕ). getD (set (a .starts) n (head .off)) k 0 + getD (set (a .lens) n (head .len)) k 0
+              inside = below-more (λ (k : ℕ). getD (set (a .starts) n (head .off)) k 0 + getD
+                  (set (a .lens) n (head .len)) k 0
                   ≤ length (texts front′)) n
                   (λ k p. omega (
                     arith,
@@ -163,7 +167,8 @@ module _ (i : List ℕ) (at : ℕ) (a : Table) (heads next : List ℕ) (n used :
                   (ap₂ (λ (v w : List Held). v ++ w) (before t s z old n (omega arith) (omega arith) et)
                   (here t s z old (omega arith) et));
               ahead = λ t s z old p et.
-                  below-more (λ (k : ℕ). length (texts (living (slotAt t s a′ old) k)) ≤ getD (set (a .starts) n (head .off)) k 0)
+                  below-more (λ (k : ℕ). length (texts (living (slotAt t s a′ old) k)) ≤ getD
+                  (set (a .starts) n (head .off)) k 0)
                   n
                   (λ k q′. omega (
                     arith,
@@ -226,14 +231,17 @@ module _ (i : List ℕ) (at : ℕ) (a : Table) (heads next : List ℕ) (n used :
             here : (t s z : List ℕ) (old : ℕ) → n < old → t ≡ texts hs ++ z
                 → slotAt t s (more a n (head .key) (head .off) (head .len)) old n ≡ h ∷ []
             here t s z old p et =
-                slot-new t s a old n (head .key) (head .off) (head .len) (w .long) load-less (omega (arith, len-is, some))
-                ∙ ap (λ (c : Bool). record { key = head .key; line = take (head .len) (drop (head .off) (pick c t s)) } ∷ [])
+                slot-new t s a old n (head .key) (head .off) (head .len) (w .long) load-less
+                (omega (arith, len-is, some))
+                ∙ ap (λ (c : Bool). record { key = head .key; line = take (head .len) (drop (head .off) (pick c t s)) }
+                ∷ [])
                 (lt-ltb n old p)
                 ∙ ap₂ (λ (v : Key) (r : List ℕ). record { key = v; line = r } ∷ []) (ap (λ (v : Head). v .key) y)
                 (ap₂ (λ (c d : ℕ). take c (drop d t)) len-is off-is ∙ line-is t z et)
 
         pub load-turn : Loading i (at + head .size) b heads′ next′ (n + 1) (head .off + head .len)
-        load-turn = subst (λ (v : Table). Loading i (at + head .size) v heads′ next′ (n + 1) (head .off + head .len)) (sym eb)
+        load-turn = subst (λ (v : Table). Loading i (at + head .size) v heads′ next′ (n + 1) (head .off + head .len))
+            (sym eb)
             (record {
               many = omega (
                 arith,

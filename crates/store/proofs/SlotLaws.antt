@@ -93,12 +93,14 @@ module _ (f : List Held → ℕ) (nil : f [] ≡ 0) (adds : (xs ys : List Held) 
 
       same : j ≡ n → f (living S n ++ S n) ≡ f (living S′ n ++ S′ n) + f (S j)
       same e =
-          let a : f (living S′ n) ≡ f (living S n) = ap f (living-same S′ S n (λ k q. other k (omega arith) (λ z. omega arith))) in
+          let a : f (living S′ n) ≡ f (living S n) = ap f
+          (living-same S′ S n (λ k q. other k (omega arith) (λ z. omega arith))) in
           let b : f (S′ n) ≡ 0 = ap (λ (k : ℕ). f (S′ k)) (sym e) ∙ ap f gone ∙ nil in
           let c : f (S j) ≡ f (S n) = ap (λ (k : ℕ). f (S k)) e in
           omega (arith, sums, sums′)
 
-      before : (j < n → f (living S n) ≡ f (living S′ n) + f (S j)) → j < n → f (living S n ++ S n) ≡ f (living S′ n ++ S′ n) + f (S j)
+      before : (j < n → f (living S n) ≡ f (living S′ n) + f (S j)) → j < n → f (living S n ++ S n) ≡ f
+          (living S′ n ++ S′ n) + f (S j)
       before ih q =
           let a : f (living S n) ≡ f (living S′ n) + f (S j) = ih q in
           let b : f (S′ n) ≡ f (S n) = ap f (other n (omega arith) (λ z. omega arith)) in

@@ -65,7 +65,8 @@ fn reach_slot(
     requires { ⌜ (fill .count < slots) × (at + len ≤ length (now lines)) ⌝ }
     requires { ⌜
         Slotting (length (now index)) (length (now text)) (now text) (now lines)
-        (record { highs = now highs; lows = now lows; starts = now starts; lens = now lens }) (now heads) (now next) fill ⌝ }
+        (record { highs = now highs; lows = now lows; starts = now starts; lens = now lens }) (now heads) (now next)
+        fill ⌝ }
     ensures { λ r. ⌜
         ReachesSlot (length (now (index .entry))) (length (now (text .entry))) (now (text .entry))
         (now (lines .entry))
@@ -147,7 +148,8 @@ fn take_lines(
     requires { ⌜ from ≤ length (now lines) + 1 ⌝ }
     requires { ⌜
         Slotting (length (now index)) (length (now text)) (now text) (now lines)
-        (record { highs = now highs; lows = now lows; starts = now starts; lens = now lens }) (now heads) (now next) first ⌝ }
+        (record { highs = now highs; lows = now lows; starts = now starts; lens = now lens }) (now heads) (now next)
+        first ⌝ }
     ensures { λ r. ⌜
         TakesLines (length (now (index .entry))) (length (now (text .entry))) (now (text .entry))
         (now (lines .entry))

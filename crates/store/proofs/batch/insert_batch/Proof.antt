@@ -7,26 +7,39 @@ use Rattle.store.proofs.batch.insert_batch.Tie as tie
 
 load-requires : tie.Need-load-requires
 load-requires c κs =
-    let args = c .before .before .before .before .before .before .before .before .before .before .args in (
-      index-most (args .index .now) (args .text .now) (λ k. omega (arith, c .before .before .before .before .before .before .before .before .before .slice-known .given k))
-          (c .before .before .before .before .before .before .before .before .before .before .pre .0),
+    let back5 = c .before .before .before .before .before in
+    let back10 = back5 .before .before .before .before .before in
+    let args = back10 .args in (
+      index-most (args .index .now) (args .text .now)
+          (λ k. omega (arith, back5 .before .before .before .before .slice-known .given k))
+          (back10 .pre .0),
       (chained-none _, empty-long),
     )
 
 take-lines-requires : tie.Need-take-lines-requires
 take-lines-requires c κs =
-    let args = c .before .before .before .before .before .before .before .before .before .before .before .before .before .before .before .before .before .before .before .args in (
-      c .before .before .before .before .before .before .before .before .before .before .before .before .before .before .before .before .before .before .before .pre .1,
-      loads-held (args .index .now) (args .text .now) (args .lines .now) _ _ _ (c .before .before .before .before .before .before .before .before .load .result)
-          (c .before .before .before .before .before .before .before .before .load .ensures .0) (c .before .before .before .before .before .before .before .before .before .before .before .before .before .before .before .before .before .before .before .pre .0),
+    let back5 = c .before .before .before .before .before in
+    let back10 = back5 .before .before .before .before .before in
+    let back15 = back10 .before .before .before .before .before in
+    let args = back15 .before .before .before .before .args in (
+      back15 .before .before .before .before .pre .1,
+      loads-held (args .index .now) (args .text .now) (args .lines .now) _ _ _
+          (back5 .before .before .before .load .result)
+          (back5 .before .before .before .load .ensures .0) (back15 .before .before .before .before .pre .0),
     )
 
 settle-requires : tie.Need-settle-requires
 settle-requires c κs =
-    let args = c .before .before .before .before .before .before .before .before .before .before .before .before .before .before .before .before .before .before .before .before .before .before .before .before .before .before .args in
-    batch-settles (args .index .now) (args .text .now) (args .lines .now) _ _ _ (c .before .before .before .before .before .before .before .before .before .before .before .before .before .before .before .load .result)
-    (c .before .before .before .before .before .before .before .before .before .before .before .before .before .before .before .load .ensures .0) (args .from) _ (c .before .before .before .before .before .before .take-lines .result) (c .before .before .before .before .before .before .take-lines .ensures .0)
-    (c .before .before .before .before .before .before .before .before .before .before .before .before .before .before .before .before .before .before .before .before .before .before .before .before .before .before .pre .0)
+    let back5 = c .before .before .before .before .before in
+    let back10 = back5 .before .before .before .before .before in
+    let back15 = back10 .before .before .before .before .before in
+    let back20 = back15 .before .before .before .before .before in
+    let back25 = back20 .before .before .before .before .before in
+    let args = back25 .before .args in
+    batch-settles (args .index .now) (args .text .now) (args .lines .now) _ _ _ (back15 .load .result)
+    (back15 .load .ensures .0) (args .from) _ (back5 .before .take-lines .result)
+    (back5 .before .take-lines .ensures .0)
+    (back25 .before .pre .0)
 
 same-length : tie.Need-same-length
 same-length c = search needs
@@ -36,12 +49,19 @@ same-length-2 c = search needs
 
 returns : tie.Need-returns
 returns c =
-    let args = c .before .before .before .before .before .before .before .before .before .before .before .before .before .before .before .before .before .before .before .before .before .before .before .before .before .before .before .before .before .before .before .args in (
-      batch-end (args .index .now) (args .text .now) (args .lines .now) _ _ _ (c .before .before .before .before .before .before .before .before .before .before .before .before .before .before .before .before .before .before .before .before .load .result)
-          (c .before .before .before .before .before .before .before .before .before .before .before .before .before .before .before .before .before .before .before .before .load .ensures .0) (args .from) _ (c .before .before .before .before .before .before .before .before .before .before .before .take-lines .result) (c .before .before .before .before .before .before .before .before .before .before .before .take-lines .ensures .0) _ _
+    let back5 = c .before .before .before .before .before in
+    let back10 = back5 .before .before .before .before .before in
+    let back15 = back10 .before .before .before .before .before in
+    let back20 = back15 .before .before .before .before .before in
+    let back25 = back20 .before .before .before .before .before in
+    let back30 = back25 .before .before .before .before .before in
+    let args = back30 .before .args in (
+      batch-end (args .index .now) (args .text .now) (args .lines .now) _ _ _ (back20 .load .result)
+          (back20 .load .ensures .0) (args .from) _ (back10 .before .take-lines .result)
+          (back10 .before .take-lines .ensures .0) _ _
           (c .before .before .before .before .settle .ensures),
-      went-from (args .lines .now) (args .from) (c .before .before .before .before .before .before .before .before .before .before .before .before .before .before .before .before .before .before .before .before .load .result .count) (c .before .before .before .before .before .before .before .before .before .before .before .take-lines .result)
-          (c .before .before .before .before .before .before .before .before .before .before .before .before .before .before .before .before .before .before .before .before .load .ensures .1) (c .before .before .before .before .before .before .before .before .before .before .before .take-lines .ensures .1),
+      went-from (args .lines .now) (args .from) (back20 .load .result .count) (back10 .before .take-lines .result)
+          (back20 .load .ensures .1) (back10 .before .take-lines .ensures .1),
     )
 
 pub insert-batch-spec : {M : Type 1} → statement M

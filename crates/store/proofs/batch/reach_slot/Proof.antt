@@ -28,8 +28,9 @@ enum-told c = search needs
 
 returns : tie.Need-returns
 returns c =
-    let args = c .before .before .before .before .before .before .before .args in
-    let pre = c .before .before .before .before .before .before .before .pre in
+    let back5 = c .before .before .before .before .before in
+    let args = back5 .before .before .args in
+    let pre = back5 .before .before .pre in
     slot-not (length (args .index .now)) (length (args .text .now)) (args .text .now) (args .lines .now) _
     (args .heads .now) (args .next .now) (args .fill) (args .at) (args .len) (pre .0 .1)
     (wanted-part (args .lines .now) (args .at) (args .len) _ _ (c .before .before .wanted .ensures)
@@ -40,17 +41,23 @@ stop-requires c κs = search needs
 
 returns-2 : tie.Need-returns-2
 returns-2 c =
-    let args = c .before .before .before .before .before .before .before .before .before .before .args in
-    let pre = c .before .before .before .before .before .before .before .before .before .before .pre in
+    let back5 = c .before .before .before .before .before in
+    let back10 = back5 .before .before .before .before .before in
+    let args = back10 .args in
+    let pre = back10 .pre in
     slot-long (length (args .index .now)) (length (args .text .now)) (args .text .now) (args .lines .now) _
     (args .heads .now) (args .next .now) (args .fill) (args .at) (args .len) (pre .0 .1)
-    _ (wanted-part (args .lines .now) (args .at) (args .len) _ _ (c .before .before .before .before .before .wanted .ensures) (c .before .before .before .uuid .given .1))
+    _ (wanted-part (args .lines .now) (args .at) (args .len) _ _
+    (c .before .before .before .before .before .wanted .ensures) (c .before .before .before .uuid .given .1))
     (c .before .if1 .taken) (c .stop .result) (c .stop .ensures)
 
 file-slot-requires : tie.Need-file-slot-requires
 file-slot-requires c κs =
-    let args = c .before .before .before .before .before .before .before .before .before .before .before .before .before .before .before .args in
-    let pre = c .before .before .before .before .before .before .before .before .before .before .before .before .before .before .before .pre in (
+    let back5 = c .before .before .before .before .before in
+    let back10 = back5 .before .before .before .before .before in
+    let back15 = back10 .before .before .before .before .before in
+    let args = back15 .args in
+    let pre = back15 .pre in (
       pre .0 .0,
       (
         args .lines .now,
@@ -60,8 +67,9 @@ file-slot-requires c κs =
             pre .1 .1 .0,
             slot-files (length (args .index .now)) (length (args .text .now)) (args .text .now) (args .lines .now) _
                 (args .heads .now) (args .next .now) (args .fill) (args .at) (args .len) (pre .0 .1)
-                _ (wanted-part (args .lines .now) (args .at) (args .len) _ _ (c .before .before .before .before .before .before .before .before .before .before .wanted .ensures) (c .before .before .before .before .before .before .before .before .uuid .given .1))
-                (c .before .before .before .before .before .before .if1 .left) (pre .1 .0) (pre .1 .1 .0) (pre .1 .1 .1),
+                _ (wanted-part (args .lines .now) (args .at) (args .len) _ _ (back10 .wanted .ensures)
+                (back5 .before .before .before .uuid .given .1))
+                (back5 .before .if1 .left) (pre .1 .0) (pre .1 .1 .0) (pre .1 .1 .1),
           ),
         ),
       ),
@@ -72,22 +80,33 @@ stop-requires-2 c κs = search needs
 
 returns-3 : tie.Need-returns-3
 returns-3 c =
-    let args = c .before .before .before .before .before .before .before .before .before .before .before .before .before .before .before .before .before .before .before .before .args in
-    let pre = c .before .before .before .before .before .before .before .before .before .before .before .before .before .before .before .before .before .before .before .before .pre in
+    let back5 = c .before .before .before .before .before in
+    let back10 = back5 .before .before .before .before .before in
+    let back15 = back10 .before .before .before .before .before in
+    let back20 = back15 .before .before .before .before .before in
+    let args = back20 .args in
+    let pre = back20 .pre in
     slot-full (length (args .index .now)) (length (args .text .now)) (args .text .now) (args .lines .now) _
     (args .heads .now) (args .next .now) (args .fill) (args .at) (args .len) (pre .0 .1)
-    _ (wanted-part (args .lines .now) (args .at) (args .len) _ _ (c .before .before .before .before .before .before .before .before .before .before .before .before .before .before .before .wanted .ensures) (c .before .before .before .before .before .before .before .before .before .before .before .before .before .uuid .given .1))
-    (c .before .before .before .before .before .before .before .before .before .before .before .if1 .left) _ _ _ (c .before .before .before .before .file-slot .result) (c .before .before .before .before .file-slot .ensures) (c .before .if2 .taken)
+    _ (wanted-part (args .lines .now) (args .at) (args .len) _ _ (back15 .wanted .ensures)
+    (back10 .before .before .before .uuid .given .1))
+    (back10 .before .if1 .left) _ _ _ (c .before .before .before .before .file-slot .result)
+    (c .before .before .before .before .file-slot .ensures) (c .before .if2 .taken)
     (c .stop2 .result) (c .stop2 .ensures)
 
 returns-4 : tie.Need-returns-4
 returns-4 c =
-    let args = c .before .before .before .before .before .before .before .before .before .before .before .before .before .before .before .before .before .before .before .args in
-    let pre = c .before .before .before .before .before .before .before .before .before .before .before .before .before .before .before .before .before .before .before .pre in
+    let back5 = c .before .before .before .before .before in
+    let back10 = back5 .before .before .before .before .before in
+    let back15 = back10 .before .before .before .before .before in
+    let args = back15 .before .before .before .before .args in
+    let pre = back15 .before .before .before .before .pre in
     slot-filed (length (args .index .now)) (length (args .text .now)) (args .text .now) (args .lines .now) _
     (args .heads .now) (args .next .now) (args .fill) (args .at) (args .len) (pre .0 .1)
-    _ (wanted-part (args .lines .now) (args .at) (args .len) _ _ (c .before .before .before .before .before .before .before .before .before .before .before .before .before .before .wanted .ensures) (c .before .before .before .before .before .before .before .before .before .before .before .before .uuid .given .1))
-    (c .before .before .before .before .before .before .before .before .before .before .if1 .left) _ _ _ (c .before .before .before .file-slot .result) (c .before .before .before .file-slot .ensures) (c .if2 .left)
+    _ (wanted-part (args .lines .now) (args .at) (args .len) _ _
+    (back10 .before .before .before .before .wanted .ensures) (back10 .before .before .uuid .given .1))
+    (back10 .if1 .left) _ _ _ (c .before .before .before .file-slot .result)
+    (c .before .before .before .file-slot .ensures) (c .if2 .left)
 
 pub reach-slot-spec : {M : Type 1} → statement M
 reach-slot-spec =

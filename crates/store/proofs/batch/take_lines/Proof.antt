@@ -18,13 +18,15 @@ use Rattle.store.proofs.batch.take_lines.Statement.{statement}
 use Rattle.store.proofs.batch.take_lines.Tie as tie
 
 abbrev Inv-loop : tie.InvT-loop
-Inv-loop index text lines highs₀ lows₀ starts₀ lens₀ heads₀ next₀ from at₀ count₀ fill₀ highs lows starts lens heads next at count fill =
+Inv-loop index text lines highs₀ lows₀ starts₀ lens₀ heads₀ next₀ from at₀ count₀ fill₀ highs lows starts lens heads
+    next at count fill =
     Taking (length index) (length text) text lines
     (record { highs = highs₀; lows = lows₀; starts = starts₀; lens = lens₀ }) heads₀ next₀ from fill₀
     (record { highs = highs; lows = lows; starts = starts; lens = lens }) heads next fill at count
 
 abbrev μ-loop : tie.MeasureT-loop
-μ-loop index text lines highs₀ lows₀ starts₀ lens₀ heads₀ next₀ from at₀ count₀ fill₀ highs lows starts lens heads next at count fill =
+μ-loop index text lines highs₀ lows₀ starts₀ lens₀ heads₀ next₀ from at₀ count₀ fill₀ highs lows starts lens heads next
+    at count fill =
     length lines + 1 - at
 
 loop-holds : tie.Need-loop-holds Inv-loop μ-loop
@@ -60,70 +62,102 @@ line-length-requires c κs = c .before .find-far .ensures
 
 reach-slot-requires : tie.Need-reach-slot-requires Inv-loop μ-loop
 reach-slot-requires c κs =
-    let args = c .before .before .before .before .before .before .before .before .before .before .before .before .before .before .before .before .before .args in
-    let loop = c .before .before .before .before .before .before .before .before .before .before .before .before .before .loop in
-    let cut = c .before .before .before .before .before .before .line-length in
+    let back5 = c .before .before .before .before .before in
+    let back10 = back5 .before .before .before .before .before in
+    let back15 = back10 .before .before .before .before .before in
+    let args = back15 .before .before .args in
+    let loop = back10 .before .before .before .loop in
+    let cut = back5 .before .line-length in
     let now = taken (length (args .index .now)) (length (args .text .now)) (args .text .now) (args .lines .now)
     (record { highs = args .highs .now; lows = args .lows .now; starts = args .starts .now; lens = args .lens .now })
     (args .heads .now) (args .next .now) (args .from) (args .first)
     (record { highs = loop .highs; lows = loop .lows; starts = loop .starts; lens = loop .lens })
-    (loop .heads) (loop .next) (loop .fill) (loop .at) (loop .count) (loop .inv) (c .before .before .before .before .before .before .before .before .before .before .before .before .before .before .before .before .before .pre .1) in
-    ((ltb-true (loop .fill .count) slots (c .before .before .before .before .before .before .before .before .before .before .if1 .taken), omega (arith, tail-length (loop .at) (args .lines .now), cut .ensures .0)), now)
+    (loop .heads) (loop .next) (loop .fill) (loop .at) (loop .count) (loop .inv) (back15 .before .before .pre .1) in (
+      (
+        ltb-true (loop .fill .count) slots (back10 .if1 .taken),
+        omega
+            (arith, tail-length (loop .at) (args .lines .now), cut .ensures .0),
+      ),
+      now,
+    )
 
 report-requires : tie.Need-report-requires Inv-loop μ-loop
 report-requires c κs = search needs
 
 returns : tie.Need-returns Inv-loop μ-loop
 returns c =
-    let args = c .before .before .before .before .before .before .before .before .before .before .before .before .before .before .before .before .before .before .before .before .before .before .args in
-    let loop = c .before .before .before .before .before .before .before .before .before .before .before .before .before .before .before .before .before .before .loop in
+    let back5 = c .before .before .before .before .before in
+    let back10 = back5 .before .before .before .before .before in
+    let back15 = back10 .before .before .before .before .before in
+    let back20 = back15 .before .before .before .before .before in
+    let args = back20 .before .before .args in
+    let loop = back15 .before .before .before .loop in
     take-off (length (args .index .now)) (length (args .text .now)) (args .text .now) (args .lines .now)
     (record { highs = args .highs .now; lows = args .lows .now; starts = args .starts .now; lens = args .lens .now })
     (args .heads .now) (args .next .now) (args .from) (args .first)
     (record { highs = loop .highs; lows = loop .lows; starts = loop .starts; lens = loop .lens })
     (loop .heads) (loop .next) (loop .fill) (loop .at) (loop .count) (loop .inv)
-    (c .before .before .before .before .before .before .before .before .before .before .before .before .before .before .before .before .before .loop-test .taken) (c .before .before .before .before .before .before .before .before .before .before .before .before .before .find-far .result)
-    (c .before .before .before .before .before .before .before .before .before .before .before .before .before .find-far .ensures ∙ ap (firstOf lf) (part-to-end (args .lines .now) (loop .at))) _
-    (line-part (args .lines .now) (loop .at) (c .before .before .before .before .before .before .before .before .before .before .before .line-length .result) (c .before .before .before .before .before .before .before .before .before .before .before .line-length .ensures .1))
-    (c .before .before .before .before .reach-slot .result) _ _ _ (c .before .before .before .before .reach-slot .ensures) (not-true _ (c .before .if2 .taken)) (c .report .result) (c .report .ensures)
+    (back15 .before .before .loop-test .taken) (back10 .before .before .before .find-far .result)
+    (back10 .before .before .before .find-far .ensures ∙ ap (firstOf lf) (part-to-end (args .lines .now) (loop .at))) _
+    (line-part (args .lines .now) (loop .at) (back10 .before .line-length .result)
+    (back10 .before .line-length .ensures .1))
+    (c .before .before .before .before .reach-slot .result) _ _ _
+    (c .before .before .before .before .reach-slot .ensures) (not-true _ (c .before .if2 .taken))
+    (c .report .result) (c .report .ensures)
 
 add-count : tie.Need-add-count Inv-loop μ-loop
 add-count c =
-    let args = c .before .before .before .before .before .before .before .before .before .before .before .before .before .before .before .before .before .before .before .before .before .args in
-    let loop = c .before .before .before .before .before .before .before .before .before .before .before .before .before .before .before .before .before .loop in
-    omega (arith, c .before .before .before .before .before .before .before .before .before .before .before .before .before .before .before .before .loop-test .taken, loop .inv .counted, c .before .before .before .before .before .before .before .before .before .before .before .before .before .before .before .before .before .before .before .before .before .good .1 .1 .0)
+    let back5 = c .before .before .before .before .before in
+    let back10 = back5 .before .before .before .before .before in
+    let back15 = back10 .before .before .before .before .before in
+    let back20 = back15 .before .before .before .before .before in
+    let args = back20 .before .args in
+    let loop = back15 .before .before .loop in
+    omega (arith, back15 .before .loop-test .taken, loop .inv .counted, back20 .before .good .1 .1 .0)
 
 add-at : tie.Need-add-at Inv-loop μ-loop
 add-at c =
-    let args = c .before .before .before .before .before .before .before .before .before .before .before .before .before .before .before .before .before .before .before .before .before .args in
-    let loop = c .before .before .before .before .before .before .before .before .before .before .before .before .before .before .before .before .before .loop in
+    let back5 = c .before .before .before .before .before in
+    let back10 = back5 .before .before .before .before .before in
+    let back15 = back10 .before .before .before .before .before in
+    let back20 = back15 .before .before .before .before .before in
+    let args = back20 .before .args in
+    let loop = back15 .before .before .loop in
     omega (
       arith,
       tail-length (loop .at) (args .lines .now),
-      c .before .before .before .before .before .before .before .before .before .before .before .before .find-far .ensures,
-      c .before .before .before .before .before .before .before .before .before .before .before .before .before .before .before .before .loop-test .taken,
-      c .before .before .before .before .before .before .before .before .before .before .before .before .before .before .before .before .before .before .before .before .before .good .1 .1 .0,
+      back10 .before .before .find-far .ensures,
+      back15 .before .loop-test .taken,
+      back20 .before .good .1 .1 .0,
       first-le lf (take (length (args .lines .now) - loop .at) (drop (loop .at) (args .lines .now))),
     )
 
 add-at-2 : tie.Need-add-at-2 Inv-loop μ-loop
 add-at-2 c =
-    let args = c .before .before .before .before .before .before .before .before .before .before .before .before .before .before .before .before .before .before .before .before .before .args in
-    let loop = c .before .before .before .before .before .before .before .before .before .before .before .before .before .before .before .before .before .loop in
+    let back5 = c .before .before .before .before .before in
+    let back10 = back5 .before .before .before .before .before in
+    let back15 = back10 .before .before .before .before .before in
+    let back20 = back15 .before .before .before .before .before in
+    let args = back20 .before .args in
+    let loop = back15 .before .before .loop in
     omega (
       arith,
       tail-length (loop .at) (args .lines .now),
-      c .before .before .before .before .before .before .before .before .before .before .before .before .find-far .ensures,
-      c .before .before .before .before .before .before .before .before .before .before .before .before .before .before .before .before .loop-test .taken,
-      c .before .before .before .before .before .before .before .before .before .before .before .before .before .before .before .before .before .before .before .before .before .good .1 .1 .0,
+      back10 .before .before .find-far .ensures,
+      back15 .before .loop-test .taken,
+      back20 .before .good .1 .1 .0,
       first-le lf (take (length (args .lines .now) - loop .at) (drop (loop .at) (args .lines .now))),
     )
 
 loop-less : tie.Need-loop-less Inv-loop μ-loop
 loop-less c =
-    let args = c .before .before .before .before .before .before .before .before .before .before .before .before .before .before .before .before .before .before .before .before .before .args in
-    let loop = c .before .before .before .before .before .before .before .before .before .before .before .before .before .before .before .before .before .loop in
-    let found = c .before .before .before .before .before .before .before .before .before .before .before .before .find-far in
+    let back5 = c .before .before .before .before .before in
+    let back10 = back5 .before .before .before .before .before in
+    let back15 = back10 .before .before .before .before .before in
+    let back20 = back15 .before .before .before .before .before in
+    let args = back20 .before .args in
+    let loop = back15 .before .before .loop in
+    let found = back10 .before .before .find-far in
     let within : found .result ≤ length (args .lines .now) - loop .at
     = omega (
       arith,
@@ -131,13 +165,17 @@ loop-less c =
       first-le lf (take (length (args .lines .now) - loop .at) (drop (loop .at) (args .lines .now))),
       tail-length (loop .at) (args .lines .now),
     ) in
-    omega (arith, c .before .before .before .before .before .before .before .before .before .before .before .before .before .before .before .before .loop-test .taken, within)
+    omega (arith, back15 .before .loop-test .taken, within)
 
 loop-again : tie.Need-loop-again Inv-loop μ-loop
 loop-again c =
-    let args = c .before .before .before .before .before .before .before .before .before .before .before .before .before .before .before .before .before .before .before .before .before .args in
-    let loop = c .before .before .before .before .before .before .before .before .before .before .before .before .before .before .before .before .before .loop in
-    let found = c .before .before .before .before .before .before .before .before .before .before .before .before .find-far in
+    let back5 = c .before .before .before .before .before in
+    let back10 = back5 .before .before .before .before .before in
+    let back15 = back10 .before .before .before .before .before in
+    let back20 = back15 .before .before .before .before .before in
+    let args = back20 .before .args in
+    let loop = back15 .before .before .loop in
+    let found = back10 .before .before .find-far in
     let within : found .result ≤ length (args .lines .now) - loop .at
     = omega (
       arith,
@@ -150,17 +188,19 @@ loop-again c =
     (args .heads .now) (args .next .now) (args .from) (args .first)
     (record { highs = loop .highs; lows = loop .lows; starts = loop .starts; lens = loop .lens })
     (loop .heads) (loop .next) (loop .fill) (loop .at) (loop .count) (loop .inv)
-    (c .before .before .before .before .before .before .before .before .before .before .before .before .before .before .before .before .loop-test .taken) (c .before .before .before .before .before .before .before .before .before .before .before .before .find-far .result)
-    (c .before .before .before .before .before .before .before .before .before .before .before .before .find-far .ensures ∙ ap (firstOf lf) (part-to-end (args .lines .now) (loop .at))) _
-    (line-part (args .lines .now) (loop .at) (c .before .before .before .before .before .before .before .before .before .before .line-length .result) (c .before .before .before .before .before .before .before .before .before .before .line-length .ensures .1))
-    (c .before .before .before .reach-slot .result) _ _ _ (c .before .before .before .reach-slot .ensures) (not-false _ (c .if2 .left)) (omega (arith, c .before .before .before .before .before .before .before .before .before .before .before .before .before .before .before .before .loop-test .taken, within))
+    (back15 .before .loop-test .taken) (back10 .before .before .find-far .result)
+    (back10 .before .before .find-far .ensures ∙ ap (firstOf lf) (part-to-end (args .lines .now) (loop .at))) _
+    (line-part (args .lines .now) (loop .at) (back10 .line-length .result) (back10 .line-length .ensures .1))
+    (c .before .before .before .reach-slot .result) _ _ _ (c .before .before .before .reach-slot .ensures)
+    (not-false _ (c .if2 .left)) (omega (arith, back15 .before .loop-test .taken, within))
 
 report-requires-2 : tie.Need-report-requires-2 Inv-loop μ-loop
 report-requires-2 c κs = search needs
 
 returns-2 : tie.Need-returns-2 Inv-loop μ-loop
 returns-2 c =
-    let args = c .before .before .before .before .before .before .args in
+    let back5 = c .before .before .before .before .before in
+    let args = back5 .before .args in
     let loop = c .before .before .loop in
     take-on (length (args .index .now)) (length (args .text .now)) (args .text .now) (args .lines .now)
     (record { highs = args .highs .now; lows = args .lows .now; starts = args .starts .now; lens = args .lens .now })
@@ -168,8 +208,10 @@ returns-2 c =
     (record { highs = loop .highs; lows = loop .lows; starts = loop .starts; lens = loop .lens })
     (loop .heads) (loop .next) (loop .fill) (loop .at) (loop .count) (loop .inv)
     (λ p q. ⊎-elim
-    (λ x. ⊎-elim (λ e. absurd (omega (arith, loop .inv .still (sym e), ltb-false (loop .fill .count) slots (x .2 .left)))) (λ l. l)
-    (eq-or-lt-of-le (first-at (length (args .index .now)) (length (args .text .now)) (args .text .now) (args .lines .now)
+    (λ x. ⊎-elim (λ e. absurd (omega
+    (arith, loop .inv .still (sym e), ltb-false (loop .fill .count) slots (x .2 .left)))) (λ l. l)
+    (eq-or-lt-of-le (first-at (length (args .index .now)) (length (args .text .now)) (args .text .now)
+    (args .lines .now)
     (record { highs = args .highs .now; lows = args .lows .now; starts = args .starts .now; lens = args .lens .now })
     (args .heads .now) (args .next .now) (args .from) (args .first)
     (record { highs = loop .highs; lows = loop .lows; starts = loop .starts; lens = loop .lens })

@@ -28,7 +28,8 @@ same-length-2 c = search needs
 
 returns : tie.Need-returns Inv-loop μ-loop
 returns c =
-    let a = c .before .before .before .before .before .before .before .args in
+    let back5 = c .before .before .before .before .before in
+    let a = back5 .before .before .args in
     insert-unsound (a .index .now) (a .text .now) (a .lines .now)
     (sym (c .before .sound .ensures) ∙ not-true _ (c .if1 .taken))
 
@@ -46,8 +47,10 @@ same-length-4 c = search needs
 
 returns-2 : tie.Need-returns-2 Inv-loop μ-loop
 returns-2 c =
-    let a = c .before .before .before .before .before .before .before .before .before .before .args in
-    let known = c .before .before .before .before .before .before .before .before .before .slice-known in
+    let back5 = c .before .before .before .before .before in
+    let back10 = back5 .before .before .before .before .before in
+    let a = back10 .args in
+    let known = back5 .before .before .before .before .slice-known in
     let checked = c .before .before .before .before .sound in
     let if1 = c .before .before .before .if1 in
     let utf8 = c .before .before .is-utf8 in
@@ -57,8 +60,9 @@ returns-2 c =
 
 loop-holds : tie.Need-loop-holds Inv-loop μ-loop
 loop-holds c =
-    let a = c .before .before .before .before .before .before .before .before .before .args in
-    let known = c .before .before .before .before .before .before .before .before .slice-known in
+    let back5 = c .before .before .before .before .before in
+    let a = back5 .before .before .before .before .args in
+    let known = back5 .before .before .before .slice-known in
     let checked = c .before .before .before .sound in
     let if1 = c .before .before .if1 in
     insert-first (a .index .now) (a .text .now) (a .lines .now) (λ k. omega (arith, known .given k))
@@ -66,7 +70,9 @@ loop-holds c =
 
 insert-batch-requires : tie.Need-insert-batch-requires Inv-loop μ-loop
 insert-batch-requires c κs =
-    let a = c .before .before .before .before .before .before .before .before .before .before .before .before .before .args in
+    let back5 = c .before .before .before .before .before in
+    let back10 = back5 .before .before .before .before .before in
+    let a = back10 .before .before .before .args in
     let loop = c .before .before .before .loop in (
       still-sound (a .index .now) (a .text .now) (a .lines .now) (loop .index) (loop .text) (loop .at) (loop .count)
           (loop .inv),
@@ -75,48 +81,74 @@ insert-batch-requires c κs =
 
 add-count : tie.Need-add-count Inv-loop μ-loop
 add-count c =
-    let a = c .before .before .before .before .before .before .before .before .before .before .before .before .before .before .before .before .before .before .before .args in
-    let loop = c .before .before .before .before .before .before .before .before .before .loop in
+    let back5 = c .before .before .before .before .before in
+    let back10 = back5 .before .before .before .before .before in
+    let back15 = back10 .before .before .before .before .before in
+    let a = back15 .before .before .before .before .args in
+    let loop = back5 .before .before .before .before .loop in
     let part = c .before .before .before .before .before .insert-batch in
-    omega (arith, loop .inv .counted, part .ensures .1 .counted, part .ensures .1 .within, c .before .before .before .before .before .before .before .before .before .before .before .before .before .before .before .before .before .before .before .good .1 .1 .0)
+    omega (
+      arith,
+      loop .inv .counted,
+      part .ensures .1 .counted,
+      part .ensures .1 .within,
+      back15 .before .before .before .before .good .1 .1 .0,
+    )
 
 same-length-5 : tie.Need-same-length-5 Inv-loop μ-loop
 same-length-5 c =
-    let loop = c .before .before .before .before .before .before .before .before .before .before .before .loop in
-    let part = c .before .before .before .before .before .before .before .insert-batch in
+    let back5 = c .before .before .before .before .before in
+    let back10 = back5 .before .before .before .before .before in
+    let loop = back10 .before .loop in
+    let part = back5 .before .before .insert-batch in
     let e : length (part .last .0) ≡ length (loop .index) = search needs in
     e ∙ loop .inv .index
 
 same-length-6 : tie.Need-same-length-6 Inv-loop μ-loop
 same-length-6 c =
-    let loop = c .before .before .before .before .before .before .before .before .before .before .before .loop in
-    let part = c .before .before .before .before .before .before .before .insert-batch in
+    let back5 = c .before .before .before .before .before in
+    let back10 = back5 .before .before .before .before .before in
+    let loop = back10 .before .loop in
+    let part = back5 .before .before .insert-batch in
     let e : length (part .last .1 .0) ≡ length (loop .text) = search needs in
     e ∙ loop .inv .text
 
 returns-3 : tie.Need-returns-3 Inv-loop μ-loop
 returns-3 c =
-    let a = c .before .before .before .before .before .before .before .before .before .before .before .before .before .before .before .before .before .before .before .before .before .args in
-    let loop = c .before .before .before .before .before .before .before .before .before .before .before .loop in
-    let part = c .before .before .before .before .before .before .before .insert-batch in
+    let back5 = c .before .before .before .before .before in
+    let back10 = back5 .before .before .before .before .before in
+    let back15 = back10 .before .before .before .before .before in
+    let back20 = back15 .before .before .before .before .before in
+    let a = back20 .before .args in
+    let loop = back10 .before .loop in
+    let part = back5 .before .before .insert-batch in
     insert-stop (a .index .now) (a .text .now) (a .lines .now) (loop .index) (loop .text) (loop .at) (loop .count)
     (loop .inv) (part .result) _ _ (part .ensures .0)
-    (sym (c .before .before .before .before .before .before .before .before .before .before .before .before .before .is-utf8 .ensures) ∙ not-false _ (c .before .before .before .before .before .before .before .before .before .before .before .before .if2 .left)) (not-true _ (c .if3 .taken))
+    (sym (back10 .before .before .before .is-utf8 .ensures) ∙ not-false _ (back10 .before .before .if2 .left))
+    (not-true _ (c .if3 .taken))
 
 loop-less : tie.Need-loop-less Inv-loop μ-loop
 loop-less c =
-    let a = c .before .before .before .before .before .before .before .before .before .before .before .before .before .before .before .before .before .before .before .before .before .args in
-    let loop = c .before .before .before .before .before .before .before .before .before .before .before .loop in
-    let part = c .before .before .before .before .before .before .before .insert-batch in
+    let back5 = c .before .before .before .before .before in
+    let back10 = back5 .before .before .before .before .before in
+    let back15 = back10 .before .before .before .before .before in
+    let back20 = back15 .before .before .before .before .before in
+    let a = back20 .before .args in
+    let loop = back10 .before .loop in
+    let part = back5 .before .before .insert-batch in
     let on : loop .at < part .result .at
-    = part .ensures .1 .moved (omega arith) (c .before .before .before .before .before .before .before .before .before .before .loop-test .taken) (not-false _ (c .if3 .left)) in
+    = part .ensures .1 .moved (omega arith) (back10 .loop-test .taken) (not-false _ (c .if3 .left)) in
     omega (arith, on, part .ensures .1 .within, loop .inv .within)
 
 loop-again : tie.Need-loop-again Inv-loop μ-loop
 loop-again c =
-    let a = c .before .before .before .before .before .before .before .before .before .before .before .before .before .before .before .before .before .before .before .before .before .args in
-    let loop = c .before .before .before .before .before .before .before .before .before .before .before .loop in
-    let part = c .before .before .before .before .before .before .before .insert-batch in
+    let back5 = c .before .before .before .before .before in
+    let back10 = back5 .before .before .before .before .before in
+    let back15 = back10 .before .before .before .before .before in
+    let back20 = back15 .before .before .before .before .before in
+    let a = back20 .before .args in
+    let loop = back10 .before .loop in
+    let part = back5 .before .before .insert-batch in
     insert-turn (a .index .now) (a .text .now) (a .lines .now) (loop .index) (loop .text) (loop .at) (loop .count)
     (loop .inv) (part .result) _ _ (part .ensures .0) (not-false _ (c .if3 .left)) (part .ensures .1)
 
@@ -128,7 +160,9 @@ same-length-8 c = c .before .loop .inv .text
 
 returns-4 : tie.Need-returns-4 Inv-loop μ-loop
 returns-4 c =
-    let a = c .before .before .before .before .before .before .before .before .before .before .before .args in
+    let back5 = c .before .before .before .before .before in
+    let back10 = back5 .before .before .before .before .before in
+    let a = back10 .before .args in
     let utf8 = c .before .before .before .is-utf8 in
     let if2 = c .before .before .if2 in
     let loop = c .before .loop in

@@ -71,7 +71,8 @@ returns c = let args = c .before .before .before .before .before .before .before
           (number .ensures .0) (pre .0) (c .seek .result) (c .seek .ensures .0),
       (
         chained-turn (keyAt (args .highs .now) (args .lows .now)) (args .heads .now) (args .next .now) (args .k)
-            (bucket-of .result) _ (pre .1) (bucket-of .ensures .0) (bucket-of .ensures .1) refl (pre .0) _ (omega arith),
+            (bucket-of .result) _ (pre .1) (bucket-of .ensures .0) (bucket-of .ensures .1) refl (pre .0) _
+            (omega arith),
         λ l. c .seek .ensures .1 (omega (arith, within)),
       ),
     )

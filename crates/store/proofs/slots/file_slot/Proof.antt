@@ -15,8 +15,10 @@ len-before-requires c κs = search needs
 
 sub-used : tie.Need-sub-used
 sub-used c =
-    let args = c .before .before .before .before .before .before .before .before .before .before .before .before .args in
-    let pre = c .before .before .before .before .before .before .before .before .before .before .before .before .pre in
+    let back5 = c .before .before .before .before .before in
+    let back10 = back5 .before .before .before .before .before in
+    let args = back10 .before .before .args in
+    let pre = back10 .before .before .pre in
     let put = c .before .before .before .put-slot in
     let had = c .before .len-before in
     let w = pre .1 .1 .1 .1 in
@@ -26,8 +28,10 @@ sub-used c =
 
 add-used : tie.Need-add-used
 add-used c =
-    let args = c .before .before .before .before .before .before .before .before .before .before .before .before .args in
-    let pre = c .before .before .before .before .before .before .before .before .before .before .before .before .pre in
+    let back5 = c .before .before .before .before .before in
+    let back10 = back5 .before .before .before .before .before in
+    let args = back10 .before .before .args in
+    let pre = back10 .before .before .pre in
     let put = c .before .before .before .put-slot in
     let had = c .before .len-before in
     let w = pre .1 .1 .1 .1 in
@@ -48,24 +52,31 @@ end-with-requires c κs = search needs
 
 returns : tie.Need-returns
 returns c = λ s old hs w.
-    let args = c .before .before .before .before .before .before .before .before .before .before .before .before .before .before .args in
-    let pre = c .before .before .before .before .before .before .before .before .before .before .before .before .before .before .pre in
+    let back5 = c .before .before .before .before .before in
+    let back10 = back5 .before .before .before .before .before in
+    let args = back10 .before .before .before .before .args in
+    let pre = back10 .before .before .before .before .pre in
     let put = c .before .before .before .before .before .put-slot in
     let had = c .before .before .before .len-before in
     let ends = c .before .end-with in
-    files-index (args .index .now) (args .text .now) s _ (args .heads .now) (args .next .now) old (args .fill) (args .key)
+    files-index (args .index .now) (args .text .now) s _ (args .heads .now) (args .next .now) old (args .fill)
+    (args .key)
     (args .start) (args .len) hs w (pre .0) _ (put .ensures .0) (put .result) (put .ensures .1 .0 .0)
     (put .ensures .1 .0 .1) (had .result) (had .ensures)
     (ends .result) (ends .ensures) _ _ (c .if1 .taken)
 
 returns-2 : tie.Need-returns-2
 returns-2 c = λ s old hs w.
-    let args = c .before .before .before .before .before .before .before .before .before .before .before .before .before .before .before .args in
-    let pre = c .before .before .before .before .before .before .before .before .before .before .before .before .before .before .before .pre in
-    let put = c .before .before .before .before .before .before .put-slot in
+    let back5 = c .before .before .before .before .before in
+    let back10 = back5 .before .before .before .before .before in
+    let back15 = back10 .before .before .before .before .before in
+    let args = back15 .args in
+    let pre = back15 .pre in
+    let put = back5 .before .put-slot in
     let had = c .before .before .before .before .len-before in
     let ends = c .before .before .end-with in
-    files-text (args .index .now) (args .text .now) s _ (args .heads .now) (args .next .now) old (args .fill) (args .key)
+    files-text (args .index .now) (args .text .now) s _ (args .heads .now) (args .next .now) old (args .fill)
+    (args .key)
     (args .start) (args .len) hs w (pre .0) _ (put .ensures .0) (put .result) (put .ensures .1 .0 .0)
     (put .ensures .1 .0 .1) (had .result) (had .ensures)
     (ends .result) (ends .ensures) _ _ (c .if2 .taken)
@@ -78,15 +89,19 @@ add-t25 c = search needs
 
 returns-3 : tie.Need-returns-3
 returns-3 c = λ s old hs w.
-    let args = c .before .before .before .before .before .before .before .before .before .before .before .before .before .before .before .before .before .args in
-    let pre = c .before .before .before .before .before .before .before .before .before .before .before .before .before .before .before .before .before .pre in
-    let put = c .before .before .before .before .before .before .before .before .put-slot in
-    let had = c .before .before .before .before .before .before .len-before in
+    let back5 = c .before .before .before .before .before in
+    let back10 = back5 .before .before .before .before .before in
+    let back15 = back10 .before .before .before .before .before in
+    let args = back15 .before .before .args in
+    let pre = back15 .before .before .pre in
+    let put = back5 .before .before .before .put-slot in
+    let had = back5 .before .len-before in
     let ends = c .before .before .before .before .end-with in
     files-fit (args .index .now) (args .text .now) s _ (args .heads .now) (args .next .now) old (args .fill) (args .key)
     (args .start) (args .len) hs w (pre .0) _ (put .ensures .0) (put .result) (put .ensures .1 .0 .0)
     (put .ensures .1 .0 .1) (had .result) (had .ensures)
-    (ends .result) (ends .ensures) _ _ (omega (arith, c .before .before .before .if1 .left)) (omega (arith, c .before .before .if2 .left))
+    (ends .result) (ends .ensures) _ _ (omega (arith, c .before .before .before .if1 .left))
+    (omega (arith, c .before .before .if2 .left))
     (put .ensures .1 .1) _ (c .strike-slot .ensures)
 
 pub file-slot-spec : {M : Type 1} → statement M

@@ -21,7 +21,8 @@ Inv-loop index highs₀ lows₀ starts₀ lens₀ heads₀ next₀ at₀ used₀
     Loading index at (record { highs = highs; lows = lows; starts = starts; lens = lens }) heads next n used
 
 abbrev μ-loop : tie.MeasureT-loop
-μ-loop index highs₀ lows₀ starts₀ lens₀ heads₀ next₀ at₀ used₀ n₀ highs lows starts lens heads next at used n = slots - n
+μ-loop index highs₀ lows₀ starts₀ lens₀ heads₀ next₀ at₀ used₀ n₀ highs lows starts lens heads next at used n = slots -
+    n
 
 loop-holds : tie.Need-loop-holds Inv-loop μ-loop
 loop-holds c =
@@ -47,26 +48,35 @@ returns c =
     let known = c .before .before .before .before .shared-slice-known in
     let loop = c .before .before .before .loop in
     let read-head = c .before .read-head in (
-      load-end (args .index .now) (loop .at) (record { highs = loop .highs; lows = loop .lows; starts = loop .starts; lens = loop .lens }) (loop .heads) (loop .next) (loop .n) (loop .used) (loop .inv)
+      load-end (args .index .now) (loop .at)
+          (record { highs = loop .highs; lows = loop .lows; starts = loop .starts; lens = loop .lens }) (loop .heads)
+          (loop .next) (loop .n) (loop .used) (loop .inv)
           (read-head .result) (read-head .ensures ∙ ap headAt (tail-part (loop .at) (args .index .now))) (c .if1 .taken)
           (λ k. omega (arith, known .given k)),
-      load-less (args .index .now) (loop .at) (record { highs = loop .highs; lows = loop .lows; starts = loop .starts; lens = loop .lens })
+      load-less (args .index .now) (loop .at)
+          (record { highs = loop .highs; lows = loop .lows; starts = loop .starts; lens = loop .lens })
           (loop .heads) (loop .next) (loop .n) (loop .used) (loop .inv),
     )
 
 put-slot-requires : tie.Need-put-slot-requires Inv-loop μ-loop
 put-slot-requires c κs =
-    let args = c .before .before .before .before .before .before .before .before .before .before .before .args in
-    let loop = c .before .before .before .before .before .before .before .before .before .loop in (
-      load-less (args .index .now) (loop .at) (record { highs = loop .highs; lows = loop .lows; starts = loop .starts; lens = loop .lens }) (loop .heads) (loop .next) (loop .n) (loop .used) (loop .inv),
+    let back5 = c .before .before .before .before .before in
+    let back10 = back5 .before .before .before .before .before in
+    let args = back10 .before .args in
+    let loop = back5 .before .before .before .before .loop in (
+      load-less (args .index .now) (loop .at)
+          (record { highs = loop .highs; lows = loop .lows; starts = loop .starts; lens = loop .lens }) (loop .heads)
+          (loop .next) (loop .n) (loop .used) (loop .inv),
       loop .inv .chained,
     )
 
 add-at : tie.Need-add-at Inv-loop μ-loop
 add-at c =
-    let args = c .before .before .before .before .before .before .before .before .before .before .before .before .args in
-    let loop = c .before .before .before .before .before .before .before .before .before .before .loop in
-    let read-head = c .before .before .before .before .before .before .before .before .read-head in
+    let back5 = c .before .before .before .before .before in
+    let back10 = back5 .before .before .before .before .before in
+    let args = back10 .before .before .args in
+    let loop = back10 .loop in
+    let read-head = back5 .before .before .before .read-head in
     omega (
       arith,
       next-within (args .index .now) (loop .at) (read-head .result) (read-head .ensures ∙ ap headAt
@@ -75,10 +85,12 @@ add-at c =
 
 add-used : tie.Need-add-used Inv-loop μ-loop
 add-used c =
-    let args = c .before .before .before .before .before .before .before .before .before .before .before .before .before .args in
-    let known = c .before .before .before .before .before .before .before .before .before .before .before .before .shared-slice-known in
-    let loop = c .before .before .before .before .before .before .before .before .before .before .before .loop in
-    let read-head = c .before .before .before .before .before .before .before .before .before .read-head in
+    let back5 = c .before .before .before .before .before in
+    let back10 = back5 .before .before .before .before .before in
+    let args = back10 .before .before .before .args in
+    let known = back10 .before .before .shared-slice-known in
+    let loop = back10 .before .loop in
+    let read-head = back5 .before .before .before .before .read-head in
     let b : Bytes (drop (loop .at) (args .index .now)) = λ k. subst (λ (x : ℕ). x < 256) (sym (getD-drop (loop .at)
     (args .index .now) k 0)) (omega (arith, known .given (loop .at + k))) in
     let e : read-head .result ≡ headAt (drop (loop .at) (args .index .now)) = read-head .ensures ∙ ap headAt
@@ -93,31 +105,43 @@ add-used c =
 
 add-n : tie.Need-add-n Inv-loop μ-loop
 add-n c =
-    let args = c .before .before .before .before .before .before .before .before .before .before .before .before .before .args in
-    let loop = c .before .before .before .before .before .before .before .before .before .before .before .loop in
+    let back5 = c .before .before .before .before .before in
+    let back10 = back5 .before .before .before .before .before in
+    let args = back10 .before .before .before .args in
+    let loop = back10 .before .loop in
     omega (
       arith,
-      load-less (args .index .now) (loop .at) (record { highs = loop .highs; lows = loop .lows; starts = loop .starts; lens = loop .lens }) (loop .heads) (loop .next) (loop .n) (loop .used) (loop .inv),
+      load-less (args .index .now) (loop .at)
+          (record { highs = loop .highs; lows = loop .lows; starts = loop .starts; lens = loop .lens }) (loop .heads)
+          (loop .next) (loop .n) (loop .used) (loop .inv),
     )
 
 loop-less : tie.Need-loop-less Inv-loop μ-loop
 loop-less c =
-    let args = c .before .before .before .before .before .before .before .before .before .before .before .before .before .args in
-    let loop = c .before .before .before .before .before .before .before .before .before .before .before .loop in
+    let back5 = c .before .before .before .before .before in
+    let back10 = back5 .before .before .before .before .before in
+    let args = back10 .before .before .before .args in
+    let loop = back10 .before .loop in
     omega (
       arith,
-      load-less (args .index .now) (loop .at) (record { highs = loop .highs; lows = loop .lows; starts = loop .starts; lens = loop .lens }) (loop .heads) (loop .next) (loop .n) (loop .used) (loop .inv),
+      load-less (args .index .now) (loop .at)
+          (record { highs = loop .highs; lows = loop .lows; starts = loop .starts; lens = loop .lens }) (loop .heads)
+          (loop .next) (loop .n) (loop .used) (loop .inv),
     )
 
 loop-again : tie.Need-loop-again Inv-loop μ-loop
 loop-again c =
-    let args = c .before .before .before .before .before .before .before .before .before .before .before .before .before .args in
-    let loop = c .before .before .before .before .before .before .before .before .before .before .before .loop in
-    let read-head = c .before .before .before .before .before .before .before .before .before .read-head in
+    let back5 = c .before .before .before .before .before in
+    let back10 = back5 .before .before .before .before .before in
+    let args = back10 .before .before .before .args in
+    let loop = back10 .before .loop in
+    let read-head = back5 .before .before .before .before .read-head in
     let put-slot = c .before .put-slot in
-    load-turn (args .index .now) (loop .at) (record { highs = loop .highs; lows = loop .lows; starts = loop .starts; lens = loop .lens }) (loop .heads) (loop .next) (loop .n) (loop .used) (loop .inv)
+    load-turn (args .index .now) (loop .at)
+    (record { highs = loop .highs; lows = loop .lows; starts = loop .starts; lens = loop .lens }) (loop .heads)
+    (loop .next) (loop .n) (loop .used) (loop .inv)
     (read-head .result) (read-head .ensures ∙ ap headAt (tail-part (loop .at) (args .index .now)))
-    (c .before .before .before .before .before .before .before .before .if1 .left) _ (put-slot .ensures .0) _ _ (put-slot .ensures .1 .1)
+    (back5 .before .before .before .if1 .left) _ (put-slot .ensures .0) _ _ (put-slot .ensures .1 .1)
 
 pub load-spec : {M : Type 1} → statement M
 load-spec =
