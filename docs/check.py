@@ -12,7 +12,8 @@ In a document, outside blocks of code:
   quotes  a block of code that opens with ```antt FILE has lines of FILE, word for word.
   all     each definition in a file of the first kind (below) of the four layers has such a row in READING.md.
   edits   in REFUSED.md, below the heading of a crate, each call of a row is a function of that crate, each edit of a
-          row is in its must-fail/, and each edit there has a row; each public call of the four layers has two rows.
+          row is in its must-fail/, and each edit there has a row for each of its wrong programs at least; each public
+          call of the four layers has two rows.
           A call that begins with _ is the end of a function's name.
 In specs/, a file is of the first kind ("rest on these definitions") or of the second ("No public contract rests on
 these", or "cites these"), and says so in its first lines; Lib.antt is neither. A file of the first kind uses none of the second, and a
@@ -84,7 +85,7 @@ class Document:
         self.path, self.everything = path, everything
         self.missing, self.counts, self.listed = [], dict(links=0, files=0, names=0, quotes=0, edits=0), []
         self.section, self.columns, self.file_cell = "", None, []
-        self.edits, self.rows, self.tried, self.call = set(), set(), {}, ""
+        self.edits, self.rows, self.tried, self.call = [], set(), {}, ""
 
     def fail(self, number, what):
         self.missing.append(f"{self.path}:{number}: {what}")
@@ -181,7 +182,7 @@ class Document:
             self.count("edits", number, edit)
             if not os.path.exists(f"crates/{self.section}/must-fail/{edit}.edit"):
                 self.fail(number, f"no such edit in {self.section}: {edit}")
-            self.edits.add((self.section, edit))
+            self.edits.append((self.section, edit))
         text = cell.get("Call", ("",))[0]
         self.call = text.strip().strip("`") or self.call
         self.tried[self.section, self.call] = self.tried.get((self.section, self.call), 0) + 1
@@ -219,8 +220,9 @@ class Document:
         if self.path == "docs/REFUSED.md":
             for path in sorted(glob.glob("crates/*/must-fail/*.edit")):
                 key = (path.split("/")[1], os.path.basename(path)[:-len(".edit")])
-                if key not in self.edits:
-                    self.fail(0, f"no row for {path}")
+                programs = len(re.findall("^# refused at: ", open(path, encoding="utf-8").read(), re.M))
+                if self.edits.count(key) < max(programs, 1):
+                    self.fail(0, f"{self.edits.count(key)} rows for the {programs} wrong programs of {path}")
             for crate in LAYERS:
                 for call in public_calls(crate):
                     if self.tried.get((crate, call), 0) < 2:
