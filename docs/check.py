@@ -12,8 +12,8 @@ In a document, outside blocks of code:
   quotes  a block of code that opens with ```antt FILE has lines of FILE, word for word.
   all     each definition in a file of the first kind (below) of the four layers has such a row in READING.md.
   edits   in REFUSED.md, below the heading of a crate, each call of a row is a function of that crate, each edit of a
-          row is in its must-fail/, and each edit there has a row for each of its wrong programs at least; each public
-          call of the four layers has two rows.
+          row is in its must-fail/, and each edit there has a row for each of its wrong programs at least. Each public
+          call of the four layers has two rows and an edit; a row with the column Crate was tried by hand.
           A call that begins with _ is the end of a function's name.
 In specs/, a file is of the first kind ("rest on these definitions") or of the second ("No public contract rests on
 these", or "cites these"), and says so in its first lines; Lib.antt is neither. A file of the first kind uses none of the second, and a
@@ -85,7 +85,7 @@ class Document:
         self.path, self.everything = path, everything
         self.missing, self.counts, self.listed = [], dict(links=0, files=0, names=0, quotes=0, edits=0), []
         self.section, self.columns, self.file_cell = "", None, []
-        self.edits, self.rows, self.tried, self.call = [], set(), {}, ""
+        self.edits, self.rows, self.tried, self.gated, self.call = [], set(), {}, set(), ""
 
     def fail(self, number, what):
         self.missing.append(f"{self.path}:{number}: {what}")
@@ -173,25 +173,29 @@ class Document:
                 if start <= s[0] < end and self.file_cell:
                     self.declared_in(number, s[2], self.file_cell)
         if self.path == "docs/REFUSED.md" and "Edit" in cell:
-            self.refused(number, cell)
+            self.refused(number, cell, self.section, cell["Edit"][0].strip().strip("`"))
+        elif self.path == "docs/REFUSED.md" and "Crate" in cell and "Call" in cell:
+            self.refused(number, cell, cell["Crate"][0].strip(), "")
         return done
 
-    def refused(self, number, cell):
-        edit = cell["Edit"][0].strip().strip("`")
-        if edit not in ("tried", "Edit", "") and not edit.startswith("-"):
-            self.count("edits", number, edit)
-            if not os.path.exists(f"crates/{self.section}/must-fail/{edit}.edit"):
-                self.fail(number, f"no such edit in {self.section}: {edit}")
-            self.edits.append((self.section, edit))
+    def refused(self, number, cell, crate, edit):
         text = cell.get("Call", ("",))[0]
+        if text.strip() == "Call" or text.startswith("-"):
+            return
         self.call = text.strip().strip("`") or self.call
-        self.tried[self.section, self.call] = self.tried.get((self.section, self.call), 0) + 1
+        self.tried[crate, self.call] = self.tried.get((crate, self.call), 0) + 1
+        if edit:
+            self.count("edits", number, edit)
+            if not os.path.exists(f"crates/{crate}/must-fail/{edit}.edit"):
+                self.fail(number, f"no such edit in {crate}: {edit}")
+            self.edits.append((crate, edit))
+            self.gated.add((crate, self.call))
         for call in re.findall(r"`([\w:]+)`", text):
             self.count("names", number, call)
-            sources = glob.glob(f"crates/{self.section}/src/**/*.rt", recursive=True)
+            sources = glob.glob(f"crates/{crate}/src/**/*.rt", recursive=True)
             ends = call.startswith("_") and any(n.endswith(call) for p in sources for n in names_in(p))
             if not ends and not any(has(p, call) for p in sources):
-                self.fail(number, f"no function {call} in {self.section}")
+                self.fail(number, f"no function {call} in {crate}")
 
     def quote(self, number, line, path):
         self.count("quotes", number, line)
@@ -227,6 +231,8 @@ class Document:
                 for call in public_calls(crate):
                     if self.tried.get((crate, call), 0) < 2:
                         self.fail(0, f"fewer than two wrong programs for {call} of {crate}")
+                    if (crate, call) not in self.gated:
+                        self.fail(0, f"no wrong program in the gate for {call} of {crate}")
         if self.path == "docs/READING.md":
             for path in [p for c in LAYERS for p in sorted(glob.glob(f"crates/{c}/specs/*.antt")) if kind(p) == 1]:
                 for name in definitions(path):
