@@ -20,8 +20,8 @@ use Rattle.line.specs.Maps.{CODES_MAX, MapView, toMap, putEntry, putsInt
 use Rattle.line.specs.Pairs.{pairOf}
 use Rattle.line.specs.Puts.{listed, hatPuts, putsOf}
 use Rattle.line.specs.Reading.{refusedOf, acceptedOf, putOne, putAll, skips, taken, pairsFrom}
-use Rattle.line.specs.Effects.{does, stops, putsEffect, answerEffect, effectOf, entriesOf, flagsOf, AllGo}
-use Rattle.line.specs.Effects.{orAll, after}
+use Rattle.line.specs.Effects.{does, stops, putsEffect, answerEffect, effectOf, entriesOf}
+use Rattle.line.specs.Folds.{flagsOf, AllGo, orAll, after}
 use Rattle.line.proofs.ViewLaws.{with, put-grows, put-toMap}
 use Rattle.line.proofs.PairLaws.{PairAnswer, pair-answer, pair-anywhere}
 
@@ -47,7 +47,7 @@ after-append v es fs a b = rw (puts-append es fs (v .list), or-append a b (v .ha
 
 -- ---- one put
 module _ (v : MapView) (e : Entry) (p : ℕ) where
-  one-fits : length (putEntry e (v .list)) ≤ CODES_MAX → putOne (toMap v) e p
+  pub one-fits : length (putEntry e (v .list)) ≤ CODES_MAX → putOne (toMap v) e p
       ≡ acceptedOf (toMap (with v (putEntry e (v .list))))
   unfolding putOne
   one-fits h = let b = le-leb (length (putEntry e (v .list))) CODES_MAX h in rw (put-toMap v e, b)
@@ -71,7 +71,7 @@ unfolding putsInto orAll
 none-after v = refl
 
 module _ (v : MapView) (p q : ℕ) (buttons axes : List ℕ) where
-  abbrev Fits : Answer → Type 0
+  abbrev pub Fits : Answer → Type 0
   Fits a = length (putsInto (answerEffect a buttons axes .puts) (v .list)) ≤ CODES_MAX
 
   taken-fits : (a : Answer) → PairAnswer a → answerEffect a buttons axes .goes ≡ true → Fits a
@@ -96,7 +96,7 @@ module _ (v : MapView) (p q : ℕ) (buttons axes : List ℕ) where
 -- ---- pairs in line order
 module _ (buttons axes : List ℕ) where
   -- one pair, wherever it stands
-  pair-fits : (f : List ℕ) (p q : ℕ) (v : MapView) → effectOf f buttons axes .goes ≡ true
+  pub pair-fits : (f : List ℕ) (p q : ℕ) (v : MapView) → effectOf f buttons axes .goes ≡ true
       → length (putsInto (effectOf f buttons axes .puts) (v .list)) ≤ CODES_MAX
       → taken (toMap v) (pairOf f p) p q buttons axes
       ≡ acceptedOf (toMap (after v (effectOf f buttons axes .puts) (effectOf f buttons axes .flags)))

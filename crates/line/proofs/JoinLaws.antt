@@ -9,8 +9,7 @@ use lib.Dec.{eqb}
 use lib.ListN.{length, take, drop}
 use lib.Seq.{take-at, drop-append-add}
 use Rattle.text.specs.Bytes.{byte, firstOf}
-use Rattle.line.specs.Fields.{countOf, before, fieldsOf}
-use Rattle.line.specs.Walks.{laterFields}
+use Rattle.line.specs.Fields.{countOf, before, fieldsOf, laterFields}
 
 -- ---- texts without some byte
 abbrev pub Free : ℕ → List ℕ → Type 0

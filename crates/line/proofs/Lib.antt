@@ -25,5 +25,11 @@ pub mod FoldLaws
 pub mod JoinLaws
 pub mod IdentLaws
 pub mod ReadBack
--- document 01's samples
+-- pairs in another order
+pub mod AcceptedLaws
+pub mod PermutationLaws
+pub mod CommaLaws
+pub mod RegroupLaws
+-- document 01's samples, and two of regrouped lines
 pub mod Samples
+pub mod RegroupSamples

@@ -20,12 +20,12 @@ use Rattle.text.proofs.UuidLaws.{uuid-back, uuidText-length}
 use Rattle.line.specs.declared.parser.ErrorKind.the-variants as Ek
 use Rattle.line.specs.declared.reading.SdlMapping.{SdlMapping}
 use Rattle.line.specs.Maps.{CODES_MAX, MapView, toMap, emptyMap, putsInto}
-use Rattle.line.specs.Fields.{fieldsOf, firstField}
-use Rattle.line.specs.Walks.{laterFields}
+use Rattle.line.specs.Fields.{fieldsOf, firstField, laterFields}
 use Rattle.line.specs.Walker.{guidOf}
 use Rattle.line.specs.Reading.{LIST_MAX, parseError, acceptedOf, pairsFrom, namedFrom, headed, readLine}
 use Rattle.line.specs.Reading.{readingOf}
-use Rattle.line.specs.Effects.{entriesOf, flagsOf, AllGo, after}
+use Rattle.line.specs.Effects.{entriesOf}
+use Rattle.line.specs.Folds.{flagsOf, AllGo, after}
 use Rattle.line.proofs.ReadingLaws.{line-head}
 use Rattle.line.proofs.FoldLaws.{pairs-fit}
 use Rattle.line.proofs.JoinLaws.{Free, AllFree, joined, lineOf, later-fields, first-after, take-before}
@@ -43,7 +43,7 @@ named k n = record { list = []; nameStart = 0 + k + 1; nameLen = length n; isDef
 
 module _ (buttons axes : List ℕ) where
   -- what a line with a name field reads as
-  abbrev shaped : UuidParse → ℕ → List ℕ → List (List ℕ) → SdlMapping
+  abbrev pub shaped : UuidParse → ℕ → List ℕ → List (List ℕ) → SdlMapping
   shaped Up.Invalid k n fs = parseError Ek.InvalidGuid 0
   shaped (Up.Parsed u) k n fs = pairsFrom (0 + k + 1 + length n + 1) fs (toMap (named k n)) buttons axes
 
@@ -64,7 +64,7 @@ module _ (buttons axes : List ℕ) where
       let l = long s n fs e in
       rw (ne-eqb (firstOf (byte ",") s) (length s) (λ q. omega arith), e)
 
-  line-shape : (s n : List ℕ) (fs : List (List ℕ)) → laterFields s ≡ n ∷ fs
+  pub line-shape : (s n : List ℕ) (fs : List (List ℕ)) → laterFields s ≡ n ∷ fs
       → readLine s buttons axes ≡ shaped (guidOf (firstField s)) (firstOf (byte ",") s) n fs
   unfolding readLine
   line-shape s n fs e =

@@ -32,3 +32,7 @@ fieldsOf (b ∷ s) = pick (eqb b (byte ",")) ([] ∷ fieldsOf s) (before b (fiel
 -- "First field (up to a comma or the end)"
 abbrev pub firstField : List ℕ → List ℕ
 firstField s = take (firstOf (byte ",") s) s
+
+-- the fields after the first comma: the name, where there is one, and the pairs
+abbrev pub laterFields : List ℕ → List (List ℕ)
+laterFields s = fieldsOf (drop (firstOf (byte ",") s + 1) s)

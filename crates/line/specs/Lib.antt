@@ -12,7 +12,10 @@ pub mod Parser
 pub mod Puts
 pub mod Reading
 pub mod Refusals
+-- pairs in another order
+pub mod Effects
+pub mod Regrouping
 -- what private functions and proofs need
 pub mod Inner
 pub mod Walks
-pub mod Effects
+pub mod Folds

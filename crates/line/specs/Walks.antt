@@ -3,19 +3,14 @@
 use Prim.Native.Nat.{ℕ, zero, suc, _+_}
 use mathlib.Core.List.{List, [], _∷_}
 use lib.Dec.{ltb}
-use lib.ListN.{length, drop}
-use Rattle.text.specs.Bytes.{pick, byte, firstOf}
+use lib.ListN.{length}
+use Rattle.text.specs.Bytes.{pick}
 use Rattle.line.specs.declared.parser.State.{State}
 use Rattle.line.specs.declared.parser.Token.the-variants as Tk
 use Rattle.line.specs.declared.parser.Answer.{Answer}
 use Rattle.line.specs.declared.parser.Answer.the-variants.{Found}
-use Rattle.line.specs.Fields.{fieldsOf}
 use Rattle.line.specs.Pairs.{pairOf}
 use Rattle.line.specs.Walker.{stepOf}
-
--- the fields after the first comma: the name and the pairs
-abbrev pub laterFields : List ℕ → List (List ℕ)
-laterFields s = fieldsOf (drop (firstOf (byte ",") s + 1) s)
 
 -- step after step: the answers from p on, before the end, of at most as many steps as the first number says
 unfoldable pub walked : ℕ → List ℕ → ℕ → State → List Answer

@@ -15,7 +15,8 @@ use Rattle.text.proofs.UuidLaws.{uuidText-length}
 use Rattle.line.specs.declared.mapping.Entry.{Entry}
 use Rattle.line.specs.Elements.{codeOf}
 use Rattle.line.specs.Maps.{CODES_MAX, MapView, entryOf, toMap, putsInto}
-use Rattle.line.specs.Effects.{does, effectOf, entriesOf, flagsOf, AllGo, orAll, after, Effect}
+use Rattle.line.specs.Effects.{does, effectOf, entriesOf, Effect}
+use Rattle.line.specs.Folds.{flagsOf, AllGo, orAll, after}
 use Rattle.line.specs.Reading.{LIST_MAX, acceptedOf, readingOf}
 use Rattle.line.specs.Tables.{identText}
 use Rattle.line.proofs.CountLaws.{count-none}

@@ -6,6 +6,7 @@ mod codes;
 mod element_cases;
 mod line_cases;
 mod many_cases;
+mod regroup_cases;
 mod slot_cases;
 mod text_cases;
 mod written;
@@ -115,6 +116,9 @@ fn run_case(line: &[u8]) -> bool {
     }
     if same_bytes(kind, b"many") {
         return many_cases::many_case(args);
+    }
+    if same_bytes(kind, b"same") {
+        return regroup_cases::same_case(args);
     }
     run_map_case(kind, args)
 }

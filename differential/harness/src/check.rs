@@ -15,6 +15,7 @@ pub enum Group {
     Reading,
     Map,
     MapRev,
+    Regrouped,
     Puts,
     Default,
     Slots,
@@ -26,7 +27,7 @@ pub enum Group {
     Buffers,
 }
 
-pub const GROUPS: [(&str, &str); 19] = [
+pub const GROUPS: [(&str, &str); 20] = [
     ("utf8", "the longest valid run of UTF-8, with Rust's own reader"),
     ("uuid", "UUID texts, with the crate uuid"),
     ("index", "index numbers, with Rust's own reader"),
@@ -37,6 +38,7 @@ pub const GROUPS: [(&str, &str); 19] = [
     ("reading", "Mapping::parse_sdl_mapping: map, name, hats, refusal and place"),
     ("map", "Mapping::map"),
     ("map_rev", "Mapping::map_rev (the Rust's code is one of the element's, ours the least)"),
+    ("regrouped", "a line's pairs in another order, no code being put with two unlike entries: its map (document 02, P8)"),
     ("puts", "puts, map and map_rev on maps of any content (document 01 alone)"),
     ("default", "Mapping::default"),
     ("slots", "MappingData: button, axis, insert, remove"),

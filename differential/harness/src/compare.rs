@@ -1,6 +1,6 @@
 //! The comparisons of single calls.
 use crate::check::{shown, Group, Tally};
-use crate::gen::Rng;
+use crate::gen::{self, Rng};
 use crate::plain::{placed, refusal, Map, Refusal, Slots, Tok, Uuid, AXIS};
 use crate::{doc01, port};
 use std::cell::Cell;
@@ -184,6 +184,27 @@ fn reading(t: &mut Tally, line: &[u8], text: Option<&str>, b: &[u32], a: &[u32])
     if let (Ok(doc), Some(Ok(raw))) = (&doc, &raw) {
         look(t, &input, doc, raw, &here);
     }
+}
+
+/// Document 02, P8: with its pairs in another order an accepted line has the same map, on each side, where no code is put
+/// with two unlike entries.
+pub fn regrouped(t: &mut Tally, r: &mut Rng, line: &[u8], b: &[u32], a: &[u32]) {
+    let one = doc01::read(line, b, a);
+    if one.is_err() || !doc01::alike(line, b, a) {
+        return;
+    }
+    let Some(other) = gen::regrouped(r, line) else { return };
+    let input = || format!("{} for {}, buttons {b:x?}, axes {a:x?}", shown(&other), shown(line));
+    let rust = std::str::from_utf8(&other).ok().and_then(|l| rust(|| oracle::read_raw(l, b, a)));
+    let rust = rust.map(|r| match r {
+        Ok(m) => Ok(placed(oracle::plain(&m), &other)),
+        Err(e) => Err(Refusal::from(e)),
+    });
+    if rust.is_none() {
+        t.panic(&input);
+    }
+    t.case(Group::Regrouped, 0, rust.as_ref(), &one, &port::Reading::of(&other, b, a).answer(), &input);
+    t.case(Group::Regrouped, 0, None, &one, &doc01::read(&other, b, a), &input);
 }
 
 /// map on each code of the map and on others, map_rev on each element. gilrs takes any code of an element: where its

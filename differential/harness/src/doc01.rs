@@ -1,4 +1,5 @@
 //! Document 01 once more, in plain Rust on bytes: judges what gilrs has no answer for (refusals 10, 11, 12 and 16 to 23).
+use std::collections::BTreeMap;
 use crate::plain::{refusal, refusal_at, Map, Refusal, Slots, Tok, Uuid, AXIS};
 
 pub const CODES_MAX: usize = 256;
@@ -197,7 +198,6 @@ fn put(m: &mut Map, code: u32, e: u16) {
     }
 }
 
-
 /// 11 where the put would make a 257th code.
 fn put_or_full(m: &mut Map, code: u32, e: u16, p: usize) -> Result<(), Refusal> {
     put(m, code, e);
@@ -226,42 +226,63 @@ pub fn read(line: &[u8], buttons: &[u32], axes: &[u32]) -> Result<Map, Refusal> 
             Tok::Uuid(_) => m.name_start = w.pos,
             Tok::Platform { .. } => {}
             Tok::Name { start, len } => (m.name_start, m.name_len) = (start, len),
-            Tok::Axis { from, to, .. } => {
-                if let Some(c) = axes.get(from as usize) {
-                    put_or_full(&mut m, *c, to, p)?;
+            t => {
+                let (puts, flags) = puts(t, buttons, axes)?;
+                for (code, e) in puts {
+                    put_or_full(&mut m, code, e, p)?;
                 }
-            }
-            Tok::Button { from, to, .. } => {
-                if let Some(c) = buttons.get(from as usize) {
-                    put_or_full(&mut m, *c, to, p)?;
-                }
-            }
-            Tok::Hat { hat, direction, to, .. } => {
-                if hat == 0 {
-                    hat_zero(&mut m, direction, to, p)?;
-                }
+                m.hats |= flags;
             }
         }
     }
 }
 
-fn hat_zero(m: &mut Map, direction: u16, to: u16, p: usize) -> Result<(), Refusal> {
+/// What a token puts, in order, and the hat flags.
+fn puts(t: Tok, buttons: &[u32], axes: &[u32]) -> Result<(Vec<(u32, u16)>, u8), Refusal> {
+    let listed = |list: &[u32], n: u16, e: u16| list.get(n as usize).map(|c| (*c, e)).into_iter().collect();
+    match t {
+        Tok::Axis { from, to, .. } => Ok((listed(axes, from, to), 0)),
+        Tok::Button { from, to, .. } => Ok((listed(buttons, from, to), 0)),
+        Tok::Hat { hat: 0, direction, to, .. } => hat_zero(direction, to),
+        _ => Ok((Vec::new(), 0)),
+    }
+}
+
+fn hat_zero(direction: u16, to: u16) -> Result<(Vec<(u32, u16)>, u8), Refusal> {
     let (ax, bt) = match direction {
-        0 => return Ok(()),
+        0 => return Ok((Vec::new(), 0)),
         1 => (0x30011, 0x10220),
         4 => (0x30011, 0x10221),
         2 => (0x30010, 0x10223),
         8 => (0x30010, 0x10222),
         _ => return Err(refusal_at(7, 0)),
     };
+    let mut puts = Vec::new();
     match to {
-        18 | 19 => put_or_full(m, ax, AXIS + 7, p)?,
-        16 | 17 => put_or_full(m, ax, AXIS + 8, p)?,
+        18 | 19 => puts.push((ax, AXIS + 7)),
+        16 | 17 => puts.push((ax, AXIS + 8)),
         _ => {}
     }
-    put_or_full(m, if to >= AXIS { ax } else { bt }, to, p)?;
-    m.hats |= direction as u8;
-    Ok(())
+    puts.push((if to >= AXIS { ax } else { bt }, to));
+    Ok((puts, direction as u8))
+}
+
+/// Document 02, P8: whether a line that is accepted puts no code with two unlike entries.
+pub fn alike(line: &[u8], buttons: &[u32], axes: &[u32]) -> bool {
+    let mut seen = BTreeMap::new();
+    let mut w = Walker::new(line);
+    loop {
+        match w.step() {
+            Tok::End => return true,
+            t => {
+                for (code, e) in puts(t, buttons, axes).map_or(Vec::new(), |p| p.0) {
+                    if *seen.entry(code).or_insert(e) != e {
+                        return false;
+                    }
+                }
+            }
+        }
+    }
 }
 
 /// Build's checks in order, without 18.

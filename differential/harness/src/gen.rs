@@ -188,6 +188,23 @@ pub fn text(r: &mut Rng) -> String {
     s
 }
 
+/// The line with its pairs in another order, where it has a name field. Nothing after a final comma is no pair.
+pub fn regrouped(r: &mut Rng, line: &[u8]) -> Option<Vec<u8>> {
+    let mut fields: Vec<&[u8]> = line.split(|b| *b == b',').collect();
+    if fields.last() == Some(&&b""[..]) {
+        fields.pop();
+    }
+    let pairs = fields.get_mut(2..)?;
+    for k in (1..pairs.len()).rev() {
+        pairs.swap(k, r.below(k + 1));
+    }
+    let mut other = fields.join(&b","[..]);
+    if fields.last() == Some(&&b""[..]) || r.one_in(2) {
+        other.push(b',');
+    }
+    Some(other)
+}
+
 /// A list of codes: small, often with doubles.
 pub fn codes(r: &mut Rng, most: usize) -> Vec<u32> {
     let n = r.below(most + 1);

@@ -48,6 +48,7 @@ fn random(t: &mut Tally, lines: &[&[u8]], secs: u64, seed: u64) {
             }
             let (b, a) = (gen::codes(&mut r, 14), gen::codes(&mut r, 10));
             compare::line(t, &line, &b, &a);
+            compare::regrouped(t, &mut r, &line, &b, &a);
             compare::default(t, &b, &a);
             one_build(t, &mut r, &b, &a);
             if k % 5 == 0 {
@@ -160,10 +161,14 @@ mod fixed {
     fn corpora(t: &mut Tally, corpus: &[Vec<u8>]) {
         let b: Vec<u32> = (0..32).map(|k| 0x10130 + k).collect();
         let a: Vec<u32> = (0..16).map(|k| 0x30000 + k).collect();
+        let mut r = Rng::new(8);
         for text in corpus {
             let lines = harness::book::lines(text);
             for l in &lines {
                 compare::line(t, l, &b, &a);
+                for _ in 0..20 {
+                    compare::regrouped(t, &mut r, l, &b, &a);
+                }
                 compare::text(t, l.split(|c| *c == b',').next().unwrap());
             }
             // 150 lines at a time: a whole list does not fit a text of 65535 bytes
