@@ -1,9 +1,9 @@
 // The main job in one go, on a store in memory and a small list. Each step is headed by the command that does the same.
 use crate::files::half;
-use crate::filing::say_inserted;
 use crate::holding::say_line;
 use crate::holding::say_store;
-use crate::mappings::say_saved;
+use crate::inserting::say_inserted;
+use crate::saving::say_saved;
 use crate::say::say;
 use crate::table::say_reading;
 use line::ev::Axis;
@@ -34,7 +34,7 @@ fn insert_list(index: &mut [u8], text: &mut [u8]) -> u8 {
 ";
     say(list);
     let inserted = insert(index, text, list);
-    say_inserted(inserted, list)
+    say_inserted(inserted, list, 0, index, text)
 }
 
 // Jump is on button code 10131.
@@ -44,7 +44,8 @@ fn save_pad(index: &mut [u8], text: &mut [u8]) -> u8 {
         .slots;
     let slots = jump.insert_axis(nec::AXIS_LSTICKX, Axis::LeftStickX).slots;
     let saved = save(index, text, slots, &BUTTONS, &AXES, b"Seat 4", PAD);
-    say_saved(index, text, PAD, saved)
+    let map = saved.map;
+    say_saved(get(index, text, PAD), map)
 }
 
 // `hub demo`

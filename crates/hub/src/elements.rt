@@ -3,7 +3,12 @@ use crate::fields::after_part;
 use crate::fields::first;
 use crate::fields::nth_part;
 use crate::fields::part_at;
-use crate::say::say;
+use crate::say::put;
+use crate::suggest::Near;
+use crate::suggest::nothing_near;
+use crate::suggest::put_suggestion;
+use crate::suggest::with_name;
+use crate::suggest::with_names;
 use line::ev::Axis;
 use line::ev::AxisOrBtn;
 use line::ev::Button;
@@ -81,25 +86,101 @@ pub fn element_named(key: &[u8]) -> KeyElement {
     }
 }
 
-fn say_ident(e: AxisOrBtn) {
+// The elements in their order: the buttons by number, then the axes.
+pub const ELEMENTS: usize = 29;
+
+const BUTTONS: usize = 20;
+
+pub fn element_at(k: usize) -> AxisOrBtn {
+    if k < BUTTONS {
+        return AxisOrBtn::Btn(Button(k as u16));
+    }
+    if k < ELEMENTS {
+        return AxisOrBtn::Axis(Axis((k - BUTTONS) as u16));
+    }
+    AxisOrBtn::Btn(Button::Unknown)
+}
+
+// The place of an element in that order; Unknown's are 0 and 20.
+pub fn place_of(e: AxisOrBtn) -> usize {
+    match e {
+        AxisOrBtn::Btn(b) => {
+            if b.0 < 20 {
+                return b.0 as usize;
+            }
+            0
+        }
+        AxisOrBtn::Axis(a) => {
+            if a.0 < 9 {
+                return BUTTONS + a.0 as usize;
+            }
+            BUTTONS
+        }
+    }
+}
+
+// `a`, or nothing where an element has no ident.
+fn with_ident(near: Near, key: &[u8], e: AxisOrBtn) -> Near {
     let ident = ident_of(e);
     let name = ident.name;
-    if 0 < ident.len {
-        say(b" (");
-        say(first(&name, ident.len));
-        say(b")");
+    if ident.len == 0 {
+        return near;
+    }
+    with_name(near, key, first(&name, ident.len))
+}
+
+fn with_idents(near: Near, key: &[u8]) -> Near {
+    let mut next = near;
+    let mut k: usize = 0;
+    while k < ELEMENTS {
+        next = with_ident(next, key, element_at(k));
+        k += 1;
+    }
+    next
+}
+
+// The nearest ident to a key of a line.
+pub fn put_nearest_ident(fd: i32, key: &[u8]) {
+    put_suggestion(fd, with_idents(nothing_near(), key), key);
+}
+
+// The nearest ident or name.
+pub fn put_nearest_element(fd: i32, key: &[u8]) {
+    let idents = with_idents(nothing_near(), key);
+    let buttons = with_names(idents, key, &BUTTON_NAMES);
+    put_suggestion(fd, with_names(buttons, key, &AXIS_NAMES), key);
+}
+
+// `a`, or the source's name where an element has no ident.
+pub fn put_ident(fd: i32, e: AxisOrBtn) {
+    let ident = ident_of(e);
+    let name = ident.name;
+    if ident.len == 0 {
+        put_name(fd, e);
+        return;
+    }
+    put(fd, first(&name, ident.len));
+}
+
+fn put_name(fd: i32, e: AxisOrBtn) {
+    match e {
+        AxisOrBtn::Btn(b) => {
+            put(fd, nth_part(&BUTTON_NAMES, b.0 as usize, b'\n'));
+        }
+        AxisOrBtn::Axis(a) => {
+            put(fd, nth_part(&AXIS_NAMES, a.0 as usize, b'\n'));
+        }
     }
 }
 
 // `South (a)`
-pub fn say_element(e: AxisOrBtn) {
-    match e {
-        AxisOrBtn::Btn(b) => {
-            say(nth_part(&BUTTON_NAMES, b.0 as usize, b'\n'));
-        }
-        AxisOrBtn::Axis(a) => {
-            say(nth_part(&AXIS_NAMES, a.0 as usize, b'\n'));
-        }
+pub fn put_element(fd: i32, e: AxisOrBtn) {
+    put_name(fd, e);
+    let ident = ident_of(e);
+    let name = ident.name;
+    if 0 < ident.len {
+        put(fd, b" (");
+        put(fd, first(&name, ident.len));
+        put(fd, b")");
     }
-    say_ident(e);
 }

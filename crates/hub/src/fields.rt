@@ -92,3 +92,24 @@ pub fn nth_part(s: &[u8], n: usize, b: u8) -> &[u8] {
     }
     &s[..0]
 }
+
+// A text without one `b` at its end.
+fn without(s: &[u8], b: u8) -> &[u8] {
+    if s.len() == 0 {
+        return s;
+    }
+    let n = s.len() - 1;
+    if s[n] == b {
+        return first(s, n);
+    }
+    s
+}
+
+// A line without its LF, and one CR before that.
+pub fn bare(s: &[u8]) -> &[u8] {
+    let line = without(s, b'\n');
+    if line.len() == s.len() {
+        return s;
+    }
+    without(line, b'\r')
+}

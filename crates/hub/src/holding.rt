@@ -5,12 +5,14 @@ use crate::files::HALF;
 use crate::files::half;
 use crate::files::load;
 use crate::say::DONE;
-use crate::say::REFUSED;
 use crate::say::TROUBLE;
 use crate::say::complain;
-use crate::say::refused;
 use crate::say::say;
 use crate::say::say_number;
+use crate::shown::complain_shown;
+use crate::shown::say_shown;
+use crate::words::none;
+use crate::words::refused;
 use store::calls::Look;
 use store::calls::found;
 use store::calls::get;
@@ -29,8 +31,15 @@ struct Extent {
     records: usize,
 }
 
+// The lines held, and the room left for lines and bytes.
+pub struct Room {
+    pub held: usize,
+    pub lines: usize,
+    pub bytes: usize,
+}
+
 pub fn no_uuid(key: &[u8]) -> u8 {
-    complain(key);
+    complain_shown(key);
     complain(b": no UUID; it has 32 hexadecimal digits, or 36 characters with hyphens\n");
     TROUBLE
 }
@@ -40,14 +49,11 @@ pub fn say_line(index: &[u8], text: &[u8], id: Uuid) -> u8 {
     let look = found(index, text, id);
     match look {
         Look::Found => {
-            say(get(index, text, id));
+            say_shown(get(index, text, id));
             say(b"\n");
             DONE
         }
-        Look::Missing => {
-            say(b"none\n");
-            REFUSED
-        }
+        Look::Missing => none(),
         Look::Unsound => refused(19),
     }
 }
@@ -99,7 +105,7 @@ fn held(index: &[u8], text: &[u8], shown: bool) -> Extent {
             };
         }
         if shown {
-            say(section(text, bytes, len));
+            say_shown(section(text, bytes, len));
             say(b"\n");
         }
         lines = std::num::wrapping_add_usize(lines, 1);
@@ -120,14 +126,28 @@ fn held(index: &[u8], text: &[u8], shown: bool) -> Extent {
     }
 }
 
+fn room_beside(held: Extent) -> Room {
+    Room {
+        held: held.lines,
+        lines: less(HALF, held.records) / RECORD,
+        bytes: less(HALF, held.bytes),
+    }
+}
+
+// The room of a sound store.
+pub fn room_in(index: &[u8], text: &[u8]) -> Room {
+    room_beside(held(index, text, false))
+}
+
 fn say_held(held: Extent) {
+    let room = room_beside(held);
     say_number(held.lines);
     say(b" lines held, of ");
     say_number(held.bytes);
     say(b" bytes; room for ");
-    say_number(less(HALF, held.records) / RECORD);
+    say_number(room.lines);
     say(b" more lines and ");
-    say_number(less(HALF, held.bytes));
+    say_number(room.bytes);
     say(b" more bytes\n");
 }
 

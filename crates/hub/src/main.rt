@@ -1,20 +1,34 @@
 // The command line for support staff, with a hall's store file, lists of mapping lines and a pad's codes.
+mod bound;
+mod census;
+mod changing;
 mod codes;
 mod demo;
 mod elements;
+mod excerpt;
 mod fields;
 mod files;
 mod filing;
 mod help;
 mod holding;
+mod inserting;
 mod lint;
+mod manual;
 mod mappings;
+mod saving;
 mod say;
+mod shown;
 mod slots;
+mod suggest;
 mod table;
+mod words;
 
+use changing::Held;
+use changing::held_from;
+use changing::not_held;
 use files::arg_space;
 use help::wrong_use;
+use say::STATUS;
 use say::TROUBLE;
 use say::complain;
 use text::bytes::same_bytes;
@@ -46,26 +60,38 @@ fn is(command: &[u8], name: &[u8], given: usize, least: usize, most: usize) -> b
     same_bytes(command, name)
 }
 
-// The commands on mappings, whose further arguments are pairs.
-fn run_long(command: &[u8], at: usize, given: usize, a: &[u8], b: &[u8]) -> u8 {
+// Whether an argument asks for help.
+fn is_help(arg: &[u8]) -> bool {
+    if same_bytes(arg, b"--help") {
+        return true;
+    }
+    same_bytes(arg, b"-h")
+}
+
+// The commands that change a store.
+fn run_changing(held: Held, command: &[u8], at: usize, given: usize, a: &[u8], b: &[u8]) -> u8 {
+    if is(command, b"new", given, 1, 1) {
+        return filing::new_store(held, a);
+    }
+    if is(command, b"insert", given, 2, 2) {
+        return inserting::insert_list(held, a, b);
+    }
     if is(command, b"save", given, 3, MANY) {
-        return mappings::save_mapping(a, b, nth(at, 3));
+        return saving::save_mapping(held, a, b, nth(at, 3));
     }
-    if is(command, b"show", given, 2, MANY) {
-        return mappings::show_mapping(a, b, nth(at, 3));
+    if is(command, b"clear", given, 1, 1) {
+        return filing::clear_store(held, a);
     }
-    if is(command, b"default", given, 0, MANY) {
-        return mappings::default_mapping(nth(at, 1));
+    if is(command, b"undo", given, 1, 1) {
+        return filing::undo(held, a);
     }
     wrong_use(command)
 }
 
-fn run_command(command: &[u8], at: usize, given: usize, a: &[u8], b: &[u8]) -> u8 {
+// The commands that look into a store.
+fn run_looking(held: Held, command: &[u8], at: usize, given: usize, a: &[u8], b: &[u8]) -> u8 {
     if is(command, b"find", given, 2, 2) {
         return holding::find_line(a, b);
-    }
-    if is(command, b"insert", given, 2, 2) {
-        return filing::insert_list(a, b);
     }
     if is(command, b"list", given, 1, 1) {
         return holding::list_store(a, true);
@@ -73,14 +99,31 @@ fn run_command(command: &[u8], at: usize, given: usize, a: &[u8], b: &[u8]) -> u
     if is(command, b"check", given, 1, 1) {
         return holding::list_store(a, false);
     }
-    if is(command, b"new", given, 1, 1) {
-        return filing::new_store(a);
+    if is(command, b"show", given, 2, MANY) {
+        return mappings::show_mapping(a, b, nth(at, 3));
     }
-    if is(command, b"clear", given, 1, 1) {
-        return filing::clear_store(a);
+    run_changing(held, command, at, given, a, b)
+}
+
+// The commands that need no store.
+fn run_command(held: Held, command: &[u8], at: usize, given: usize, a: &[u8], b: &[u8]) -> u8 {
+    if is_help(command) {
+        return help::help();
+    }
+    if is_help(a) {
+        return help::help_on(command);
+    }
+    if is_help(b) {
+        return help::help_on(command);
+    }
+    if same_bytes(command, b"--version") {
+        return help::version();
     }
     if is(command, b"lint", given, 1, 1) {
         return lint::lint_list(a);
+    }
+    if is(command, b"default", given, 0, MANY) {
+        return mappings::default_mapping(nth(at, 1));
     }
     if is(command, b"demo", given, 0, 0) {
         return demo::demo();
@@ -91,11 +134,11 @@ fn run_command(command: &[u8], at: usize, given: usize, a: &[u8], b: &[u8]) -> u
     if is(command, b"help", given, 0, 0) {
         return help::help();
     }
-    run_long(command, at, given, a, b)
+    run_looking(held, command, at, given, a, b)
 }
 
 // Runs the command at argument `at`.
-fn run(at: usize) -> u8 {
+fn run(held: Held, at: usize) -> u8 {
     let given = given_after(at);
     let mut command = arg_space();
     let n = os::arg(at, &mut command);
@@ -106,7 +149,7 @@ fn run(at: usize) -> u8 {
     if os::arg_count() <= at {
         return help::help();
     }
-    run_command(&command[..n], at, given, &a[..an], &b[..bn])
+    run_command(held, &command[..n], at, given, &a[..an], &b[..bn])
 }
 
 // Whether an argument is no longer than the most.
@@ -129,22 +172,22 @@ fn all_have_room() -> bool {
     true
 }
 
-fn run_all(at: usize) -> u8 {
+fn run_all(held: Held, at: usize) -> u8 {
     if all_have_room() {
-        return run(at);
+        return run(held, at);
     }
     complain(b"an argument may have at most 16384 bytes\n");
     TROUBLE
 }
 
-// A Rattle program ends with status 0. After `--status` the command's status is written to descriptor 3, from which the
-// script `hub` takes it.
+// A Rattle program ends with status 0. The script `hub` starts it with `--script`, what it says of the store (see
+// changing.rt) and the command, and takes the command's status from descriptor 3.
 fn main() {
     let mut space = arg_space();
     let n = os::arg(1, &mut space);
-    if same_bytes(&space[..n], b"--status") {
-        io::print_decimal(3, run_all(2) as u64);
+    if same_bytes(&space[..n], b"--script") {
+        io::print_decimal(STATUS, run_all(held_from(2), 6) as u64);
         return;
     }
-    run_all(1);
+    run_all(not_held(), 1);
 }

@@ -1,11 +1,18 @@
 // The slots that arguments fill, as `a=10130`.
+use crate::codes::ABS;
 use crate::codes::CodeParse;
+use crate::codes::KEY;
+use crate::codes::complain_kind;
+use crate::codes::is_of_kind;
 use crate::codes::parse_code;
 use crate::elements::element_named;
+use crate::elements::put_nearest_element;
 use crate::fields::after;
 use crate::fields::before;
 use crate::files::arg_space;
+use crate::say::ERR;
 use crate::say::complain;
+use crate::shown::complain_shown;
 use line::ev::AxisOrBtn;
 use line::ev::Code;
 use line::tables::KeyElement;
@@ -20,9 +27,7 @@ pub struct Slots {
     pub bad: bool,
 }
 
-fn with_bad(slots: Slots, pair: &[u8], why: &[u8]) -> Slots {
-    complain(pair);
-    complain(why);
+fn with_bad(slots: Slots) -> Slots {
     let mut next = slots;
     next.bad = true;
     next
@@ -31,7 +36,9 @@ fn with_bad(slots: Slots, pair: &[u8], why: &[u8]) -> Slots {
 fn with_changed(slots: Slots, pair: &[u8], changed: Changed) -> Slots {
     let former = changed.former;
     if former.is_some() {
-        return with_bad(slots, pair, b": the element is given twice\n");
+        complain_shown(pair);
+        complain(b": the element is given twice\n");
+        return with_bad(slots);
     }
     let filled = changed.slots;
     Slots {
@@ -49,31 +56,66 @@ fn with_element(slots: Slots, pair: &[u8], e: AxisOrBtn, code: u32) -> Slots {
     }
 }
 
+// The kind of an element's own list.
+pub fn kind_of(e: AxisOrBtn) -> u32 {
+    if e.is_button() {
+        return KEY;
+    }
+    ABS
+}
+
+// A code is of one of the two kinds; whether it is in the element's list is the library's to say.
+fn with_kind(slots: Slots, pair: &[u8], e: AxisOrBtn, code: u32) -> Slots {
+    if is_of_kind(code, KEY) {
+        return with_element(slots, pair, e, code);
+    }
+    if is_of_kind(code, ABS) {
+        return with_element(slots, pair, e, code);
+    }
+    complain_kind(after(pair, b'='), code, kind_of(e));
+    with_bad(slots)
+}
+
 fn with_code(slots: Slots, pair: &[u8], code: u32) -> Slots {
-    let element = element_named(before(pair, b'='));
+    let key = before(pair, b'=');
+    let element = element_named(key);
     match element {
-        KeyElement::Is(e) => with_element(slots, pair, e, code),
-        KeyElement::Missing => with_bad(slots, pair, b": no element has this name\n"),
+        KeyElement::Is(e) => with_kind(slots, pair, e, code),
+        KeyElement::Missing => {
+            complain_shown(pair);
+            complain(b": no element has this name");
+            put_nearest_element(ERR, key);
+            complain(b"\n");
+            with_bad(slots)
+        }
     }
 }
 
-// `a=10130`; a list of codes fills no slot.
-fn with_pair(slots: Slots, pair: &[u8]) -> Slots {
-    let key = before(pair, b'=');
+// Whether an argument fills no slot: a list of codes, or `anyway`.
+fn is_no_pair(arg: &[u8]) -> bool {
+    let key = before(arg, b'=');
     if same_bytes(key, b"buttons") {
-        return slots;
+        return true;
     }
     if same_bytes(key, b"axes") {
+        return true;
+    }
+    same_bytes(arg, b"anyway")
+}
+
+// `a=10130`
+fn with_pair(slots: Slots, pair: &[u8]) -> Slots {
+    if is_no_pair(pair) {
         return slots;
     }
     let code = parse_code(after(pair, b'='));
     match code {
         CodeParse::Parsed(c) => with_code(slots, pair, c),
-        CodeParse::Invalid => with_bad(
-            slots,
-            pair,
-            b": not of the form ELEMENT=CODE; a code has 1 to 8 hexadecimal digits\n",
-        ),
+        CodeParse::Invalid => {
+            complain_shown(pair);
+            complain(b": not of the form ELEMENT=CODE; a code has 1 to 8 hexadecimal digits\n");
+            with_bad(slots)
+        }
     }
 }
 
@@ -97,4 +139,24 @@ pub fn slots_named(from: usize) -> Slots {
         i += 1;
     }
     slots
+}
+
+// Whether argument `i` is that word.
+fn is_word(word: &[u8], i: usize) -> bool {
+    let mut space = arg_space();
+    let n = os::arg(i, &mut space);
+    same_bytes(&space[..n], word)
+}
+
+// Whether an argument from `from` on is that word.
+pub fn has_word(word: &[u8], from: usize) -> bool {
+    let count = os::arg_count();
+    let mut i = from;
+    while i < count {
+        if is_word(word, i) {
+            return true;
+        }
+        i += 1;
+    }
+    false
 }

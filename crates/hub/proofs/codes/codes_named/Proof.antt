@@ -7,10 +7,10 @@ use Rattle.hub.proofs.codes.codes_named.Statement.{statement}
 use Rattle.hub.proofs.codes.codes_named.Tie as tie
 
 abbrev Inv-loop : tie.InvT-loop
-Inv-loop key from codes₀ count i₀ codes i = Unit {0}
+Inv-loop key kind from codes₀ count i₀ codes i = Unit {0}
 
 abbrev μ-loop : tie.MeasureT-loop
-μ-loop key from codes₀ count i₀ codes i = count - i
+μ-loop key kind from codes₀ count i₀ codes i = count - i
 
 arg-count-requires : tie.Need-arg-count-requires Inv-loop μ-loop
 arg-count-requires c κs = search needs

@@ -8,10 +8,10 @@ use Rattle.hub.proofs.codes.with_parts.Statement.{statement}
 use Rattle.hub.proofs.codes.with_parts.Tie as tie
 
 abbrev Inv-loop : tie.InvT-loop
-Inv-loop s next₀ at₀ next at = Unit {0}
+Inv-loop s kind next₀ at₀ next at = Unit {0}
 
 abbrev μ-loop : tie.MeasureT-loop
-μ-loop s next₀ at₀ next at = length s - at
+μ-loop s kind next₀ at₀ next at = length s - at
 
 loop-holds : tie.Need-loop-holds Inv-loop μ-loop
 loop-holds c = tt

@@ -25,14 +25,14 @@ returns c = search needs
 section-requires : tie.Need-section-requires Inv-loop μ-loop
 section-requires c κs = search needs
 
-say-requires : tie.Need-say-requires Inv-loop μ-loop
-say-requires c κs = search needs
+say-shown-requires : tie.Need-say-shown-requires Inv-loop μ-loop
+say-shown-requires c κs = search needs
 
 slice-aggregate-say : tie.Need-slice-aggregate-say Inv-loop μ-loop
 slice-aggregate-say c = search needs
 
-say-requires-2 : tie.Need-say-requires-2 Inv-loop μ-loop
-say-requires-2 c κs = search needs
+say-requires : tie.Need-say-requires Inv-loop μ-loop
+say-requires c κs = search needs
 
 wrapping-add-usize-requires : tie.Need-wrapping-add-usize-requires Inv-loop μ-loop
 wrapping-add-usize-requires c κs = search needs
@@ -68,9 +68,9 @@ held-spec =
     line-len-requires
     returns
     section-requires
-    say-requires
+    say-shown-requires
     slice-aggregate-say
-    say-requires-2
+    say-requires
     wrapping-add-usize-requires
     wrapping-add-usize-requires-2
     sub-if3

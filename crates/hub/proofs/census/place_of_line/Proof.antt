@@ -4,26 +4,20 @@ use borrow.Author.Needs.{needs}
 use native.Mathlib.Omega.{arith}
 use lib.ListN.{length}
 use Prim.Native.Nat.{_-_}
-use Rattle.hub.proofs.filing.walk.Statement.{statement}
-use Rattle.hub.proofs.filing.walk.Tie as tie
+use Rattle.hub.proofs.census.place_of_line.Statement.{statement}
+use Rattle.hub.proofs.census.place_of_line.Tie as tie
 
 abbrev Inv-loop : tie.InvT-loop
-Inv-loop list count walked₀ at₀ i₀ walked at i = Unit {0}
+Inv-loop list n at₀ i₀ at i = Unit {0}
 
 abbrev μ-loop : tie.MeasureT-loop
-μ-loop list count walked₀ at₀ i₀ walked at i = length list - at
+μ-loop list n at₀ i₀ at i = length list - at
 
 loop-holds : tie.Need-loop-holds Inv-loop μ-loop
 loop-holds c = tt
 
 returns : tie.Need-returns Inv-loop μ-loop
 returns c = search needs
-
-line-at-requires : tie.Need-line-at-requires Inv-loop μ-loop
-line-at-requires c κs = search needs
-
-counted-requires : tie.Need-counted-requires Inv-loop μ-loop
-counted-requires c κs = search needs
 
 wrapping-add-usize-requires : tie.Need-wrapping-add-usize-requires Inv-loop μ-loop
 wrapping-add-usize-requires c κs = search needs
@@ -32,7 +26,7 @@ after-part-requires : tie.Need-after-part-requires Inv-loop μ-loop
 after-part-requires c κs = search needs
 
 loop-less : tie.Need-loop-less Inv-loop μ-loop
-loop-less c = omega (arith, c .after-part .ensures (c .before .before .before .before .before .loop-test .taken))
+loop-less c = omega (arith, c .after-part .ensures (c .before .before .before .loop-test .taken))
 
 loop-again : tie.Need-loop-again Inv-loop μ-loop
 loop-again c = tt
@@ -40,16 +34,14 @@ loop-again c = tt
 returns-2 : tie.Need-returns-2 Inv-loop μ-loop
 returns-2 c = search needs
 
-pub walk-spec : {M : Type 1} → statement M
-walk-spec =
+pub place-of-line-spec : {M : Type 1} → statement M
+place-of-line-spec =
     tie.close
     (tie.spec
     Inv-loop
     μ-loop
     loop-holds
     returns
-    line-at-requires
-    counted-requires
     wrapping-add-usize-requires
     after-part-requires
     loop-less

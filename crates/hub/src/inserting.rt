@@ -1,0 +1,224 @@
+// The command insert, and what it says of a list.
+use crate::census::Census;
+use crate::census::census_of;
+use crate::census::count_lines;
+use crate::census::place_of_line;
+use crate::changing::Held;
+use crate::changing::may_change;
+use crate::changing::replace;
+use crate::excerpt::put_start;
+use crate::fields::bare;
+use crate::fields::before;
+use crate::fields::first;
+use crate::fields::less;
+use crate::fields::line_at;
+use crate::files::List;
+use crate::files::half;
+use crate::files::list_space;
+use crate::files::load;
+use crate::files::read_list;
+use crate::holding::Room;
+use crate::holding::room_in;
+use crate::say::DONE;
+use crate::say::ERR;
+use crate::say::OUT;
+use crate::say::REFUSED;
+use crate::say::TROUBLE;
+use crate::say::complain;
+use crate::say::put_number;
+use crate::say::say;
+use crate::say::say_number;
+use crate::words::put_refused;
+use crate::words::refused;
+use crate::words::refused_at;
+use std::num::wrapping_add_usize;
+use store::calls::Answer;
+use store::calls::Inserted;
+use store::calls::get;
+use store::calls::insert;
+use text::uuid::Uuid;
+use text::uuid::UuidParse;
+
+// A line of the report, where there is something to report.
+fn say_some(n: usize, words: &[u8]) {
+    if n == 0 {
+        return;
+    }
+    say(b"  ");
+    say_number(n);
+    say(words);
+}
+
+fn say_no_uuid(census: Census, list: &[u8]) {
+    say_some(
+        census.no_uuid,
+        b" whose first field is no UUID; the first is line ",
+    );
+    if census.no_uuid == 0 {
+        return;
+    }
+    say_number(census.first_number);
+    say(b": ");
+    put_start(OUT, bare(line_at(list, census.first_at)));
+    say(b"\n");
+}
+
+// What became of the lines walked; `fresh`: how many more lines are held than before.
+fn say_census(census: Census, list: &[u8], count: usize, fresh: usize) {
+    say_number(count);
+    say(b" lines walked, ");
+    say_number(census.wanted);
+    say(b" filed, ");
+    say_number(less(count, census.wanted));
+    say(b" passed over\n");
+    say_some(
+        less(census.wanted, fresh),
+        b" of those filed took the place of another line\n",
+    );
+    say_some(
+        census.unreadable,
+        b" of those filed can't be read: hub lint FILE says why\n",
+    );
+    say_some(census.empty, b" empty\n");
+    say_some(census.comments, b" comments\n");
+    say_some(census.elsewhere, b" for other platforms\n");
+    say_no_uuid(census, list);
+}
+
+// The bytes of the line that one with the same UUID takes the place of.
+fn bytes_freed(index: &[u8], text: &[u8], line: &[u8]) -> usize {
+    let id = Uuid::parse_str(before(line, b','));
+    match id {
+        UuidParse::Parsed(uuid) => get(index, text, uuid).len(),
+        UuidParse::Invalid => 0,
+    }
+}
+
+// How many bytes a line wants, and what is free.
+pub fn complain_room(wanted: usize, freed: usize, room: Room) {
+    put_number(ERR, wanted);
+    complain(b" bytes wanted; ");
+    put_number(ERR, wrapping_add_usize(room.bytes, freed));
+    complain(b" bytes free, and room for ");
+    put_number(ERR, room.lines);
+    complain(b" more lines\n");
+}
+
+// What can be done where there is no room.
+pub fn complain_advice() {
+    complain(
+        b"  what can be done: insert a list of only the pads that the hall has, into a fresh store (hub new); or
+  keep a second store; or clear this one (hub clear) and insert what is needed. hub list shows what is held.\n",
+    );
+}
+
+// Which line stopped an insert, and how many were not reached.
+fn complain_stop(number: usize, list: &[u8], count: usize, line: &[u8]) {
+    put_refused(ERR, number);
+    complain(b"\n  line ");
+    put_number(ERR, wrapping_add_usize(count, 1));
+    complain(b" stopped the insert: ");
+    put_start(ERR, line);
+    complain(b"\n  the lines before it are kept; ");
+    put_number(ERR, less(count_lines(list), wrapping_add_usize(count, 1)));
+    complain(b" lines after it were not reached\n  ");
+}
+
+fn stopped(number: usize, list: &[u8], count: usize, index: &[u8], text: &[u8]) -> u8 {
+    let line = bare(line_at(list, place_of_line(list, count)));
+    complain_stop(number, list, count, line);
+    if number == 21 {
+        complain_room(
+            line.len(),
+            bytes_freed(index, text, line),
+            room_in(index, text),
+        );
+        complain_advice();
+        return REFUSED;
+    }
+    complain(b"it has ");
+    put_number(ERR, line.len());
+    complain(b" bytes; take it out of the list, or shorten it\n");
+    REFUSED
+}
+
+fn say_filed(list: &[u8], count: usize, held: usize, index: &[u8], text: &[u8]) {
+    let room = room_in(index, text);
+    say_census(census_of(list, count), list, count, less(room.held, held));
+}
+
+fn refused_text(list: &[u8], place: usize) -> u8 {
+    refused_at(10, place);
+    complain(b"  line ");
+    put_number(ERR, count_lines(first(list, wrapping_add_usize(place, 1))));
+    complain(b" of the list has it; nothing is filed\n");
+    REFUSED
+}
+
+// What an insert came to, in a store that held `held` lines before.
+pub fn say_inserted(inserted: Inserted, list: &[u8], held: usize, index: &[u8], text: &[u8]) -> u8 {
+    let answer = inserted.answer;
+    let count = inserted.count;
+    match answer {
+        Answer::Done => {
+            say_filed(list, count, held, index, text);
+            DONE
+        }
+        Answer::NotUtf8(place) => refused_text(list, place),
+        Answer::Unsound => refused(19),
+        Answer::LineTooLong => {
+            say_filed(list, count, held, index, text);
+            stopped(20, list, count, index, text)
+        }
+        Answer::NoRoom => {
+            say_filed(list, count, held, index, text);
+            stopped(21, list, count, index, text)
+        }
+        Answer::BufferTooLarge => refused(23),
+    }
+}
+
+// Whether lines were filed: all, or those before the one it stopped at.
+fn has_filed(answer: Answer) -> bool {
+    match answer {
+        Answer::Done => true,
+        Answer::NotUtf8(_) => false,
+        Answer::Unsound => false,
+        Answer::LineTooLong => true,
+        Answer::NoRoom => true,
+        Answer::BufferTooLarge => false,
+    }
+}
+
+fn insert_text(held: Held, store: &[u8], list: &[u8]) -> u8 {
+    let mut former_index = half();
+    let mut former_text = half();
+    let status = load(store, &mut former_index, &mut former_text);
+    if status != DONE {
+        return status;
+    }
+    let mut index = former_index;
+    let mut text = former_text;
+    let inserted = insert(&mut index, &mut text, list);
+    let answer = inserted.answer;
+    if has_filed(answer) {
+        let status = replace(store, held, &former_index, &former_text, &index, &text);
+        if status != DONE {
+            return status;
+        }
+    }
+    let room = room_in(&former_index, &former_text);
+    say_inserted(inserted, list, room.held, &index, &text)
+}
+
+// `hub insert STORE FILE`
+pub fn insert_list(held: Held, store: &[u8], path: &[u8]) -> u8 {
+    if !may_change(held) {
+        return TROUBLE;
+    }
+    let mut space = list_space();
+    match read_list(path, &mut space) {
+        List::Read(n) => insert_text(held, store, first(&space, n)),
+        List::Failed => TROUBLE,
+    }
+}

@@ -1,0 +1,186 @@
+// What `hub help COMMAND` says. Each function answers whether the command is one of its own.
+use crate::say::put;
+use text::bytes::same_bytes;
+
+fn put_insert(fd: i32) {
+    put(
+        fd,
+        b"hub insert STORE FILE
+  Files the lines of a list of at most 1048576 bytes; lines end at LF or CR LF. A line is
+  filed when its first field is a UUID, and its 'platform:', if any, says Linux. It takes the
+  place of a line that is held under the same UUID. Says how many lines were filed, how many of
+  them in place of another, how many can't be read (hub lint says why), and which were passed
+  over: empty lines, comments, other platforms, first fields that are no UUID. It stops at a
+  line that is too long (20) or has no room (21), says at which, and keeps the lines before it.
+  A list that is not UTF-8 (10) files nothing. 'hub undo STORE' takes an insert back.
+",
+    );
+}
+
+// The commands that change a store, but for save.
+pub fn put_filing(fd: i32, command: &[u8]) -> bool {
+    if same_bytes(command, b"new") {
+        put(
+            fd,
+            b"hub new STORE
+  Makes a fresh store file, which holds no line: 131070 bytes, all 0.
+  A file that stands already is left alone.
+",
+        );
+        return true;
+    }
+    if same_bytes(command, b"insert") {
+        put_insert(fd);
+        return true;
+    }
+    if same_bytes(command, b"clear") {
+        put(
+            fd,
+            b"hub clear STORE
+  Empties the store, whether it was sound or not. A file that has not the 131070 bytes of a
+  store file is left alone. 'hub undo STORE' brings the lines back.
+",
+        );
+        return true;
+    }
+    if same_bytes(command, b"undo") {
+        put(
+            fd,
+            b"hub undo STORE
+  Brings back the store as it was before the last command that changed it: each such command
+  keeps the former store as STORE.old. The present store becomes STORE.old, so that a second
+  undo takes the first one back.
+",
+        );
+        return true;
+    }
+    false
+}
+
+// The commands that look into a store.
+pub fn put_holding(fd: i32, command: &[u8]) -> bool {
+    if same_bytes(command, b"find") {
+        put(
+            fd,
+            b"hub find STORE UUID
+  Prints the line held under that UUID, or says 'none'. A UUID has 32 hexadecimal digits, or
+  the form with hyphens, also in braces or after 'urn:uuid:'. Control bytes of a line are
+  printed as \\x and two digits.
+",
+        );
+        return true;
+    }
+    if same_bytes(command, b"list") {
+        put(
+            fd,
+            b"hub list STORE
+  Prints the lines held, in the order in which they were filed, and the room left.
+",
+        );
+        return true;
+    }
+    if same_bytes(command, b"check") {
+        put(
+            fd,
+            b"hub check STORE
+  Says that the store is sound, how many lines it holds and which room is left; or 19.
+",
+        );
+        return true;
+    }
+    false
+}
+
+fn put_save(fd: i32) {
+    put(
+        fd,
+        b"hub save STORE UUID NAME buttons=CODES axes=CODES ELEMENT=CODE .. [anyway]
+  Builds a mapping line for the pad and files it; prints the line and its map, and where it
+  takes the place of another line, that line and the elements that are no longer bound.
+  'hub undo STORE' takes a save back.
+  CODES are all of the pad's button and axis codes, in ascending order: the line says which
+  place of the list is meant. 'evtest' prints them for a pad that is plugged in: the buttons
+  under EV_KEY, the axes under EV_ABS, in decimal. Here a code is hexadecimal: 1 and four digits
+  for a button, 3 and four digits for an axis, with 0x before it or not. So evtest's 304
+  (BTN_SOUTH) is 10130, and its axis 5 is 30005. A list has commas and may have ranges:
+  buttons=10130-10134,10220. A list that is not the pad's own binds other buttons.
+  An ELEMENT is an SDL ident (a, b, x, y, leftshoulder, leftx, dpup, ..) or the source's name
+  (South, LeftStickX, DPadUp, ..). LeftTrigger is the shoulder, lefttrigger the trigger.
+  Not saved unless 'anyway' is added: a line with no element, and one that gives a code to two
+  elements, since one of them is lost when the line is read.
+  A saved line has buttons and whole axes only. What save can't write: hats (dpup:h0.1),
+  triggers that are axes (lefttrigger:a2) and half axes (+a2, a2~). Most lines of real lists have
+  one of these; write such a line into a file, and insert that.
+  An Xbox 360 pad, with a and b exchanged:
+    hub save hall.store 030000005e0400008e02000014010000 'Seat 4' \\
+      buttons=10130,10131,10133,10134,10136,10137,1013a-1013e axes=30000-30005 \\
+      a=10131 b=10130 x=10133 y=10134 leftx=30000 lefty=30001
+",
+    );
+}
+
+// The commands on mappings.
+pub fn put_mappings(fd: i32, command: &[u8]) -> bool {
+    if same_bytes(command, b"save") {
+        put_save(fd);
+        return true;
+    }
+    if same_bytes(command, b"show") {
+        put(
+            fd,
+            b"hub show STORE UUID buttons=CODES axes=CODES
+  Reads the line held under that UUID with the pad's codes, and prints it with its map: each
+  code with its element, then name, hat flags and default flag. 'hub help save' says how
+  CODES are written, and where a pad's codes are to be found.
+",
+        );
+        return true;
+    }
+    if same_bytes(command, b"default") {
+        put(
+            fd,
+            b"hub default buttons=CODES axes=CODES
+  Prints the map that a pad with these codes gets where no line is held for it.
+",
+        );
+        return true;
+    }
+    false
+}
+
+// The commands that need no store.
+pub fn put_others(fd: i32, command: &[u8]) -> bool {
+    if same_bytes(command, b"lint") {
+        put(
+            fd,
+            b"hub lint FILE
+  Reads every line of a list of at most 1048576 bytes, and shows each refused one, up to 1000,
+  with its number, its meaning and a mark under the place, which counts bytes from 0. UUID, name
+  and the refused pair are shown; two dots stand where the line is cut, one dot for each byte
+  that is no printable ASCII. Then it says how many lines an insert would pass over. Lines
+  that start with # are comments, and not read.
+",
+        );
+        return true;
+    }
+    if same_bytes(command, b"demo") {
+        put(
+            fd,
+            b"hub demo
+  Shows the main job on a small list: a fresh store, insert, save, find, read back. The
+  store is in memory; no file is touched.
+",
+        );
+        return true;
+    }
+    if same_bytes(command, b"help") {
+        put(
+            fd,
+            b"hub help [COMMAND]
+  Lists the commands, or says more about one; so do 'hub --help' and 'hub COMMAND --help'.
+",
+        );
+        return true;
+    }
+    false
+}
