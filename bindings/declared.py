@@ -103,6 +103,22 @@ def limits():
         ]
 
 
+def words():
+    """The words of each refusal as the hub, the header and the Rust crate have them, by number."""
+    hub = re.search(r'b"\\n(.*?)"', Path("crates/hub/src/words.rt").read_text(), re.S)[1].split("\n")
+    listed = Path("bindings/raspteal.h").read_text().split("Refusals by number", 1)[1]
+    crate = Path("bindings/rust/src/error.rs").read_text()
+    numbers, meanings = (crate.split(f"pub fn {name}(", 1)[1].split("pub fn ", 1)[0] for name in ("number", "meaning"))
+    meant = dict(re.findall(r'Error::(\w+).* => "(.*)",', meanings))
+    sides = [
+        {str(number): told for number, told in enumerate(hub, 1) if told},
+        dict(re.findall(r"^ \* {1,2}(\d+) (.+)$", listed, re.M)),
+        {number: meant.get(name) for name, number in re.findall(r"Error::(\w+).* => (\d+),", numbers)},
+    ]
+    for number in sorted(set().union(*sides), key=int):
+        yield number, [side.get(number) for side in sides]
+
+
 def main():
     passed, failed = 0, 0
 
@@ -122,6 +138,8 @@ def main():
         check(None not in told and all(fields == told[0] for fields in told), f"{name}: {told}")
     for name, told in limits():
         check(told[0] == told[1] == told[2] and len(told[0]) == 1, f"{name}: exports, header, ffi.rs: {told}")
+    for number, told in words():
+        check(told[0] is not None and len(set(told)) == 1, f"refusal {number}: hub, header, crate: {told}")
     test = Path("bindings/c/test.c").read_text()
     safe = Path("bindings/rust/src/ffi/safe.rs").read_text()
     sources = [p for folder in ("src", "tests") for p in Path("bindings/rust", folder).glob("*.rs")]

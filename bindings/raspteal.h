@@ -374,18 +374,31 @@ raspteal_written raspteal_store_get(const uint8_t *index, size_t index_len, cons
                                     raspteal_uuid id, uint8_t *out, size_t out_len);
 
 /* ---- Refusals by number -------------------------------------------------------------------------------------------
- *  1 the first field is no UUID                 13 comma in the name
- *  2 no comma after the UUID                    14 the slot of an unknown element is filled
- *  3 not exactly one colon in a pair            15 the code of a slot is not in its list; carries the code
- *  4 a pair's value                             16 axis slot 7 or 8 is filled
- *  5 a pair's key, before an axis value         17 a name over 2048 bytes
- *  6 a pair's key, before another value         18 an output shorter than the line
- *  7 the direction of hat 0                     19 the store is not sound, or a buffer is over 65535 bytes
- *  8 an empty value (walker only)               20 a line over 4096 bytes
- *  9 a step after 1 or 2 (walker only)          21 no room
- * 10 not UTF-8                                  22 a saved name with LF or `platform:`
- * 11 a 257th code in a map                      23 clear: a buffer over 65535 bytes
- * 12 a list over 1024 codes
+ *  1 the first field is no UUID
+ *  2 no comma follows the UUID
+ *  3 a pair has not exactly one colon
+ *  4 a pair's value is none: aN, bN or hH.D with numbers up to 65535
+ *  5 an axis value has an unknown key
+ *  6 a button or hat value has an unknown key
+ *  7 hat 0 has no such direction: 0, 1, 2, 4 or 8
+ *  8 a pair's value is empty
+ *  9 nothing follows a refused first field
+ * 10 not UTF-8
+ * 11 more than 256 codes in a map
+ * 12 a list of more than 1024 codes
+ * 13 the name has a comma
+ * 14 the element is Unknown
+ * 15 the code is not in its list
+ * 16 no mapping line can name this axis
+ * 17 the name has more than 2048 bytes
+ * 18 the output is too short
+ * 19 not a sound store
+ * 20 a wanted line of more than 4096 bytes
+ * 21 no room in the store
+ * 22 the name has a line end or platform:
+ * 23 a buffer of more than 65535 bytes
+ * Only the walker says 8 and 9, only clear 23; 19 is also said where a buffer has more than 65535 bytes; 15 carries its
+ * code.
  * Places: 1, 2, 7 and 9 at 0; 3, 5, 6, 8 and 11 at the pair's start; 4 there or, for a hat, further on; 10 at the end
  * of the longest run of whole characters. The others have none. */
 

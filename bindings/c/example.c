@@ -107,6 +107,6 @@ int main(int argc, char **argv) {
     /* A name that may not be saved is refused, and the store stays as it was. */
     saved = raspteal_store_save(STORE, bound, BUTTONS, AXES, (const uint8_t *)"Seat 7, left", 12, pad);
     if (saved.refusal.number == 13)
-        printf("refused 13: comma in the name\n");
+        printf("refused 13: the name has a comma\n");
     return 0;
 }

@@ -12,7 +12,7 @@ use std::fmt;
 /// let refused = Mapping::parse_sdl_mapping(line, &[], &[]).unwrap_err();
 /// assert_eq!(refused, Error::InvalidValue { place: 35 });
 /// assert_eq!((refused.number(), refused.place(), refused.code()), (4, Some(35), None));
-/// assert_eq!(refused.to_string(), "refused 4: bad value of a pair");
+/// assert_eq!(refused.to_string(), "refused 4: a pair's value is none: aN, bN or hH.D with numbers up to 65535");
 /// ```
 #[derive(Clone, Copy, Debug, PartialEq, Eq, Hash)]
 pub enum Error {
@@ -185,31 +185,31 @@ impl Error {
         }
     }
 
-    /// What the number means.
+    /// What the number means, in the words of the header and of the hub.
     pub fn meaning(&self) -> &'static str {
         match self {
             Error::InvalidGuid { .. } => "the first field is no UUID",
-            Error::UnexpectedEnd { .. } => "no comma after the UUID",
-            Error::InvalidKeyValPair { .. } => "not exactly one colon in a pair",
-            Error::InvalidValue { .. } => "bad value of a pair",
-            Error::UnknownAxis { .. } => "unknown key of a pair with an axis value",
-            Error::UnknownButton { .. } => "unknown key of a pair",
-            Error::UnknownHatDirection { .. } => "bad direction of hat 0",
-            Error::EmptyValue { .. } => "empty value of a pair",
-            Error::InvalidParserState { .. } => "a step after a bad first field",
+            Error::UnexpectedEnd { .. } => "no comma follows the UUID",
+            Error::InvalidKeyValPair { .. } => "a pair has not exactly one colon",
+            Error::InvalidValue { .. } => "a pair's value is none: aN, bN or hH.D with numbers up to 65535",
+            Error::UnknownAxis { .. } => "an axis value has an unknown key",
+            Error::UnknownButton { .. } => "a button or hat value has an unknown key",
+            Error::UnknownHatDirection { .. } => "hat 0 has no such direction: 0, 1, 2, 4 or 8",
+            Error::EmptyValue { .. } => "a pair's value is empty",
+            Error::InvalidParserState { .. } => "nothing follows a refused first field",
             Error::NotUtf8 { .. } => "not UTF-8",
             Error::TooManyCodes { .. } => "more than 256 codes in a map",
             Error::ListTooLong => "a list of more than 1024 codes",
-            Error::InvalidName => "comma in the name",
-            Error::UnknownElement => "the slot of an unknown element is filled",
-            Error::InvalidCode(_) => "the code of a slot is not in its list",
-            Error::NotSdl2Compatible => "an axis slot of the directional pad is filled",
-            Error::NameTooLong => "a name of more than 2048 bytes",
-            Error::OutputTooShort => "an output shorter than the line",
-            Error::Unsound => "the store is not sound",
-            Error::LineTooLong => "a line of more than 4096 bytes",
-            Error::NoRoom => "no room",
-            Error::UnsavedName => "LF or `platform:` in the name",
+            Error::InvalidName => "the name has a comma",
+            Error::UnknownElement => "the element is Unknown",
+            Error::InvalidCode(_) => "the code is not in its list",
+            Error::NotSdl2Compatible => "no mapping line can name this axis",
+            Error::NameTooLong => "the name has more than 2048 bytes",
+            Error::OutputTooShort => "the output is too short",
+            Error::Unsound => "not a sound store",
+            Error::LineTooLong => "a wanted line of more than 4096 bytes",
+            Error::NoRoom => "no room in the store",
+            Error::UnsavedName => "the name has a line end or platform:",
             Error::BufferTooLarge => "a buffer of more than 65535 bytes",
         }
     }

@@ -161,7 +161,7 @@ fn inserts_20_and_21() {
     expect(refused.error, 20, None, None);
     assert_eq!(refused.count, 2);
     assert!(store.found(Uuid::from_u128(1)).unwrap() && !store.found(Uuid::NIL).unwrap());
-    assert_eq!(refused.to_string(), "refused 20: a line of more than 4096 bytes, after 2 lines");
+    assert_eq!(refused.to_string(), "refused 20: a wanted line of more than 4096 bytes, after 2 lines");
     assert_eq!(std::error::Error::source(&refused).unwrap().to_string(), refused.error.to_string());
     assert_eq!(store.insert(&long[..4096]), Ok(1));
 
@@ -198,6 +198,6 @@ fn as_errors() {
         Mapping::parse_sdl_mapping(U, &[], &[])?;
         Ok(())
     }
-    assert_eq!(boxed().unwrap_err().to_string(), "refused 2: no comma after the UUID");
+    assert_eq!(boxed().unwrap_err().to_string(), "refused 2: no comma follows the UUID");
     assert!("".parse::<Uuid>().unwrap_err().to_string().starts_with("no UUID"));
 }
