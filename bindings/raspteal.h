@@ -341,7 +341,8 @@ raspteal_built raspteal_from_data(raspteal_data data, const uint32_t *buttons, s
                                   const uint32_t *axes, size_t axes_len, const uint8_t *name, size_t name_len,
                                   raspteal_uuid id, uint8_t *out, size_t out_len);
 
-/* The default map of a pad with these lists. Refusal: 12. */
+/* The default map of a pad with these lists: of the 31 usual codes those that stand in their list, a button's among the
+ * buttons and an axis's among the axes. Refusal: 12. */
 raspteal_answer raspteal_default(const uint32_t *buttons, size_t buttons_len, const uint32_t *axes, size_t axes_len);
 
 /* ---- The store: an index and a text, at most 65535 bytes each, all 0 when fresh -----------------------------------

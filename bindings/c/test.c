@@ -173,6 +173,10 @@ static void builds(void) {
     CHECK(!c.former.found && raspteal_data_button(c.slots, 1).found);
     raspteal_answer d = raspteal_default(LIST(buttons), LIST(axes));
     CHECK(d.refusal.number == 0 && d.map.is_default && d.map.count == 3);
+    d = raspteal_default(buttons, 1, LIST(axes));
+    CHECK(d.map.is_default && d.map.count == 2 && d.map.entries[0].code == 0x10130 && d.map.entries[1].code == 0x30000);
+    d = raspteal_default(buttons, 0, LIST(buttons));
+    CHECK(d.refusal.number == 0 && d.map.is_default && d.map.count == 0);
 }
 
 static void stores(void) {

@@ -33,7 +33,8 @@ impl Mapping {
         Mapping::accepted(safe::parse_sdl_mapping(line.as_ref(), buttons, axes))
     }
 
-    /// The map of a pad with these lists and no line of its own. Refusal: 12.
+    /// The map of a pad with these lists and no line of its own: of the 31 usual codes those that stand in their list,
+    /// a button's among the buttons and an axis's among the axes. Refusal: 12.
     ///
     /// ```
     /// use raspteal::{Button, Code, Mapping};

@@ -120,10 +120,14 @@ fn maps() {
 
     let buttons: Vec<Code> = Button::ALL.iter().filter_map(|b| b.to_nec()).collect();
     let map = Mapping::default_of(&buttons, &[]).unwrap();
-    assert!(
-        map.is_default() && map.iter().all(|(code, e)| AxisOrBtn::Btn(Button::East) == e || buttons.contains(&code))
-    );
+    assert!(map.is_default() && map.iter().all(|(code, _)| buttons.contains(&code)));
     assert_eq!((map.len(), map.name_range()), (19, 0..0));
+    for (buttons, axes) in [(&[][..], &[][..]), (&[], &[Code(0x10131)])] {
+        let map = Mapping::default_of(buttons, axes).unwrap();
+        assert!(map.is_default() && map.is_empty());
+    }
+    let east = Mapping::default_of(&[Code(0x10131)], &[]).unwrap();
+    assert_eq!(east.iter().collect::<Vec<_>>(), [(Code(0x10131), Button::East.into())]);
     assert!(format!("{map:?}").starts_with("Mapping { entries: [(Code(65840), Btn(South))"));
 }
 

@@ -16,7 +16,7 @@ use Rattle.line.specs.Buttons as B
 use Rattle.line.specs.Elements.{codeOf}
 use Rattle.line.specs.Maps.{entryOf, unusedEntry, putEntry, toMap, emptyMap}
 use Rattle.line.proofs.TableLaws.{getD-any}
-use Rattle.map.specs.Default.{rows, rowCount, keptOf, putKept, flaggedMap}
+use Rattle.map.specs.Default.{rows, rowCount, inItsList, putKept, flaggedMap}
 
 -- ---- the rows
 abbrev codePart : Entry → Code
@@ -43,12 +43,13 @@ rows-long i h = h
 
 -- ---- the fold
 module _ (b a : List ℕ) (es xs : List Entry) (i : ℕ) (d : Entry) (h : i < length xs) where
-  pub kept-put : keptOf b a (getD xs i d .code) ≡ true
+  pub kept-put : inItsList b a (getD xs i d .code) ≡ true
       → putKept b a es (drop i xs) ≡ putKept b a (putEntry (getD xs i d) es) (drop (i + 1) xs)
   unfolding putKept
   kept-put e = rw (drop-cons xs i d h, e, add-one)
 
-  pub kept-not : keptOf b a (getD xs i d .code) ≡ false → putKept b a es (drop i xs) ≡ putKept b a es (drop (i + 1) xs)
+  pub kept-not : inItsList b a (getD xs i d .code) ≡ false
+      → putKept b a es (drop i xs) ≡ putKept b a es (drop (i + 1) xs)
   unfolding putKept
   kept-not e = rw (drop-cons xs i d h, e, add-one)
 

@@ -1,5 +1,5 @@
 -- Document 01's sample lines (a) to (l), with buttons 10130, 10131 and axes 30000, in one list; and the default map of
--- two pairs of lists. Assumes nothing.
+-- four pairs of lists. Assumes nothing.
 use Prim.Native.Nat.{ℕ}
 use mathlib.Core.Path.{_≡_, refl}
 use mathlib.Core.Bool.{false}
@@ -21,7 +21,7 @@ use Rattle.map.specs.declared.mapping_data.MappingData.{MappingData}
 use Rattle.map.specs.Slots.{noSlots, buttonOf, axisOf, insertBtnOf}
 use Rattle.map.specs.Build.{filledFrom, missingOf, axisChecks, slotChecks, checksOf, ended, pairTexts, builtLine}
 use Rattle.map.specs.Build.{builtMap, answerOf, buildOf, outputOf}
-use Rattle.map.specs.Default.{rows, buttonRow, inItsList, keptOf, putKept, flaggedMap, defaultOf}
+use Rattle.map.specs.Default.{rows, buttonRow, inItsList, putKept, flaggedMap, defaultOf}
 
 -- ---- a sample: a line that is read, or slots and a name of which a line is built
 pub data Example : Type 0 where
@@ -72,16 +72,26 @@ pub all-shown : Shown (followed samples (sampleL ∷ []))
 all-shown = followed-shown samples (sampleL ∷ []) samples-hold l-shown
 
 -- ---- the default map
--- two empty lists: 10131 stays
-pub none-listed : defaultOf [] [] ≡ record { answer = Accepted; map = toMap (flaggedMap (buttonRow 2 ∷ [])) }
-unfolding defaultOf rows putKept keptOf inItsList firstOf putEntry
+-- two empty lists: an empty map with the default flag on
+pub none-listed : defaultOf [] [] ≡ record { answer = Accepted; map = toMap (flaggedMap []) }
+unfolding defaultOf rows putKept inItsList firstOf
 none-listed = refl
+
+-- 10131 among the axes is no button's code
+pub east-among-axes : defaultOf [] (0x10131 ∷ []) ≡ record { answer = Accepted; map = toMap (flaggedMap []) }
+unfolding defaultOf rows putKept inItsList firstOf
+east-among-axes = refl
+
+pub east-listed : defaultOf (0x10131 ∷ []) []
+    ≡ record { answer = Accepted; map = toMap (flaggedMap (buttonRow 2 ∷ [])) }
+unfolding defaultOf rows putKept inItsList firstOf putEntry
+east-listed = refl
 
 -- South and AXIS_DPADY listed
 pub two-listed : defaultOf (0x10130 ∷ []) (0x30011 ∷ [])
     ≡ record {
       answer = Accepted;
-      map = toMap (flaggedMap (buttonRow 1 ∷ buttonRow 2 ∷ entryOf AXIS_DPADY (asAxis 8) ∷ []));
+      map = toMap (flaggedMap (buttonRow 1 ∷ entryOf AXIS_DPADY (asAxis 8) ∷ []));
     }
-unfolding defaultOf rows putKept keptOf inItsList firstOf putEntry
+unfolding defaultOf rows putKept inItsList firstOf putEntry
 two-listed = refl

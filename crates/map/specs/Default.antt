@@ -1,9 +1,9 @@
--- The default map of two lists of codes (document 01, 'Also').
+-- The default map of two lists of codes (document 01, 'Also', with request P1).
 -- Public contracts rest on these definitions; they assume nothing.
 use Prim.Native.Nat.{ℕ, zero, suc}
 use mathlib.Core.List.{List, [], _∷_, _++_}
 use mathlib.Core.Bool.{Bool, true}
-use lib.Dec.{ltb, eqb}
+use lib.Dec.{ltb}
 use Rattle.text.specs.Bytes.{pick}
 use Rattle.line.specs.declared.ev.Code.{Code}
 use Rattle.line.specs.declared.ev.AxisOrBtn.the-variants.{Axis, Btn}
@@ -53,19 +53,12 @@ rows =
 unfoldable pub inItsList : List ℕ → List ℕ → Code → Bool
 inItsList buttons axes c = pick (ltb (c .0) (axisCode 1 .0)) (inList c buttons) (inList c axes)
 
--- "10131 stays even if the list lacks it"
-abbrev pub staysUnlisted : Code → Bool
-staysUnlisted c = eqb (c .0) 0x10131
-
--- the code stays in the map
-unfoldable pub keptOf : List ℕ → List ℕ → Code → Bool
-keptOf buttons axes c = pick (staysUnlisted c) true (inItsList buttons axes c)
-
--- the rows that are kept, put into es one after the other
+-- the rows whose code is in its list, put into es one after the other: East's as every other ("The default map shall
+-- drop East too where the button list lacks 10131", request P1)
 unfoldable pub putKept : List ℕ → List ℕ → List Entry → List Entry → List Entry
 putKept buttons axes es [] = es
 putKept buttons axes es (x ∷ xs) =
-    pick (keptOf buttons axes (x .code)) (putKept buttons axes (putEntry x es) xs) (putKept buttons axes es xs)
+    pick (inItsList buttons axes (x .code)) (putKept buttons axes (putEntry x es) xs) (putKept buttons axes es xs)
 
 -- "default flag on, hat flags and name 0"
 abbrev pub flaggedMap : List Entry → MapView

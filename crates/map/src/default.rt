@@ -1,4 +1,4 @@
-// The default map of a pad: its codes by their usual meaning.
+// The default map of a pad: those of its codes that have a usual meaning.
 use crate::error::MappingAnswer;
 use crate::error::MappingError;
 use crate::lists::in_list;
@@ -14,7 +14,7 @@ ghost use mathlib.Core.Path.{_≡_};
 ghost use Prim.Native.Nat.{_<_};
 ghost use lib.ListN.{getD};
 ghost use Rattle.line.specs.Maps.{unusedEntry, toMap};
-ghost use Rattle.map.specs.Default.{rows, rowCount, inItsList, keptOf, keptMap, defaultOf};
+ghost use Rattle.map.specs.Default.{rows, rowCount, inItsList, keptMap, defaultOf};
 
 const ROWS: usize = 31;
 
@@ -114,17 +114,7 @@ fn in_its_list(buttons: &[u32], axes: &[u32], code: Code) -> bool
     in_list(axes, code)
 }
 
-// East stays even where the list lacks it.
-fn kept(buttons: &[u32], axes: &[u32], code: Code) -> bool
-    ensures { λ r. ⌜ r ≡ keptOf (now (buttons .entry)) (now (axes .entry)) code ⌝ }
-{
-    if code.0 == nec::BTN_EAST.0 {
-        return true;
-    }
-    in_its_list(buttons, axes, code)
-}
-
-// The map of the rows that are kept.
+// The map of the rows whose code is in its list.
 fn kept_map(buttons: &[u32], axes: &[u32]) -> Mapping
     ensures { λ r. ⌜ r ≡ toMap (keptMap (now (buttons .entry)) (now (axes .entry))) ⌝ }
 {
@@ -133,7 +123,7 @@ fn kept_map(buttons: &[u32], axes: &[u32]) -> Mapping
     let mut i: usize = 0;
     while i < ROWS {
         let e = row(i);
-        if kept(buttons, axes, e.code) {
+        if in_its_list(buttons, axes, e.code) {
             let a = map.put(e);
             map = a.map;
         }
@@ -142,7 +132,7 @@ fn kept_map(buttons: &[u32], axes: &[u32]) -> Mapping
     map
 }
 
-// The default map.
+// The default map: of the 31 codes those in their list, each to its usual element.
 pub fn default(buttons: &[u32], axes: &[u32]) -> DefaultMap
     ensures { λ r. ⌜ r ≡ defaultOf (now (buttons .entry)) (now (axes .entry)) ⌝ }
 {

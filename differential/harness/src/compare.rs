@@ -265,15 +265,20 @@ pub fn any_map(t: &mut Tally, r: &mut Rng) {
     t.case(Group::Puts, 0, None, &want, &map.entries(), &|| "a map after puts".into());
 }
 
-/// `default`.
+/// `default`, with the Rust that request P1 mended; and with the Rust as published, where East is the only difference.
 pub fn default(t: &mut Tally, b: &[u32], a: &[u32]) {
     let input = || format!("buttons {b:x?}, axes {a:x?}");
-    let doc = doc01::default(b, a);
-    let rust = if doc.is_ok() { rust(|| Ok(placed(oracle::default(b, a), b""))) } else { None };
-    if doc.is_ok() && rust.is_none() {
+    let (doc, here) = (doc01::default(b, a), port::default(b, a));
+    let asked = |f: fn(&[u32], &[u32]) -> oracle::Map| {
+        if doc.is_ok() { rust(|| Ok(placed(f(b, a), b""))) } else { None }
+    };
+    let (mended, published) = (asked(oracle::default), asked(oracle::published_default));
+    if doc.is_ok() && (mended.is_none() || published.is_none()) {
         t.panic(&input);
     }
-    t.case(Group::Default, number(&doc), rust.as_ref(), &doc, &port::default(b, a), &input);
+    t.case(Group::Default, number(&doc), mended.as_ref(), &doc, &here, &input);
+    let (doc, here) = (doc.map(doc01::with_east), here.map(doc01::with_east));
+    t.case(Group::East, number(&doc), published.as_ref(), &doc, &here, &input);
 }
 
 /// Slots on all sides at once.

@@ -333,6 +333,7 @@ pub fn build(
     Ok((m, line))
 }
 
+/// With request P1: "The default map shall drop East too where the button list lacks 10131."
 pub fn default(buttons: &[u32], axes: &[u32]) -> Result<Map, Refusal> {
     if !lists_fit(buttons, axes) {
         return Err(refusal(12));
@@ -340,7 +341,7 @@ pub fn default(buttons: &[u32], axes: &[u32]) -> Result<Map, Refusal> {
     let mut m = Map { default: true, ..Map::default() };
     for k in 1..=19 {
         let c = to_nec(k).unwrap();
-        if buttons.contains(&c) || c == 0x10131 {
+        if buttons.contains(&c) {
             put(&mut m, c, k);
         }
     }
@@ -351,4 +352,10 @@ pub fn default(buttons: &[u32], axes: &[u32]) -> Result<Map, Refusal> {
         }
     }
     Ok(m)
+}
+
+/// What request P1 took out of it: the published default has East in every map.
+pub fn with_east(mut m: Map) -> Map {
+    put(&mut m, 0x10131, 2);
+    m
 }

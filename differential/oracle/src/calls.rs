@@ -122,16 +122,23 @@ pub fn walk(line: &str, calls: usize) -> Vec<Tok> {
     out
 }
 
-/// A map's entries, name and flags.
+/// A map's entries, name and flags; `mapping::Mapping` and `mended::Mapping` are two types.
+macro_rules! plain {
+    ($m:expr) => {{
+        let m = $m;
+        let mut codes = codes_in(m);
+        codes.sort();
+        Map {
+            entries: codes.iter().map(|c| (*c, number(m.map(&EvCode(*c)).unwrap()))).collect(),
+            name: m.name().to_owned(),
+            default: m.is_default(),
+            hats: m.hats_mapped(),
+        }
+    }};
+}
+
 pub fn plain(m: &Mapping) -> Map {
-    let mut codes = codes_in(m);
-    codes.sort();
-    Map {
-        entries: codes.iter().map(|c| (*c, number(m.map(&EvCode(*c)).unwrap()))).collect(),
-        name: m.name().to_owned(),
-        default: m.is_default(),
-        hats: m.hats_mapped(),
-    }
+    plain!(m)
 }
 
 /// `Mapping::parse_sdl_mapping`.
@@ -148,8 +155,13 @@ pub fn read(line: &str, buttons: &[u32], axes: &[u32]) -> Result<Map, Refusal> {
     read_raw(line, buttons, axes).map(|m| plain(&m))
 }
 
-/// `Mapping::default`.
+/// `Mapping::default`, mended by request P1: East is tested as the others are.
 pub fn default(buttons: &[u32], axes: &[u32]) -> Map {
+    plain!(&crate::mended::Mapping::default(&Gamepad { buttons: evs(buttons), axes: evs(axes) }))
+}
+
+/// `Mapping::default` as published.
+pub fn published_default(buttons: &[u32], axes: &[u32]) -> Map {
     plain(&Mapping::default(&Gamepad { buttons: evs(buttons), axes: evs(axes) }))
 }
 

@@ -1,5 +1,6 @@
 //! gilrs 0.11.2's mapping sources, unchanged, and calls to them on plain data with document 01's numbers.
-//! differential/run lays the sources out under target/gilrs; they are not part of this repository.
+//! differential/run lays the sources out under target/gilrs (and those of `mended` under target/gilrs-mended); they are
+//! not part of this repository.
 #![allow(dead_code)]
 #[macro_use]
 extern crate log;
@@ -10,6 +11,9 @@ pub mod constants;
 pub mod ev;
 #[path = "../../../target/gilrs/src/mapping/mod.rs"]
 pub mod mapping;
+// `mapping` once more, with the one name mended that request P1 names: for `default` alone.
+#[path = "../../../target/gilrs-mended/src/mapping/mod.rs"]
+pub mod mended;
 // `mapping` keeps its parser private: the same file once more, for the walker.
 #[path = "../../../target/gilrs/src/mapping/parser.rs"]
 pub mod parser;

@@ -191,7 +191,9 @@ fn main() {
     while list.case(&walk_case(&short_line(&mut r))) {}
     list.write(folder, "walks.txt");
 
-    let mut list = List::new("Lines around the grammar, and default maps: `read ANSWER LINE`, `default ANSWER BUTTONS`.");
+    let mut list = List::new(
+        "Lines around the grammar: `read ANSWER LINE`; default maps, mended by request P1: `default ANSWER BUTTONS`.",
+    );
     for n in 0..=32 {
         let d = placed(oracle::default(&buttons()[..n], &axes()), b"");
         assert_eq!(Ok(&d), doc01::default(&buttons()[..n], &axes()).as_ref());

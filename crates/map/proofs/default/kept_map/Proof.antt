@@ -34,8 +34,8 @@ loop-holds c = (omega arith, ([], omega arith, flagged-empty (c .new .result) (c
 row-requires : tie.Need-row-requires Inv-loop μ-loop
 row-requires c κs = omega arith
 
-kept-requires : tie.Need-kept-requires Inv-loop μ-loop
-kept-requires c κs = search needs
+in-its-list-requires : tie.Need-in-its-list-requires Inv-loop μ-loop
+in-its-list-requires c κs = search needs
 
 put-requires : tie.Need-put-requires Inv-loop μ-loop
 put-requires c κs = search needs
@@ -54,7 +54,7 @@ loop-again c =
     let inv = l .loop .inv .1 in
     let x = getD rows i unusedEntry in
     let row = c .before .before .row .ensures in
-    let kept = rw row at (c .before .kept .ensures) in
+    let kept = rw row at (c .before .in-its-list .ensures) in
     let in-rows : i < length rows = rows-long i (omega arith) in
     ⊎-elim
     (λ w.
@@ -98,7 +98,7 @@ kept-map-spec =
     new-requires
     loop-holds
     row-requires
-    kept-requires
+    in-its-list-requires
     put-requires
     add-i
     loop-less
