@@ -8,14 +8,14 @@ use Prim.Native.Nat.{ℕ, zero, suc, _+_, _*_, _-_, _/_, _%_, _<_, _≤_}
 use native.Mathlib.Omega.{arith}
 use borrow.Author.Tests.{lt-ltb, le-ltb, le-leb, lt-leb, leb-true, eq-eqb, ne-eqb, eqb-true}
 use lib.Dec.{leb, eqb}
-use lib.ListN.{length, length-append, set, getD, drop}
-use Rattle.text.specs.Bytes.{pick, written}
+use lib.ListN.{length, length-append, getD, drop}
+use Rattle.text.specs.Bytes.{pick}
 use Rattle.text.specs.Decimal.{digits, decimal, isDigit, readDigits, unsigned, indexNumber}
 use Rattle.text.specs.Inner.{every, isAscii, allDigits}
 use Rattle.text.specs.declared.decimal.IndexParse.{IndexParse}
 use Rattle.text.specs.declared.decimal.IndexParse.the-variants.{Parsed, Invalid}
 use Rattle.text.proofs.ListLaws.{lt-or-le, both-parts}
-use Rattle.text.proofs.BytesLaws.{written-one, written-more, every-none, every-snoc, every-also}
+use Rattle.text.proofs.BytesLaws.{every-none, every-snoc, every-also}
 
 digits-zero : (n : ℕ) → digits zero n ≡ (48 + n % 10) ∷ []
 unfolding digits
@@ -127,18 +127,6 @@ read-back n h =
     plain (decimal n) n
     (unsigned-all (decimal n) (decimal-positive n)
     ∙ rw (← append-nil (decimal n)) (read-digits n n [] (omega arith) ∙ simp (le-leb n 65535 h)))
-
--- a number below ten is one byte
-pub put-small : (l : List ℕ) (at n : ℕ) → n < 10 → at < length l → set l at (48 + n % 10) ≡ written l at (decimal n)
-put-small l at n h p = rw (decimal-small n h) (written-one l at (48 + n % 10) p)
-
--- any other is what is written of a tenth of it, and one byte more
-pub put-more : (l m : List ℕ) (at r n : ℕ) → 10 ≤ n → at + length (decimal n) ≤ length l
-    → r ≡ at + length (decimal (n / 10))
-    → m ≡ written l at (decimal (n / 10)) → set m r (48 + n % 10) ≡ written l at (decimal n)
-put-more l m at r n h p e w =
-    rw (e, w, decimal-more n h)
-    (written-more l at (decimal (n / 10)) (48 + n % 10) (omega (arith, decimal-more-length n h)))
 
 -- the end
 pub read-end : (a : ℕ) → a ≤ 65535 → readDigits a [] ≡ Parsed a

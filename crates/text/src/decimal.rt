@@ -69,18 +69,22 @@ pub fn index_len(n: usize) -> usize
     count
 }
 
-// Writes `n` at `at`, first `n / 10` in a call to itself, and returns the place after the last digit.
+// Writes `n` at `at`, its last digit first, and returns the place after the last digit. A loop, since the firmware
+// rules allow no function that calls itself.
 fn put_index(out: &mut [u8], at: usize, n: usize) -> usize
     requires { ⌜ at + length (decimal n) ≤ length (now out) ⌝ }
     ensures { λ r. ⌜ Put (now (out .entry)) at (decimal n) r (now (out .exit)) ⌝ }
 {
-    if n < 10 {
-        out[at] = b'0' + (n % 10) as u8;
-        return at + 1;
+    let end = at + index_len(n);
+    let mut place = end;
+    let mut upper = n;
+    while 10 <= upper {
+        place -= 1;
+        out[place] = b'0' + (upper % 10) as u8;
+        upper = upper / 10;
     }
-    let next = put_index(out, at, n / 10);
-    out[next] = b'0' + (n % 10) as u8;
-    next + 1
+    out[at] = b'0' + (upper % 10) as u8;
+    end
 }
 
 // Writes `n` in base ten at `at`.
