@@ -2,6 +2,7 @@
 pub mod Bytes
 pub mod Utf8
 pub mod Uuid
+pub mod Spellings
 pub mod Decimal
 -- what private functions and proofs need
 pub mod Inner

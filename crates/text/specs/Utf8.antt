@@ -1,6 +1,7 @@
 -- UTF-8 by the ABNF of RFC 3629, section 4. Each alternative of a rule is the list of the ranges of its octets.
 -- Public contracts rest on these definitions; they assume nothing.
-use Prim.Native.Nat.{ℕ, zero, suc, _+_}
+use Prim.Native.Nat.{ℕ, zero, suc, _+_, _<_, _≤_}
+use mathlib.Core.Path.{_≡_}
 use mathlib.Core.Bool.{Bool, true, false}
 use mathlib.Core.List.{List, [], _∷_, _++_}
 use lib.Dec.{leb, eqb}
@@ -83,3 +84,26 @@ validRun s = runOf (length s) s
 -- the whole is UTF-8: the run is all of it
 unfoldable pub isUtf8 : List ℕ → Bool
 isUtf8 s = eqb (validRun s) (length s)
+
+-- "whole characters": each is one character, and nothing after it
+unfoldable pub AllWhole : List (List ℕ) → Type 0
+AllWhole [] = Unit {0}
+AllWhole (c ∷ cs) = ((0 < length c) × (charLength c ≡ length c)) × AllWhole cs
+
+-- characters one after the other
+unfoldable pub together : List (List ℕ) → List ℕ
+together [] = []
+together (c ∷ cs) = c ++ together cs
+
+-- a cut of the bytes into whole characters, which take so many bytes, and the rest
+pub record WholeCut (s : List ℕ) (n : ℕ) : Type 0 where
+  pub chars : List (List ℕ)
+  pub rest : List ℕ
+  pub whole : AllWhole chars
+  pub bytes : together chars ++ rest ≡ s
+  pub many : length (together chars) ≡ n
+
+-- the theorem `longest-run`: the run is such a cut, and no other cut is longer
+pub record LongestRun (s : List ℕ) : Type 0 where
+  pub run : WholeCut s (validRun s)
+  pub longest : (n : ℕ) → WholeCut s n → n ≤ validRun s
