@@ -87,20 +87,33 @@ fn swap(
     status
 }
 
+// Brings STORE.old back where there is no store.
+fn restore(held: Held, store: &[u8], index: &[u8], text: &[u8]) -> u8 {
+    let status = place(store, held, index, text);
+    if status == DONE {
+        say(b"the store was gone, and is STORE.old again\n");
+        say_store(index, text, false);
+    }
+    status
+}
+
 // `hub undo STORE`
 pub fn undo(held: Held, store: &[u8]) -> u8 {
     if !may_change(held) {
         return TROUBLE;
     }
-    let mut index = half();
-    let mut text = half();
-    let status = load(store, &mut index, &mut text);
-    if status != DONE {
-        return status;
-    }
     let mut old_index = half();
     let mut old_text = half();
     let status = load_old(store, &mut old_index, &mut old_text);
+    if status != DONE {
+        return status;
+    }
+    if !stands(store) {
+        return restore(held, store, &old_index, &old_text);
+    }
+    let mut index = half();
+    let mut text = half();
+    let status = load(store, &mut index, &mut text);
     if status != DONE {
         return status;
     }

@@ -107,8 +107,9 @@ pub fn complain_room(wanted: usize, freed: usize, room: Room) {
 // What can be done where there is no room.
 pub fn complain_advice() {
     complain(
-        b"  what can be done: insert a list of only the pads that the hall has, into a fresh store (hub new); or
-  keep a second store; or clear this one (hub clear) and insert what is needed. hub list shows what is held.\n",
+        b"  what can be done: insert a list of only the pads that the hall has, into a fresh store (hub new);
+  or keep a second store; or clear this one (hub clear) and insert what is needed. hub list shows what
+  is held.\n",
     );
 }
 

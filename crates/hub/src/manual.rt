@@ -49,7 +49,7 @@ pub fn put_filing(fd: i32, command: &[u8]) -> bool {
             b"hub undo STORE
   Brings back the store as it was before the last command that changed it: each such command
   keeps the former store as STORE.old. The present store becomes STORE.old, so that a second
-  undo takes the first one back.
+  undo takes the first one back. Where the store is gone, STORE.old is brought back.
 ",
         );
         return true;
@@ -98,12 +98,13 @@ fn put_save(fd: i32) {
   Builds a mapping line for the pad and files it; prints the line and its map, and where it
   takes the place of another line, that line and the elements that are no longer bound.
   'hub undo STORE' takes a save back.
-  CODES are all of the pad's button and axis codes, in ascending order: the line says which
-  place of the list is meant. 'evtest' prints them for a pad that is plugged in: the buttons
-  under EV_KEY, the axes under EV_ABS, in decimal. Here a code is hexadecimal: 1 and four digits
-  for a button, 3 and four digits for an axis, with 0x before it or not. So evtest's 304
-  (BTN_SOUTH) is 10130, and its axis 5 is 30005. A list has commas and may have ranges:
-  buttons=10130-10134,10220. A list that is not the pad's own binds other buttons.
+  CODES are all of the pad's button and axis codes, in the order by which lines count them, for
+  most pads ascending: a line says which place of the list is meant, so a list that is not the
+  pad's own binds other buttons. 'evtest' prints the codes of a pad that is plugged in: buttons
+  under EV_KEY, axes under EV_ABS, in decimal; the axes of a hat (16 and 17) are left out. Here a
+  code is hexadecimal: 1 and four digits for a button, 3 and four digits for an axis, with 0x
+  before it or not. So evtest's 304 (BTN_SOUTH) is 10130, and its axis 5 is 30005. A list has
+  commas and may have ranges: buttons=10130-10134,10220.
   An ELEMENT is an SDL ident (a, b, x, y, leftshoulder, leftx, dpup, ..) or the source's name
   (South, LeftStickX, DPadUp, ..). LeftTrigger is the shoulder, lefttrigger the trigger.
   Not saved unless 'anyway' is added: a line with no element, and one that gives a code to two
