@@ -99,13 +99,25 @@ typedef struct {
     size_t len;
 } raspteal_ident;
 
+/* A code and its element. input and output: 0 the lower half of an axis, 1 the upper half, 2 all of it; any other number
+ * is read as 2. inverted: the axis counts the other way round. */
 typedef struct {
     uint32_t code;
     raspteal_element element;
+    uint8_t input;
+    uint8_t output;
+    bool inverted;
 } raspteal_entry;
 
-/* A map from codes to elements: the first count entries, ascending by code, the others all 0. The name is name_len
- * bytes at name_start of the line that the map was read from. hats_mapped has a bit for each direction of hat 0. */
+/* An entry, if there is one; else an unused one. */
+typedef struct {
+    bool found;
+    raspteal_entry entry;
+} raspteal_entered;
+
+/* A map from codes to elements: the first count entries, ascending by code, the others unused: code 0, button 0, input
+ * and output 2, not inverted. An unused entry is not all 0. The name is name_len bytes at name_start of the line that
+ * the map was read from. hats_mapped has a bit for each direction of hat 0. */
 typedef struct {
     size_t count;
     raspteal_entry entries[RASPTEAL_CODES_MAX];
@@ -269,10 +281,22 @@ raspteal_ident raspteal_ident_of(raspteal_element e);
 
 /* ---- Maps ------------------------------------------------------------------------------------------------------ */
 
-/* The entry of a code and an element. Any element number is taken as it is. */
+/* The entry of a code and an element, full on both sides and not inverted. Any element number is taken as it is. */
 raspteal_entry raspteal_entry_new(uint32_t code, raspteal_element element);
 
-/* The empty map: all 0. */
+/* The entry with its ranges. */
+raspteal_entry raspteal_entry_ranged(uint32_t code, raspteal_element element, uint8_t input, uint8_t output,
+                                     bool inverted);
+
+/* An entry as one number: the code times 2^32, the shape times 2^16, and the element's number. The shape is 1 for an
+ * axis, and twice the ranges: the input, four times the output, and 16 where inverted; in it full is 0, upper 1, lower
+ * 2. raspteal_entry_of_number gives the entry back. */
+uint64_t raspteal_entry_number(raspteal_entry e);
+
+/* The entry of a number. */
+raspteal_entry raspteal_entry_of_number(uint64_t x);
+
+/* The empty map: no entries, all of them unused, name, flag and hats 0. */
 raspteal_mapping raspteal_mapping_new(void);
 
 /* The map with one entry more, onto the one of its code if there is one. 11 where it would be the 257th code. */
@@ -281,7 +305,10 @@ raspteal_answer raspteal_mapping_put(raspteal_mapping map, raspteal_entry e);
 /* The element of the first entry with that code. A count over 256 is read as 256. */
 raspteal_mapped raspteal_mapping_map(raspteal_mapping map, uint32_t code);
 
-/* The same look-up for a program that keeps a map and turns codes into elements all day: the map stands in two lists of
+/* The first entry with that code, with its ranges. A count over 256 is read as 256. */
+raspteal_entered raspteal_mapping_entry(raspteal_mapping map, uint32_t code);
+
+/* The look-up of an element for a program that keeps a map and turns codes into elements all day: the map stands in two lists of
  * your own, copied once from its entries, and nothing else crosses. elements[i] belongs to codes[i] and is a button's
  * number, or 65536 plus an axis's; where the lists differ in length, the shorter one counts. */
 raspteal_mapped raspteal_lists_map(const uint32_t *codes, size_t codes_len, const uint32_t *elements,

@@ -101,6 +101,16 @@ pub struct Ident {
 pub struct Entry {
     pub code: u32,
     pub element: Element,
+    pub input: u8,
+    pub output: u8,
+    pub inverted: bool,
+}
+
+#[repr(C)]
+#[derive(Clone, Copy, Debug, PartialEq, Eq)]
+pub struct Entered {
+    pub found: bool,
+    pub entry: Entry,
 }
 
 #[repr(C)]
@@ -226,9 +236,13 @@ extern "C" {
     pub fn raspteal_ident_of(e: Element) -> Ident;
 
     pub fn raspteal_entry_new(code: u32, element: Element) -> Entry;
+    pub fn raspteal_entry_ranged(code: u32, element: Element, input: u8, output: u8, inverted: bool) -> Entry;
+    pub fn raspteal_entry_number(e: Entry) -> u64;
+    pub fn raspteal_entry_of_number(x: u64) -> Entry;
     pub fn raspteal_mapping_new() -> Mapping;
     pub fn raspteal_mapping_put(map: Mapping, e: Entry) -> Answer;
     pub fn raspteal_mapping_map(map: Mapping, code: u32) -> Mapped;
+    pub fn raspteal_mapping_entry(map: Mapping, code: u32) -> Entered;
     pub fn raspteal_lists_map(
         codes: *const u32,
         codes_len: usize,

@@ -43,7 +43,7 @@ mod uuid;
 pub use data::{Built, MappingData};
 pub use element::{Axis, AxisOrBtn, Button, Code};
 pub use error::{Error, InsertError, ParseUuidError};
-pub use mapping::{Lookup, Mapping};
+pub use mapping::{Entry, Lookup, Mapping};
 pub use parser::{count_tokens, first_token, AxisRange, Parser, Token};
 pub use store::Store;
 pub use uuid::Uuid;

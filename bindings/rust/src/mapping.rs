@@ -1,7 +1,8 @@
 //! Maps from event codes to elements.
 use crate::error::Error;
 use crate::ffi::{self, safe};
-use crate::{AxisOrBtn, Code};
+use crate::parser::range;
+use crate::{AxisOrBtn, AxisRange, Code};
 use std::fmt;
 use std::ops::Range;
 
@@ -20,6 +21,51 @@ use std::ops::Range;
 /// ```
 #[derive(Clone, PartialEq, Eq)]
 pub struct Mapping(ffi::Mapping);
+
+/// An entry of a map: a code, its element, and which half of the axis it takes and gives.
+#[derive(Clone, Copy, Debug, PartialEq, Eq, Hash)]
+pub struct Entry {
+    /// The event code.
+    pub code: Code,
+    /// The element.
+    pub element: AxisOrBtn,
+    /// The half of the axis that counts, as the value of the pair names it.
+    pub input: AxisRange,
+    /// The half of the element that it moves, as the key of the pair names it.
+    pub output: AxisRange,
+    /// Whether it counts the other way round.
+    pub inverted: bool,
+}
+
+impl From<ffi::Entry> for Entry {
+    fn from(e: ffi::Entry) -> Entry {
+        Entry {
+            code: Code(e.code),
+            element: e.element.into(),
+            input: range(e.input),
+            output: range(e.output),
+            inverted: e.inverted,
+        }
+    }
+}
+
+impl From<Entry> for ffi::Entry {
+    fn from(e: Entry) -> ffi::Entry {
+        safe::entry_ranged(e.code.0, e.element.into(), e.input as u8, e.output as u8, e.inverted)
+    }
+}
+
+impl Entry {
+    /// The entry as one number.
+    pub fn number(self) -> u64 {
+        safe::entry_number(self.into())
+    }
+
+    /// The entry of a number.
+    pub fn of_number(x: u64) -> Entry {
+        safe::entry_of_number(x).into()
+    }
+}
 
 impl Mapping {
     /// The empty map.
@@ -84,7 +130,36 @@ impl Mapping {
         Code::found(safe::mapping_map_rev(self.0, element.into().into()))
     }
 
-    /// The entries, ascending by code.
+    /// The entry of a code, with its ranges.
+    pub fn entry(&self, code: Code) -> Option<Entry> {
+        let e = safe::mapping_entry(self.0, code.0);
+        e.found.then(|| e.entry.into())
+    }
+
+    /// Puts an entry with its ranges, onto the one of its code if there is one. Refusal: 11, the map as it was.
+    pub fn put_entry(&mut self, entry: Entry) -> Result<(), Error> {
+        let put = safe::mapping_put(self.0, entry.into());
+        self.0 = put.map;
+        Error::check(put.refusal)
+    }
+
+    /// The entries with their ranges, ascending by code.
+    ///
+    /// ```
+    /// use raspteal::{AxisRange, Code, Mapping};
+    ///
+    /// let line = "03000000de280000ff11000001000000,Pedals,righttrigger:+a2~,";
+    /// let axes = [Code(0x30000), Code(0x30001), Code(0x30002)];
+    /// let map = Mapping::parse_sdl_mapping(line, &[], &axes)?;
+    /// let pedal = map.entries().next().unwrap();
+    /// assert_eq!((pedal.input, pedal.output, pedal.inverted), (AxisRange::UpperHalf, AxisRange::Full, true));
+    /// # Ok::<(), raspteal::Error>(())
+    /// ```
+    pub fn entries(&self) -> impl ExactSizeIterator<Item = Entry> + '_ {
+        self.0.entries[..self.len()].iter().map(|e| Entry::from(*e))
+    }
+
+    /// The entries without their ranges, ascending by code.
     pub fn iter(&self) -> impl ExactSizeIterator<Item = (Code, AxisOrBtn)> + '_ {
         self.0.entries[..self.len()].iter().map(|e| (Code(e.code), e.element.into()))
     }

@@ -175,7 +175,7 @@ fn token(line: &[u8], t: ffi::Token) -> Result<Option<Token<'_>>, Error> {
     })
 }
 
-fn range(n: u8) -> AxisRange {
+pub(crate) fn range(n: u8) -> AxisRange {
     match n {
         0 => AxisRange::LowerHalf,
         1 => AxisRange::UpperHalf,

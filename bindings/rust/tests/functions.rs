@@ -1,6 +1,6 @@
 //! Every function at its edges: elements, maps, slots, texts, and document 01's sample lines.
 use raspteal::ffi::{self, safe};
-use raspteal::{text, Axis, AxisOrBtn, Button, Code, Error, Mapping, MappingData, Uuid};
+use raspteal::{text, Axis, AxisOrBtn, AxisRange, Button, Code, Entry, Error, Mapping, MappingData, Uuid};
 
 const U: &str = "00000000000000000000000000000000";
 
@@ -117,6 +117,18 @@ fn maps() {
     assert_eq!(format!("{}", map.map_rev(south).unwrap()), "3");
     let entry = safe::entry_new(5, south.into());
     assert_eq!((entry.code, entry.element), (5, south.into()));
+    assert_eq!((entry.input, entry.output, entry.inverted), (2, 2, false));
+    let half = Entry {
+        code: Code(7),
+        element: Axis::LeftZ.into(),
+        input: AxisRange::LowerHalf,
+        output: AxisRange::UpperHalf,
+        inverted: true,
+    };
+    map.put_entry(half).unwrap();
+    assert_eq!((map.entry(Code(7)), map.entry(Code(8))), (Some(half), None));
+    assert_eq!(map.entries().map(|e| e.code.0).collect::<Vec<_>>(), [3, 5, 7, 9]);
+    assert_eq!((half.number(), Entry::of_number(half.number())), (7 << 32 | (1 + 2 * (2 + 4 + 16)) << 16 | 3, half));
 
     let buttons: Vec<Code> = Button::ALL.iter().filter_map(|b| b.to_nec()).collect();
     let map = Mapping::default_of(&buttons, &[]).unwrap();

@@ -49,7 +49,10 @@ fn rows() -> Vec<Row> {
         row!(Code, "raspteal_code", changed.former, found, code),
         row!(AxisNumber, "raspteal_axis", safe::axis_second_axis(0), found, number),
         row!(Ident, "raspteal_ident", safe::ident_of(step.token.pair.to), name, len),
-        row!(Entry, "raspteal_entry", safe::entry_new(0, step.token.pair.to), code, element),
+        row!(
+            Entry, "raspteal_entry", safe::entry_new(0, step.token.pair.to), code, element, input, output, inverted
+        ),
+        row!(Entered, "raspteal_entered", safe::mapping_entry(built.map, 0), found, entry),
         row!(Mapping, "raspteal_mapping", built.map, count, entries, name_start, name_len, is_default, hats_mapped),
         row!(Answer, "raspteal_answer", safe::default(&[], &[]), refusal, map),
         row!(Pair, "raspteal_pair", step.token.pair, from, direction, to, input, output, inverted),

@@ -23,7 +23,13 @@ use Rattle.exports.specs.declared.flat_data.FlatSlot.{FlatSlot}
 
 -- an entry that is not used
 abbrev pub flatUnused : FlatEntry
-flatUnused = record { code = 0; element = record { «is_axis» = false; number = 0 } }
+flatUnused =
+    record { code = 0; element = record { «is_axis» = false; number = 0 }; input = 2; output = 2; inverted = false }
+
+-- what a read past an array's end is taken to give, in a need
+abbrev pub flatPast : FlatEntry
+flatPast =
+    record { code = 0; element = record { «is_axis» = false; number = 0 }; input = 0; output = 0; inverted = false }
 
 -- a slot that is not filled
 abbrev pub flatEmpty : FlatSlot

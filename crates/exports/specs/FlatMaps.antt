@@ -2,7 +2,7 @@
 -- The contracts of the exports rest on these definitions; they assume nothing.
 use Prim.Native.Nat.{ℕ, _-_, _≤_}
 use mathlib.Core.Path.{_≡_}
-use mathlib.Core.Bool.{true, false}
+use mathlib.Core.Bool.{Bool, true, false}
 use mathlib.Core.List.{List, map}
 use lib.ListN.{drop, replicate}
 use Rattle.line.specs.declared.mapping.Entry.{Entry}
@@ -10,30 +10,47 @@ use Rattle.line.specs.declared.mapping.Mapping.{Mapping}
 use Rattle.line.specs.declared.mapping.PutAnswer.{PutAnswer}
 use Rattle.line.specs.declared.mapping.Mapped.{Mapped}
 use Rattle.line.specs.declared.mapping.Mapped.the-variants as Mp
+use Rattle.line.specs.declared.mapping.Entered.{Entered}
+use Rattle.line.specs.declared.mapping.Entered.the-variants as En
 use Rattle.line.specs.declared.mapping.Source.{Source}
 use Rattle.line.specs.declared.mapping.Source.the-variants as Sr
+use Rattle.line.specs.declared.parser.Ranges.{Ranges}
 use Rattle.line.specs.declared.tables.KeyElement.{KeyElement}
 use Rattle.line.specs.declared.tables.KeyElement.the-variants as Ke
 use Rattle.line.specs.declared.tables.Ident.{Ident}
 use Rattle.line.specs.declared.reading.SdlMapping.{SdlMapping}
 use Rattle.line.specs.Elements.{codeOf}
-use Rattle.line.specs.Maps.{CODES_MAX, unusedEntry}
+use Rattle.line.specs.Maps.{CODES_MAX, rangedEntry, unusedEntry}
 use Rattle.line.specs.Refusals.{putOutcome, readingOutcome}
 use Rattle.exports.specs.declared.flat.FlatElement.{FlatElement}
 use Rattle.exports.specs.declared.flat_mapping.FlatEntry.{FlatEntry}
 use Rattle.exports.specs.declared.flat_mapping.FlatMapping.{FlatMapping}
 use Rattle.exports.specs.declared.mapping_calls.FlatPut.{FlatPut}
 use Rattle.exports.specs.declared.mapping_calls.FlatMapped.{FlatMapped}
+use Rattle.exports.specs.declared.mapping_calls.FlatEntered.{FlatEntered}
 use Rattle.exports.specs.declared.mapping_calls.FlatIdent.{FlatIdent}
 use Rattle.exports.specs.declared.line_calls.FlatCode.{FlatCode}
 use Rattle.exports.specs.declared.parser_calls.FlatReading.{FlatReading}
 use Rattle.exports.specs.Flat.{flatElement, elementOf, flatOutcome}
+use Rattle.exports.specs.FlatTokens.{rangeNumber, rangeIn}
 
 abbrev pub flatEntry : Entry → FlatEntry
-flatEntry e = record { code = e .code .0; element = flatElement (e .element) }
+flatEntry e =
+    record {
+      code = e .code .0;
+      element = flatElement (e .element);
+      input = rangeNumber (e .ranges .input);
+      output = rangeNumber (e .ranges .output);
+      inverted = e .ranges .inverted;
+    }
+
+-- the ranges of three numbers
+abbrev pub flatRanges : ℕ → ℕ → Bool → Ranges
+flatRanges input output inverted = record { input = rangeIn input; output = rangeIn output; inverted = inverted }
 
 abbrev pub entryIn : FlatEntry → Entry
-entryIn e = record { code = codeOf (e .code); element = elementOf (e .element) }
+entryIn e =
+    rangedEntry (codeOf (e .code)) (elementOf (e .element)) (flatRanges (e .input) (e .output) (e .inverted))
 
 unfoldable pub flatMapping : Mapping → FlatMapping
 flatMapping m =
@@ -74,6 +91,11 @@ noElement = record { found = false; element = record { «is_axis» = false; numb
 abbrev pub flatMapped : Mapped → FlatMapped
 flatMapped (Mp.To e) = record { found = true; element = flatElement e }
 flatMapped Mp.Nothing = noElement
+
+-- where there is none, the entry is an unused one
+abbrev pub flatEntered : Entered → FlatEntered
+flatEntered (En.Is e) = record { found = true; entry = flatEntry e }
+flatEntered En.Absent = record { found = false; entry = flatEntry unusedEntry }
 
 abbrev pub flatKeyElement : KeyElement → FlatMapped
 flatKeyElement (Ke.Is e) = record { found = true; element = flatElement e }

@@ -30,6 +30,10 @@ rangeNumber Ar.LowerHalf = 0
 rangeNumber Ar.UpperHalf = 1
 rangeNumber Ar.Full = 2
 
+-- a number over 2 is read as full
+unfoldable pub rangeIn : ℕ → AxisRange
+rangeIn n = pick (eqb n 0) Ar.LowerHalf (pick (eqb n 1) Ar.UpperHalf Ar.Full)
+
 abbrev pub stateNumber : State → ℕ
 stateNumber St.Uuid = 0
 stateNumber St.Name = 1

@@ -2,18 +2,24 @@
 use crate::flat::FlatElement;
 use crate::flat::element_of;
 use crate::flat::flat_element;
+use crate::flat_token::range_number;
+use crate::flat_token::range_of;
 use line::ev::Code;
 use line::mapping::CODES_MAX;
 use line::mapping::Entry;
 use line::mapping::Mapping;
+use line::parser::Ranges;
 ghost use mathlib.Core.Path.{_≡_};
 ghost use mathlib.Core.List.{map};
-ghost use Rattle.exports.specs.FlatMaps.{flatEntry, entryIn, flatMapping, mappingIn, Unused};
+ghost use Rattle.exports.specs.FlatMaps.{flatEntry, flatRanges, entryIn, flatMapping, mappingIn, Unused};
 
 #[repr(C)]
 pub struct FlatEntry {
     pub code: u32,
     pub element: FlatElement,
+    pub input: u8,
+    pub output: u8,
+    pub inverted: bool,
 }
 
 #[repr(C)]
@@ -27,12 +33,15 @@ pub struct FlatMapping {
 }
 
 impl FlatEntry {
-    const UNUSED: FlatEntry = FlatEntry {
+    pub const UNUSED: FlatEntry = FlatEntry {
         code: 0,
         element: FlatElement {
             is_axis: false,
             number: 0,
         },
+        input: 2,
+        output: 2,
+        inverted: false,
     };
 }
 
@@ -40,9 +49,15 @@ pub fn flat_entry(e: Entry) -> FlatEntry
     ensures { λ r. ⌜ r ≡ flatEntry e ⌝ }
 {
     let element = e.element;
+    let ranges = e.ranges;
+    let input = ranges.input;
+    let output = ranges.output;
     FlatEntry {
         code: e.code.0,
         element: flat_element(element),
+        input: range_number(input),
+        output: range_number(output),
+        inverted: ranges.inverted,
     }
 }
 
@@ -102,6 +117,16 @@ pub fn flat_made(m: Mapping) -> FlatMapping
     }
 }
 
+pub fn ranges_of(input: u8, output: u8, inverted: bool) -> Ranges
+    ensures { λ r. ⌜ r ≡ flatRanges input output inverted ⌝ }
+{
+    Ranges {
+        input: range_of(input),
+        output: range_of(output),
+        inverted,
+    }
+}
+
 pub fn entry_of(e: FlatEntry) -> Entry
     ensures { λ r. ⌜ r ≡ entryIn e ⌝ }
 {
@@ -109,6 +134,7 @@ pub fn entry_of(e: FlatEntry) -> Entry
     Entry {
         code: Code(e.code),
         element: element_of(element),
+        ranges: ranges_of(e.input, e.output, e.inverted),
     }
 }
 

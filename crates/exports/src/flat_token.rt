@@ -18,7 +18,7 @@ ghost use mathlib.Core.Path.{_≡_};
 ghost use Rattle.line.specs.Refusals.{kindNumber, errorRefusal, answerOutcome};
 ghost use Rattle.line.specs.Refusals as Refusals;
 ghost use Rattle.exports.specs.Flat.{flatOutcome};
-ghost use Rattle.exports.specs.FlatTokens.{rangeNumber, stateNumber, stateIn, flatPair, textToken, pairToken, flatToken, flatAnswer, bareToken};
+ghost use Rattle.exports.specs.FlatTokens.{rangeNumber, rangeIn, stateNumber, stateIn, flatPair, textToken, pairToken, flatToken, flatAnswer, bareToken};
 
 // What a pair says. `from` is the index, or the hat's number.
 #[repr(C)]
@@ -59,7 +59,7 @@ const BUTTON: u8 = 6;
 
 const HAT: u8 = 7;
 
-fn range_number(r: AxisRange) -> u8
+pub fn range_number(r: AxisRange) -> u8
     ensures { λ x. ⌜ x ≡ rangeNumber r ⌝ }
 {
     match r {
@@ -67,6 +67,19 @@ fn range_number(r: AxisRange) -> u8
         AxisRange::UpperHalf => 1,
         AxisRange::Full => 2,
     }
+}
+
+// A number over 2 is read as full.
+pub fn range_of(n: u8) -> AxisRange
+    ensures { λ r. ⌜ r ≡ rangeIn n ⌝ }
+{
+    if n == 0 {
+        return AxisRange::LowerHalf;
+    }
+    if n == 1 {
+        return AxisRange::UpperHalf;
+    }
+    AxisRange::Full
 }
 
 pub fn state_number(s: State) -> u8

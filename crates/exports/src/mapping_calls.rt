@@ -11,8 +11,10 @@ use crate::flat_mapping::entry_of;
 use crate::flat_mapping::flat_entry;
 use crate::flat_mapping::flat_mapping;
 use crate::flat_mapping::mapping_of;
+use crate::flat_mapping::ranges_of;
 use crate::line_calls::FlatCode;
 use line::ev::Code;
+use line::mapping::Entered;
 use line::mapping::Entry;
 use line::mapping::Mapped;
 use line::mapping::Mapping;
@@ -22,11 +24,14 @@ use line::tables::IDENT_MAX;
 use line::tables::KeyElement;
 ghost use mathlib.Core.Path.{_≡_};
 ghost use Rattle.line.specs.Elements.{codeOf};
-ghost use Rattle.line.specs.Maps.{entryOf, emptyMap, held, putOf, mapOf, mapRevOf};
+ghost use Rattle.line.specs.Maps.{entryOf, rangedEntry, emptyMap, held, putOf, mapOf, entryAt, mapRevOf};
+ghost use Rattle.line.specs.Numbers.{entryNumber};
+ghost use Rattle.line.specs.Numbers as Numbers;
 ghost use Rattle.line.specs.Tables.{keyElement, identOf};
 ghost use Rattle.line.specs.Refusals.{putOutcome};
 ghost use Rattle.exports.specs.Flat.{elementOf, flatOutcome};
-ghost use Rattle.exports.specs.FlatMaps.{flatEntry, flatMapping, mappingIn, entryIn, flatPut, flatMapped, flatSource, flatKeyElement, flatIdent};
+ghost use Rattle.exports.specs.FlatMaps.{flatEntry, flatRanges, flatMapping, mappingIn, entryIn, flatPut, flatMapped, flatEntered, flatSource};
+ghost use Rattle.exports.specs.FlatMaps.{flatKeyElement, flatIdent};
 
 // A map after a put. A refused put leaves it as it was.
 #[repr(C)]
@@ -42,6 +47,13 @@ pub struct FlatMapped {
     pub element: FlatElement,
 }
 
+// An entry, if there is one; else an unused one.
+#[repr(C)]
+pub struct FlatEntered {
+    pub found: bool,
+    pub entry: FlatEntry,
+}
+
 // The name of an element: the first `len` bytes.
 #[repr(C)]
 pub struct FlatIdent {
@@ -54,6 +66,34 @@ pub extern "C" fn raspteal_entry_new(code: u32, element: FlatElement) -> FlatEnt
     ensures { λ r. ⌜ r ≡ flatEntry (entryOf (codeOf code) (elementOf element)) ⌝ }
 {
     flat_entry(Entry::new(Code(code), element_of(element)))
+}
+
+#[no_mangle]
+pub extern "C" fn raspteal_entry_ranged(
+    code: u32,
+    element: FlatElement,
+    input: u8,
+    output: u8,
+    inverted: bool,
+) -> FlatEntry
+    ensures { λ r. ⌜ r ≡ flatEntry (rangedEntry (codeOf code) (elementOf element) (flatRanges input output inverted)) ⌝ }
+{
+    let ranges = ranges_of(input, output, inverted);
+    flat_entry(Entry::ranged(Code(code), element_of(element), ranges))
+}
+
+#[no_mangle]
+pub extern "C" fn raspteal_entry_number(e: FlatEntry) -> u64
+    ensures { λ r. ⌜ (r ≡ entryNumber (entryIn e)) × (Numbers.entryIn r ≡ entryIn e) ⌝ }
+{
+    entry_of(e).number()
+}
+
+#[no_mangle]
+pub extern "C" fn raspteal_entry_of_number(x: u64) -> FlatEntry
+    ensures { λ r. ⌜ r ≡ flatEntry (Numbers.entryIn x) ⌝ }
+{
+    flat_entry(Entry::of_number(x))
 }
 
 #[no_mangle]
@@ -106,6 +146,28 @@ fn flat_mapped(m: Mapped) -> FlatMapped
                 is_axis: false,
                 number: 0,
             },
+        },
+    }
+}
+
+#[no_mangle]
+pub extern "C" fn raspteal_mapping_entry(map: FlatMapping, code: u32) -> FlatEntered
+    ensures { λ r. ⌜ r ≡ flatEntered (entryAt (held (mappingIn map)) (codeOf code)) ⌝ }
+{
+    flat_entered(mapping_of(map).entry(Code(code)))
+}
+
+fn flat_entered(e: Entered) -> FlatEntered
+    ensures { λ r. ⌜ r ≡ flatEntered e ⌝ }
+{
+    match e {
+        Entered::Is(x) => FlatEntered {
+            found: true,
+            entry: flat_entry(x),
+        },
+        Entered::Absent => FlatEntered {
+            found: false,
+            entry: FlatEntry::UNUSED,
         },
     }
 }

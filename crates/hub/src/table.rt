@@ -15,14 +15,39 @@ use crate::words::refused_code;
 use line::ev::AxisOrBtn;
 use line::mapping::CODES_MAX;
 use line::mapping::Mapping;
+use line::parser::AxisRange;
+use line::parser::Ranges;
 use line::reading::SdlAnswer;
 use line::reading::parse_sdl_mapping;
 use map::error::MappingError;
 
-fn say_entry(code: u32, element: AxisOrBtn) {
+// Nothing where it is full.
+fn say_half(half: AxisRange, side: &[u8]) {
+    match half {
+        AxisRange::Full => {}
+        AxisRange::UpperHalf => {
+            say(b", upper half ");
+            say(side);
+        }
+        AxisRange::LowerHalf => {
+            say(b", lower half ");
+            say(side);
+        }
+    }
+}
+
+// `30002  RightTrigger2 (righttrigger), upper half in, inverted`
+fn say_entry(code: u32, element: AxisOrBtn, ranges: Ranges) {
     put_code(OUT, code);
     say(b"  ");
     put_element(OUT, element);
+    let input = ranges.input;
+    say_half(input, b"in");
+    let output = ranges.output;
+    say_half(output, b"out");
+    if ranges.inverted {
+        say(b", inverted");
+    }
     say(b"\n");
 }
 
@@ -35,7 +60,8 @@ fn say_entries(map: Mapping) {
         let e = map.entries[i];
         let code = e.code;
         let element = e.element;
-        say_entry(code.0, element);
+        let ranges = e.ranges;
+        say_entry(code.0, element, ranges);
         i += 1;
     }
 }

@@ -12,6 +12,7 @@ use Rattle.line.specs.declared.ev.Code.{Code}
 use Rattle.line.specs.declared.ev.AxisOrBtn.{AxisOrBtn}
 use Rattle.line.specs.declared.ev.AxisOrBtn.the-variants as El
 use Rattle.line.specs.declared.mapping.Entry.{Entry}
+use Rattle.line.specs.declared.parser.Ranges.{Ranges}
 use Rattle.line.specs.declared.parser.Token.the-variants as Tk
 use Rattle.line.specs.declared.parser.Answer.{Answer}
 use Rattle.line.specs.declared.parser.Answer.the-variants as An
@@ -27,7 +28,7 @@ use Rattle.line.specs.declared.reading.SdlAnswer.{SdlAnswer}
 use Rattle.line.specs.declared.reading.SdlAnswer.the-variants.{Accepted, Refused}
 use Rattle.line.specs.declared.reading.SdlMapping.{SdlMapping}
 use Rattle.line.specs.Elements.{codeOf}
-use Rattle.line.specs.Maps.{CODES_MAX, MapView, entryOf, toMap, putEntry, putsInto}
+use Rattle.line.specs.Maps.{CODES_MAX, MapView, rangedEntry, toMap, putEntry, putsInto}
 use Rattle.line.specs.Pairs.{pairOf}
 use Rattle.line.specs.Puts.{listed, hatCodes, dpadAxis, besideOf, dpadPuts, codesPuts, hatPuts, putsOf}
 use Rattle.line.specs.Reading.{refusedOf, acceptedOf, follow, flagged, thenPut, putOne, putAll, skips, taken}
@@ -111,30 +112,30 @@ one-unnamed : (e : Entry) (flag : ℕ) → NotName (One e flag)
 unfolding NotName
 one-unnamed e flag = tt
 
-listed-unnamed : (codes : List ℕ) (n : ℕ) (to : AxisOrBtn) → NotName (listed codes n to)
+listed-unnamed : (codes : List ℕ) (n : ℕ) (to : AxisOrBtn) (r : Ranges) → NotName (listed codes n to r)
 unfolding listed
-listed-unnamed codes n to =
-    picked NotName (ltb n (length codes)) (one-unnamed (entryOf (codeOf (getD codes n 0)) to) 0) nothing-unnamed
+listed-unnamed codes n to r =
+    picked NotName (ltb n (length codes)) (one-unnamed (rangedEntry (codeOf (getD codes n 0)) to r) 0) nothing-unnamed
 
 beside-unnamed : (b : Beside) (c : Code) (e : Entry) (flag : ℕ) → NotName (besideOf b c e flag)
 unfolding NotName
 beside-unnamed (Bs.Axis a) c e flag = tt
 beside-unnamed Bs.Nothing c e flag = tt
 
-dpad-unnamed : (axis button : Code) (to : AxisOrBtn) (flag : ℕ) → NotName (dpadPuts axis button to flag)
+dpad-unnamed : (axis button : Code) (to : AxisOrBtn) (r : Ranges) (flag : ℕ) → NotName (dpadPuts axis button to r flag)
 unfolding NotName
-dpad-unnamed axis button (El.Btn b) flag = beside-unnamed (dpadAxis b) axis (entryOf button (El.Btn b)) flag
-dpad-unnamed axis button (El.Axis a) flag = tt
+dpad-unnamed axis button (El.Btn b) r flag = beside-unnamed (dpadAxis b) axis (rangedEntry button (El.Btn b) r) flag
+dpad-unnamed axis button (El.Axis a) r flag = tt
 
-codes-unnamed : (c : HatCodes) (to : AxisOrBtn) → NotName (codesPuts c to)
+codes-unnamed : (c : HatCodes) (to : AxisOrBtn) (r : Ranges) → NotName (codesPuts c to r)
 unfolding NotName
-codes-unnamed Hc.Centre to = tt
-codes-unnamed (Hc.Codes axis button flag) to = dpad-unnamed axis button to flag
-codes-unnamed Hc.Unknown to = tt
+codes-unnamed Hc.Centre to r = tt
+codes-unnamed (Hc.Codes axis button flag) to r = dpad-unnamed axis button to r flag
+codes-unnamed Hc.Unknown to r = tt
 
-hat-unnamed : (h d : ℕ) (to : AxisOrBtn) → NotName (hatPuts h d to)
+hat-unnamed : (h d : ℕ) (to : AxisOrBtn) (r : Ranges) → NotName (hatPuts h d to r)
 unfolding hatPuts
-hat-unnamed h d to = picked NotName (eqb h 0) (codes-unnamed (hatCodes d) to) nothing-unnamed
+hat-unnamed h d to r = picked NotName (eqb h 0) (codes-unnamed (hatCodes d) to r) nothing-unnamed
 
 -- ---- what the walker answers for a pair
 none-fits : (v : MapView) → length (v .list) ≤ CODES_MAX → length (putsInto [] (v .list)) ≤ CODES_MAX
@@ -150,11 +151,11 @@ module _ (v : MapView) (p q : ℕ) (buttons axes : List ℕ) where
   taken-accepted (An.Found (Tk.Name start len)) n h a = absurd n
   taken-accepted (An.Found (Tk.Platform start len)) n h a = puts-accepted v p Nothing nothing-unnamed h a
   taken-accepted (An.Found (Tk.AxisMapping k to r)) n h a =
-      puts-accepted v p (listed axes k to) (listed-unnamed axes k to) h a
+      puts-accepted v p (listed axes k to r) (listed-unnamed axes k to r) h a
   taken-accepted (An.Found (Tk.ButtonMapping k to r)) n h a =
-      puts-accepted v p (listed buttons k to) (listed-unnamed buttons k to) h a
+      puts-accepted v p (listed buttons k to r) (listed-unnamed buttons k to r) h a
   taken-accepted (An.Found (Tk.HatMapping k d to r)) n h a =
-      puts-accepted v p (hatPuts k d to) (hat-unnamed k d to) h a
+      puts-accepted v p (hatPuts k d to r) (hat-unnamed k d to r) h a
   taken-accepted (An.Refused e) n h a = passed (skips (e .kind)) a
     where
       passed : (t : Bool) → pick t (acceptedOf (toMap v)) (refusedOf (Pe.ParseError e)) .answer ≡ Accepted

@@ -81,9 +81,9 @@ module _ (v : MapView) (p q : ℕ) (buttons axes : List ℕ) where
   taken-fits (An.Found (Tk.Uuid u)) n g h = absurd n
   taken-fits (An.Found (Tk.Name start len)) n g h = absurd n
   taken-fits (An.Found (Tk.Platform start len)) n g h = puts-fit v p Nothing g h
-  taken-fits (An.Found (Tk.AxisMapping k to r)) n g h = puts-fit v p (listed axes k to) g h
-  taken-fits (An.Found (Tk.ButtonMapping k to r)) n g h = puts-fit v p (listed buttons k to) g h
-  taken-fits (An.Found (Tk.HatMapping k d to r)) n g h = puts-fit v p (hatPuts k d to) g h
+  taken-fits (An.Found (Tk.AxisMapping k to r)) n g h = puts-fit v p (listed axes k to r) g h
+  taken-fits (An.Found (Tk.ButtonMapping k to r)) n g h = puts-fit v p (listed buttons k to r) g h
+  taken-fits (An.Found (Tk.HatMapping k d to r)) n g h = puts-fit v p (hatPuts k d to r) g h
   taken-fits (An.Refused e) n g h = passed-fits (skips (e .kind)) g
     where
       passed-fits : (t : Bool) → pick t (does [] []) stops .goes ≡ true

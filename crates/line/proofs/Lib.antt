@@ -8,6 +8,7 @@ pub mod PlaceLaws
 pub mod MapLaws
 pub mod PutLaws
 pub mod ViewLaws
+pub mod NumberLaws
 pub mod DraftLaws
 pub mod TurnLaws
 -- the walker and the reading

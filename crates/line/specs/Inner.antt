@@ -1,6 +1,6 @@
 -- What the private functions of the tables, of a put and of a reading promise. No public contract cites these.
 -- Assumes nothing.
-use Prim.Native.Nat.{ℕ, _+_, _*_, _/_, _%_, _<_, _≤_}
+use Prim.Native.Nat.{ℕ, _+_, _*_, _<_, _≤_}
 use mathlib.Core.Path.{_≡_}
 use mathlib.Core.Bool.{false}
 use mathlib.Core.List.{List, [], _∷_, _++_, map}
@@ -13,16 +13,14 @@ use Rattle.line.specs.declared.mapping.Place.{Place}
 use Rattle.line.specs.declared.mapping.Place.the-variants.{Held, Before}
 use Rattle.line.specs.declared.tables.KeyElement.{KeyElement}
 use Rattle.line.specs.declared.tables.KeyElement.the-variants as Ke
-use Rattle.line.specs.declared.ev.AxisOrBtn.{AxisOrBtn}
-use Rattle.line.specs.declared.ev.AxisOrBtn.the-variants as El
 use Rattle.line.specs.declared.mapping.Mapping.{Mapping}
 use Rattle.line.specs.declared.reading.SdlAnswer.{SdlAnswer}
 use Rattle.line.specs.declared.reading.SdlAnswer.the-variants as Sd
 use Rattle.line.specs.declared.reading.SdlMapping.{SdlMapping}
 use Rattle.line.specs.declared.reading.Turn.{Turn}
 use Rattle.line.specs.declared.reading.draft.Draft.{Draft}
-use Rattle.line.specs.Elements.{codeOf}
-use Rattle.line.specs.Maps.{CODES_MAX, MapView, toMap, entryOf, putEntry}
+use Rattle.line.specs.Maps.{CODES_MAX, MapView, toMap, putEntry}
+use Rattle.line.specs.Numbers.{entryIn}
 use Rattle.line.specs.Reading.{acceptedOf, refusedOf}
 use Rattle.line.specs.Tables.{keyElement}
 
@@ -68,19 +66,6 @@ ToldOfCut x y r =
     → keyNumber (drop WORD key) ≡ y → Told r key
 
 -- ---- a map while it is read: its entries are numbers
-abbrev pub CODE_UNIT : ℕ
-CODE_UNIT = 4294967296
-
-abbrev pub KIND_UNIT : ℕ
-KIND_UNIT = 65536
-
--- kind 0 is a button
-abbrev pub elementIn : ℕ → ℕ → AxisOrBtn
-elementIn kind n = pick (eqb kind 0) (El.Btn (record { 0 = n })) (El.Axis (record { 0 = n }))
-
-unfoldable pub entryIn : ℕ → Entry
-entryIn x = entryOf (codeOf (x / CODE_UNIT)) (elementIn (x / KIND_UNIT % KIND_UNIT) (x % KIND_UNIT))
-
 -- the first n of them
 abbrev pub entriesIn : ℕ → List ℕ → List Entry
 entriesIn n xs = take n (map entryIn xs)

@@ -3,6 +3,7 @@ pub mod Buttons
 pub mod Axes
 pub mod Elements
 pub mod Maps
+pub mod Numbers
 pub mod Tables
 pub mod Fields
 pub mod Values

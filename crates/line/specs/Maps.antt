@@ -10,11 +10,15 @@ use Rattle.line.specs.declared.ev.Code.{Code}
 use Rattle.line.specs.declared.ev.AxisOrBtn.{AxisOrBtn}
 use Rattle.line.specs.declared.ev.AxisOrBtn.the-variants.{Btn}
 use Rattle.line.specs.declared.mapping.Entry.{Entry}
+use Rattle.line.specs.declared.parser.Ranges.{Ranges}
+use Rattle.line.specs.declared.parser.AxisRange.the-variants as Ar
 use Rattle.line.specs.declared.mapping.Mapping.{Mapping}
 use Rattle.line.specs.declared.mapping.PutResult.the-variants.{Stored, Full}
 use Rattle.line.specs.declared.mapping.PutAnswer.{PutAnswer}
 use Rattle.line.specs.declared.mapping.Mapped.{Mapped}
 use Rattle.line.specs.declared.mapping.Mapped.the-variants.{To, Nothing}
+use Rattle.line.specs.declared.mapping.Entered.{Entered}
+use Rattle.line.specs.declared.mapping.Entered.the-variants.{Is, Absent}
 use Rattle.line.specs.declared.mapping.Source.{Source}
 use Rattle.line.specs.declared.mapping.Source.the-variants.{From, Nowhere}
 use Rattle.line.specs.Buttons as B
@@ -24,11 +28,18 @@ use Rattle.line.specs.Elements.{codeOf, sameElement}
 abbrev pub CODES_MAX : ℕ
 CODES_MAX = 256
 
--- an entry: a code and its element
-abbrev pub entryOf : Code → AxisOrBtn → Entry
-entryOf c to = record { code = c; element = to }
+-- an entry: a code and its element, and with document 02, P2, "input range, output range and inverted flag"
+abbrev pub rangedEntry : Code → AxisOrBtn → Ranges → Entry
+rangedEntry c to ranges = record { code = c; element = to; ranges = ranges }
 
--- "unused entries code 0 and button 0"
+-- "full on both sides and not inverted"
+abbrev pub fullRanges : Ranges
+fullRanges = record { input = Ar.Full; output = Ar.Full; inverted = false }
+
+abbrev pub entryOf : Code → AxisOrBtn → Entry
+entryOf c to = rangedEntry c to fullRanges
+
+-- "unused entries code 0 and button 0", "full on both sides and not inverted, and so are unused entries"
 abbrev pub unusedEntry : Entry
 unusedEntry = entryOf (codeOf 0) (Btn B.Unknown)
 
@@ -109,6 +120,11 @@ putOf m e =
 unfoldable pub mapOf : List Entry → Code → Mapped
 mapOf [] c = Nothing
 mapOf (x ∷ xs) c = pick (eqb (x .code .0) (c .0)) (To (x .element)) (mapOf xs c)
+
+-- that entry itself, with its ranges
+unfoldable pub entryAt : List Entry → Code → Entered
+entryAt [] c = Absent
+entryAt (x ∷ xs) c = pick (eqb (x .code .0) (c .0)) (Is x) (entryAt xs c)
 
 -- ---- "`map_rev`: the least code of that element, or none"
 abbrev pub lesser : Code → Source → Source

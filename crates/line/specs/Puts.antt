@@ -10,6 +10,7 @@ use Rattle.line.specs.declared.ev.Button.{Button}
 use Rattle.line.specs.declared.ev.AxisOrBtn.{AxisOrBtn}
 use Rattle.line.specs.declared.ev.AxisOrBtn.the-variants as El
 use Rattle.line.specs.declared.mapping.Entry.{Entry}
+use Rattle.line.specs.declared.parser.Ranges.{Ranges}
 use Rattle.line.specs.declared.parser.Token.{Token}
 use Rattle.line.specs.declared.parser.Token.the-variants as Tk
 use Rattle.line.specs.declared.reading.puts.Puts.{Puts}
@@ -21,11 +22,12 @@ use Rattle.line.specs.declared.reading.puts.Beside.the-variants as Bs
 use Rattle.line.specs.Buttons as B
 use Rattle.line.specs.Axes as A
 use Rattle.line.specs.Elements.{codeOf, buttonCode, AXIS_DPADX, AXIS_DPADY}
-use Rattle.line.specs.Maps.{entryOf}
+use Rattle.line.specs.Maps.{entryOf, rangedEntry}
 
 -- "`a`N and `b`N put (axis or button list at N, element); N past the list does nothing"
-unfoldable pub listed : List ℕ → ℕ → AxisOrBtn → Puts
-listed codes n to = pick (ltb n (length codes)) (One (entryOf (codeOf (getD codes n 0)) to) 0) Nothing
+unfoldable pub listed : List ℕ → ℕ → AxisOrBtn → Ranges → Puts
+listed codes n to ranges =
+    pick (ltb n (length codes)) (One (rangedEntry (codeOf (getD codes n 0)) to ranges) 0) Nothing
 
 -- "Hat 0: direction 0 nothing; 1, 4, 2, 8 give DPADY with DPAD_UP, DPADY with DPAD_DOWN, DPADX with DPAD_RIGHT, DPADX
 -- with DPAD_LEFT; else 7"
@@ -47,32 +49,33 @@ dpadAxis b =
     (pick (eqb (b .0) (B.DPadDown .0)) (Bs.Axis A.DPadY)
     Bs.Nothing)))
 
--- "then the button code to the element. To another button: the button code only."
+-- "then the button code to the element. To another button: the button code only."; the axis code beside is "full on both
+-- sides and not inverted"
 abbrev pub besideOf : Beside → Code → Entry → ℕ → Puts
 besideOf (Bs.Axis a) axis put flags = Two (entryOf axis (El.Axis a)) put flags
 besideOf Bs.Nothing axis put flags = One put flags
 
--- "To an axis: the axis code only."
-abbrev pub dpadPuts : Code → Code → AxisOrBtn → ℕ → Puts
-dpadPuts axis button (El.Btn b) flags = besideOf (dpadAxis b) axis (entryOf button (El.Btn b)) flags
-dpadPuts axis button (El.Axis a) flags = One (entryOf axis (El.Axis a)) flags
+-- "To an axis: the axis code only."; the element's own code has the pair's ranges
+abbrev pub dpadPuts : Code → Code → AxisOrBtn → Ranges → ℕ → Puts
+dpadPuts axis button (El.Btn b) ranges flags = besideOf (dpadAxis b) axis (rangedEntry button (El.Btn b) ranges) flags
+dpadPuts axis button (El.Axis a) ranges flags = One (rangedEntry axis (El.Axis a) ranges) flags
 
 -- "The direction is or-ed into the flags."
-abbrev pub codesPuts : HatCodes → AxisOrBtn → Puts
-codesPuts Hc.Centre to = Nothing
-codesPuts (Hc.Codes axis button flag) to = dpadPuts axis button to flag
-codesPuts Hc.Unknown to = UnknownHatDirection
+abbrev pub codesPuts : HatCodes → AxisOrBtn → Ranges → Puts
+codesPuts Hc.Centre to ranges = Nothing
+codesPuts (Hc.Codes axis button flag) to ranges = dpadPuts axis button to ranges flag
+codesPuts Hc.Unknown to ranges = UnknownHatDirection
 
 -- "Hat other than 0: nothing."
-unfoldable pub hatPuts : ℕ → ℕ → AxisOrBtn → Puts
-hatPuts h d to = pick (eqb h 0) (codesPuts (hatCodes d) to) Nothing
+unfoldable pub hatPuts : ℕ → ℕ → AxisOrBtn → Ranges → Puts
+hatPuts h d to ranges = pick (eqb h 0) (codesPuts (hatCodes d) to ranges) Nothing
 
 -- a token after which the line goes on at q: "another platform only passed over";
 -- "Name start: after the first comma, length 0 where no name field follows"
 unfoldable pub putsOf : Token → ℕ → List ℕ → List ℕ → Puts
-putsOf (Tk.AxisMapping n to ranges) q buttons axes = listed axes n to
-putsOf (Tk.ButtonMapping n to ranges) q buttons axes = listed buttons n to
-putsOf (Tk.HatMapping h d to ranges) q buttons axes = hatPuts h d to
+putsOf (Tk.AxisMapping n to ranges) q buttons axes = listed axes n to ranges
+putsOf (Tk.ButtonMapping n to ranges) q buttons axes = listed buttons n to ranges
+putsOf (Tk.HatMapping h d to ranges) q buttons axes = hatPuts h d to ranges
 putsOf (Tk.Uuid u) q buttons axes = Name q 0
 putsOf (Tk.Platform start len) q buttons axes = Nothing
 putsOf (Tk.Name start len) q buttons axes = Name start len

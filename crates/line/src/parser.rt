@@ -43,6 +43,15 @@ pub struct Ranges {
     pub inverted: bool,
 }
 
+impl Ranges {
+    // Full on both sides and not inverted.
+    pub const FULL: Ranges = Ranges {
+        input: AxisRange::Full,
+        output: AxisRange::Full,
+        inverted: false,
+    };
+}
+
 // A text is its start and length in the line.
 pub enum Token {
     Uuid(Uuid),

@@ -145,7 +145,7 @@ module _ (Q : List ℕ → Type 0) (none : Q []) (join : (f s : List ℕ) → Q 
   pairs-hold letter codes (e ∷ es) rest m p q =
       join (pairText letter codes e) (ended (pairTexts letter codes es ++ rest))
       (plain (pairText letter codes e) (pair-plain letter codes e m (p .0)))
-      (pairs-hold letter codes es rest m (p .1) q)
+      (pairs-hold letter codes es rest m (p .2) q)
 
   none-ended : Q (ended [])
   unfolding ended

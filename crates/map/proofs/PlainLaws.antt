@@ -14,6 +14,7 @@ use Rattle.line.specs.declared.ev.AxisOrBtn.{AxisOrBtn}
 use Rattle.line.specs.declared.mapping.Entry.{Entry}
 use Rattle.line.specs.Buttons as B
 use Rattle.line.specs.Axes as A
+use Rattle.line.specs.Maps.{fullRanges}
 use Rattle.line.specs.Tables.{axesSdl, axes, elementFrom, elementRow, identText, asButton, asAxis}
 use Rattle.line.proofs.IdentLaws.{Named, button-named, axis-named}
 use Rattle.map.specs.declared.mapping_data.MappingData.{MappingData}
@@ -77,11 +78,11 @@ axis-plain k h l =
 -- ---- the filled slots
 unfoldable pub AllPlain : List Entry → Type 0
 AllPlain [] = Unit {0}
-AllPlain (e ∷ es) = Plain (e .element) × AllPlain es
+AllPlain (e ∷ es) = Plain (e .element) × (e .ranges ≡ fullRanges) × AllPlain es
 
 also-plain : (s : SlotCode) (to : AxisOrBtn) (rest : List Entry) → Plain to → AllPlain rest → AllPlain (also s to rest)
 unfolding AllPlain
-also-plain (Is c) to rest p q = (p, q)
+also-plain (Is c) to rest p q = (p, refl, q)
 also-plain Nothing to rest p q = q
 
 plain-from : (code : ℕ → SlotCode) (to : ℕ → AxisOrBtn) (n k : ℕ) → ((j : ℕ) → k ≤ j → j < k + n → Plain (to j))

@@ -1,7 +1,7 @@
 -- Built lines read back: reading a built line with the lists of its build gives the map of its build.
 -- Assumes nothing.
 use Prim.Native.Nat.{ℕ, suc, _<_, _≤_}
-use mathlib.Core.Path.{_≡_, refl, ap, _∙_}
+use mathlib.Core.Path.{_≡_, refl, sym, ap, _∙_}
 use mathlib.Core.Bool.{Bool, true, false}
 use mathlib.Core.List.{List, [], _∷_, _++_, append-nil}
 use native.Mathlib.Omega.{arith}
@@ -14,7 +14,8 @@ use Rattle.text.specs.declared.uuid.Uuid.{Uuid}
 use Rattle.text.proofs.UuidLaws.{uuidText-length}
 use Rattle.line.specs.declared.mapping.Entry.{Entry}
 use Rattle.line.specs.Elements.{codeOf}
-use Rattle.line.specs.Maps.{CODES_MAX, MapView, entryOf, toMap, putsInto}
+use Rattle.line.specs.declared.parser.Ranges.{Ranges}
+use Rattle.line.specs.Maps.{CODES_MAX, MapView, fullRanges, rangedEntry, entryOf, toMap, putsInto}
 use Rattle.line.specs.Effects.{does, effectOf, entriesOf, Effect}
 use Rattle.line.specs.Folds.{flagsOf, AllGo, orAll, after}
 use Rattle.line.specs.Reading.{LIST_MAX, acceptedOf, readingOf}
@@ -47,10 +48,11 @@ place-holds c (x ∷ s) h = by (eqb x c) refl h (place-holds c s)
     by true e l ih = eqb-true x c e
     by false e l ih = ih (omega arith)
 
-entry-at : (e : Entry) (codes : List ℕ) → placeOf (e .code) codes < length codes
+entry-at : (e : Entry) (codes : List ℕ) → e .ranges ≡ fullRanges → placeOf (e .code) codes < length codes
     → entryOf (codeOf (getD codes (placeOf (e .code) codes) 0)) (e .element) ≡ e
-entry-at e codes h =
+entry-at e codes full h =
     ap (λ (c : ℕ). entryOf (codeOf c) (e .element)) (place-holds (e .code .0) codes h)
+    ∙ ap (λ (r : Ranges). rangedEntry (e .code) (e .element) r) (sym full)
 
 module _ (buttons axes : List ℕ) where
   -- pairs that go, and put these entries and no flags
@@ -76,7 +78,7 @@ module _ (buttons axes : List ℕ) where
       }
 
   module _ (letter : ℕ) (m : isIdentByte letter ≡ true) (codes : List ℕ)
-      (pair : (e : Entry) → Plain (e .element) → placeOf (e .code) codes < length codes
+      (pair : (e : Entry) → Plain (e .element) → e .ranges ≡ fullRanges → placeOf (e .code) codes < length codes
       → effectOf (pairText letter codes e) buttons axes ≡ does (e ∷ []) (0 ∷ [])) where
     reads-pairs : (es : List Entry) (fs : List (List ℕ)) (gs : List Entry) → AllPlain es
         → missingOf es codes ≡ Nothing → Reads fs gs → Reads (pairTexts letter codes es ++ fs) (es ++ gs)
@@ -86,21 +88,22 @@ module _ (buttons axes : List ℕ) where
         let w = first-listed e es codes l in
         reads-more (pairText letter codes e) e (pairTexts letter codes es ++ fs) (es ++ gs)
         (count-none isPlainByte (byte ",") refl (pairText letter codes e) (pair-plain letter codes e m (p .0)))
-        (pair e (p .0) (w .0)) (reads-pairs es fs gs (p .1) (w .1) r)
+        (pair e (p .0) (p .1) (w .0)) (reads-pairs es fs gs (p .2) (w .1) r)
 
-  button-reads : length buttons ≤ LIST_MAX → (e : Entry) → Plain (e .element)
+  button-reads : length buttons ≤ LIST_MAX → (e : Entry) → Plain (e .element) → e .ranges ≡ fullRanges
       → placeOf (e .code) buttons < length buttons
       → effectOf (pairText (byte "b") buttons e) buttons axes ≡ does (e ∷ []) (0 ∷ [])
-  button-reads fit e p h =
+  button-reads fit e p full h =
       button-pair (identText (e .element)) (e .element) (p .named) (placeOf (e .code) buttons) (omega arith) buttons
       axes h
-      ∙ ap (λ (x : Entry). does (x ∷ []) (0 ∷ [])) (entry-at e buttons h)
+      ∙ ap (λ (x : Entry). does (x ∷ []) (0 ∷ [])) (entry-at e buttons full h)
 
-  axis-reads : length axes ≤ LIST_MAX → (e : Entry) → Plain (e .element) → placeOf (e .code) axes < length axes
+  axis-reads : length axes ≤ LIST_MAX → (e : Entry) → Plain (e .element) → e .ranges ≡ fullRanges
+      → placeOf (e .code) axes < length axes
       → effectOf (pairText (byte "a") axes e) buttons axes ≡ does (e ∷ []) (0 ∷ [])
-  axis-reads fit e p h =
+  axis-reads fit e p full h =
       axis-pair (identText (e .element)) (e .element) (p .named) (placeOf (e .code) axes) (omega arith) buttons axes h
-      ∙ ap (λ (x : Entry). does (x ∷ []) (0 ∷ [])) (entry-at e axes h)
+      ∙ ap (λ (x : Entry). does (x ∷ []) (0 ∷ [])) (entry-at e axes full h)
 
 -- ---- the line
 ended-joined : (fs : List (List ℕ)) → ended fs ≡ joined fs

@@ -10,6 +10,7 @@ use line::ev::Code;
 use line::ev::nec;
 use line::mapping::Entry;
 use line::mapping::Mapping;
+use line::parser::Ranges;
 ghost use mathlib.Core.Path.{_≡_};
 ghost use Prim.Native.Nat.{_<_};
 ghost use lib.ListN.{getD};
@@ -101,6 +102,7 @@ fn row(i: usize) -> Entry
     Entry {
         code: CODES[i],
         element: ELEMENTS[i],
+        ranges: Ranges::FULL,
     }
 }
 

@@ -3,6 +3,8 @@
 use line::ev::AxisOrBtn;
 use line::mapping::CODES_MAX;
 use line::mapping::Mapping;
+use line::parser::AxisRange;
+use line::parser::Ranges;
 use text::bytes::Written;
 use text::bytes::write_bytes;
 use text::decimal::write_index;
@@ -64,7 +66,8 @@ pub fn put_part(out: &mut [u8], at: usize, sign: &[u8], n: usize) -> usize {
     put_number(out, next, n)
 }
 
-// `33+1;1;10220=b16,30011=a8,`: the name's start and length, the hat flags, the entries; `d` after it in a default map.
+// `33+1;1;10220=b16,30002=a3UF~,`: the name's start and length, the hat flags, the entries, with their ranges where they are
+// not full; `d` after it in a default map.
 pub fn put_map(out: &mut [u8], at: usize, map: Mapping) -> usize {
     let start = put_number(out, at, map.name_start);
     let len = put_part(out, start, b"+", map.name_len);
@@ -95,15 +98,59 @@ fn put_entries(out: &mut [u8], at: usize, map: Mapping) -> usize {
         let e = map.entries[i];
         let code = e.code;
         let element = e.element;
-        next = put_entry(out, next, code.0, element);
+        let ranges = e.ranges;
+        next = put_entry(out, next, code.0, element, ranges);
         i += 1;
     }
     next
 }
 
-fn put_entry(out: &mut [u8], at: usize, code: u32, element: AxisOrBtn) -> usize {
+fn put_entry(out: &mut [u8], at: usize, code: u32, element: AxisOrBtn, ranges: Ranges) -> usize {
     let end = put_code(out, at, code);
     let to = put(out, end, b"=");
-    let next = put_element(out, to, element);
+    let half = put_element(out, to, element);
+    let next = put_unlike_full(out, half, ranges);
     put(out, next, b",")
+}
+
+fn put_range(out: &mut [u8], at: usize, r: AxisRange) -> usize {
+    match r {
+        AxisRange::LowerHalf => put(out, at, b"L"),
+        AxisRange::UpperHalf => put(out, at, b"U"),
+        AxisRange::Full => put(out, at, b"F"),
+    }
+}
+
+// The input and the output range, `F`, `U` or `L`, and `~` where inverted.
+pub fn put_ranges(out: &mut [u8], at: usize, ranges: Ranges) -> usize {
+    let input = ranges.input;
+    let output = ranges.output;
+    let half = put_range(out, at, input);
+    let next = put_range(out, half, output);
+    if ranges.inverted {
+        return put(out, next, b"~");
+    }
+    next
+}
+
+fn is_full(r: AxisRange) -> bool {
+    match r {
+        AxisRange::LowerHalf => false,
+        AxisRange::UpperHalf => false,
+        AxisRange::Full => true,
+    }
+}
+
+// The ranges of an entry, where they are not full on both sides and upright.
+fn put_unlike_full(out: &mut [u8], at: usize, ranges: Ranges) -> usize {
+    let input = ranges.input;
+    let output = ranges.output;
+    if !ranges.inverted {
+        if is_full(input) {
+            if is_full(output) {
+                return at;
+            }
+        }
+    }
+    put_ranges(out, at, ranges)
 }

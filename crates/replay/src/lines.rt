@@ -7,6 +7,7 @@ use crate::answers::put;
 use crate::answers::put_element;
 use crate::answers::put_map;
 use crate::answers::put_part;
+use crate::answers::put_ranges;
 use crate::answers::put_refusal;
 use crate::answers::put_refusal_at;
 use crate::fields::number;
@@ -15,7 +16,6 @@ use crate::fields::word;
 use crate::same;
 use line::ev::AxisOrBtn;
 use line::parser::Answer;
-use line::parser::AxisRange;
 use line::parser::Error;
 use line::parser::ErrorKind;
 use line::parser::Ranges;
@@ -89,25 +89,10 @@ pub fn put_uuid(out: &mut [u8], at: usize, id: Uuid) -> usize {
     put(out, at, &digits)
 }
 
-fn put_range(out: &mut [u8], at: usize, r: AxisRange) -> usize {
-    match r {
-        AxisRange::LowerHalf => put(out, at, b"L"),
-        AxisRange::UpperHalf => put(out, at, b"U"),
-        AxisRange::Full => put(out, at, b"F"),
-    }
-}
-
 fn put_target(out: &mut [u8], at: usize, to: AxisOrBtn, ranges: Ranges) -> usize {
-    let input = ranges.input;
-    let output = ranges.output;
     let arrow = put(out, at, b">");
     let element = put_element(out, arrow, to);
-    let half = put_range(out, element, input);
-    let next = put_range(out, half, output);
-    if ranges.inverted {
-        return put(out, next, b"~");
-    }
-    next
+    put_ranges(out, element, ranges)
 }
 
 fn put_token(out: &mut [u8], at: usize, t: Token) -> usize {

@@ -1,8 +1,10 @@
 // Cases of the element calls, and of maps that no call makes.
+use crate::cases::hex_number;
 use crate::cases::number;
 use crate::cases::rest;
 use crate::cases::short;
 use crate::cases::word;
+use crate::line_cases::ranged;
 use crate::written::Text;
 use line::ev::Axis;
 use line::ev::AxisOrBtn;
@@ -10,10 +12,13 @@ use line::ev::Button;
 use line::ev::Code;
 use line::ev::SecondAxis;
 use line::ev::ToNec;
+use line::mapping::Entered;
 use line::mapping::Entry;
 use line::mapping::Mapped;
 use line::mapping::Mapping;
 use line::mapping::Source;
+use line::parser::AxisRange;
+use line::parser::Ranges;
 
 fn flag(out: Text, on: bool, letter: u8) -> Text {
     if on {
@@ -65,12 +70,34 @@ pub fn element_case(args: &[u8]) -> bool {
     flag(out, e.eq(other), b'e').is(rest(rest(args)))
 }
 
-// A map that no call makes, with that count: code 5 to button 1, 3 to axis 2, 5 to button 3, 2 to button 1, and unused
-// entries.
+fn half(b: u8) -> AxisRange {
+    if b == b'L' {
+        return AxisRange::LowerHalf;
+    }
+    if b == b'U' {
+        return AxisRange::UpperHalf;
+    }
+    AxisRange::Full
+}
+
+// The ranges that a word `UL~` is: input, output, and whether inverted.
+fn ranges(s: &[u8]) -> Ranges {
+    if s.len() < 2 {
+        return Ranges::FULL;
+    }
+    Ranges {
+        input: half(s[0]),
+        output: half(s[1]),
+        inverted: s.len() == 3,
+    }
+}
+
+// A map that no call makes, with that count: code 5 to button 1, 3 to axis 2 with its ranges, 5 to button 3, 2 to button 1,
+// and unused entries.
 fn odd_map(count: usize) -> Mapping {
     let mut m = Mapping::new();
     m.entries[0] = Entry::new(Code(5), AxisOrBtn::Btn(Button(1)));
-    m.entries[1] = Entry::new(Code(3), AxisOrBtn::Axis(Axis(2)));
+    m.entries[1] = Entry::ranged(Code(3), AxisOrBtn::Axis(Axis(2)), ranges(b"UL~"));
     m.entries[2] = Entry::new(Code(5), AxisOrBtn::Btn(Button(3)));
     m.entries[3] = Entry::new(Code(2), AxisOrBtn::Btn(Button(1)));
     m.count = count;
@@ -98,4 +125,43 @@ pub fn map_rev_case(args: &[u8]) -> bool {
         Source::Nowhere => Text::new().byte(b'-'),
     };
     out.is(rest(more))
+}
+
+// The element of an entry, and its ranges where they are not full.
+fn said(out: Text, e: Entry) -> Text {
+    let element = e.element;
+    let ranges = e.ranges;
+    ranged(out.element(element), ranges)
+}
+
+// `entry COUNT CODE ANSWER`: the first entry of a code in the odd map.
+pub fn entry_case(args: &[u8]) -> bool {
+    let more = rest(args);
+    let code = Code(short(word(more)) as u32);
+    let entered = odd_map(number(word(args))).entry(code);
+    let out = match entered {
+        Entered::Is(e) => said(Text::new(), e),
+        Entered::Absent => Text::new().byte(b'-'),
+    };
+    out.is(rest(more))
+}
+
+// `number CODE ELEMENT RANGES ANSWER`: an entry as a number, and the entry of that number, if it is the same.
+pub fn number_case(args: &[u8]) -> bool {
+    let to = rest(args);
+    let halves = rest(to);
+    let e = Entry::ranged(
+        Code(hex_number(word(args))),
+        element(word(to)),
+        ranges(word(halves)),
+    );
+    let n = e.number();
+    let back = Entry::of_number(n);
+    if said(Text::new().hex(back.code.0 as u64), back).same(said(
+        Text::new().hex(e.code.0 as u64),
+        e,
+    )) {
+        return Text::new().hex(n).is(rest(halves));
+    }
+    false
 }

@@ -1,7 +1,8 @@
 // Cases of the walker and of reading. In a case the first field `U` stands for 32 zeros, and `\41C3` is those bytes.
 // A token is written `U<low half>`, `N<start>+<len>`, `P<start>+<len>`, or `A<axis>`, `B<button>`, `H<hat>.<direction>`
 // with `><element>`, the input and the output range, `F`, `U` or `L`, and `~` where inverted; a refusal
-// `!<number>@<place>`; the end `E`; a map `<name start>+<name len>;<hat flags>;<code>=<element>,..`.
+// `!<number>@<place>`; the end `E`; a map `<name start>+<name len>;<hat flags>;<code>=<element>,..`, an element with its
+// ranges as a token has them where they are not full.
 use crate::cases::after;
 use crate::cases::before;
 use crate::cases::rest;
@@ -68,17 +69,32 @@ fn range(r: AxisRange) -> u8 {
     }
 }
 
-fn target(out: Text, to: AxisOrBtn, ranges: Ranges) -> Text {
+fn halves(out: Text, ranges: Ranges) -> Text {
     let input = ranges.input;
     let output = ranges.output;
-    let said = out.byte(b'>')
-        .element(to)
-        .byte(range(input))
-        .byte(range(output));
+    let said = out.byte(range(input)).byte(range(output));
     if ranges.inverted {
         return said.byte(b'~');
     }
     said
+}
+
+fn target(out: Text, to: AxisOrBtn, ranges: Ranges) -> Text {
+    halves(out.byte(b'>').element(to), ranges)
+}
+
+// The ranges of an entry, where they are not full on both sides and upright.
+pub fn ranged(out: Text, ranges: Ranges) -> Text {
+    let input = ranges.input;
+    let output = ranges.output;
+    if !ranges.inverted {
+        if range(input) == b'F' {
+            if range(output) == b'F' {
+                return out;
+            }
+        }
+    }
+    halves(out, ranges)
 }
 
 fn part(out: Text, start: usize, len: usize) -> Text {
@@ -207,10 +223,9 @@ fn entries(out: Text, map: Mapping) -> Text {
         }
         let e = map.entries[i];
         let element = e.element;
-        said = said.hex(e.code.0 as u64)
-            .byte(b'=')
-            .element(element)
-            .byte(b',');
+        let ranges = e.ranges;
+        let entry = said.hex(e.code.0 as u64).byte(b'=').element(element);
+        said = ranged(entry, ranges).byte(b',');
         i += 1;
     }
     said

@@ -84,6 +84,12 @@ fn run_element_case(kind: &[u8], args: &[u8]) -> bool {
     if same_bytes(kind, b"map-rev") {
         return element_cases::map_rev_case(args);
     }
+    if same_bytes(kind, b"entry") {
+        return element_cases::entry_case(args);
+    }
+    if same_bytes(kind, b"number") {
+        return element_cases::number_case(args);
+    }
     run_text_case(kind, args)
 }
 

@@ -28,7 +28,7 @@ pub enum Group {
     Buffers,
 }
 
-pub const GROUPS: [(&str, &str); 20] = [
+pub const GROUPS: [(&str, &str); 21] = [
     ("utf8", "the longest valid run of UTF-8, with Rust's own reader"),
     ("uuid", "UUID texts, with the crate uuid"),
     ("index", "index numbers, with Rust's own reader"),

@@ -1,8 +1,8 @@
 //! The comparisons of single calls.
 use crate::check::{shown, Group, Tally};
 use crate::gen::{self, Rng};
-use crate::plain::{placed, refusal, Map, Refusal, Slots, Tok, Uuid, AXIS};
-use crate::{doc01, port};
+use crate::plain::{placed, refusal, Entry, Map, Refusal, Slots, Tok, Uuid, AXIS, FULL};
+use crate::{doc01, plain, port};
 use std::cell::Cell;
 use std::collections::BTreeMap;
 use std::panic::{catch_unwind, AssertUnwindSafe};
@@ -177,7 +177,7 @@ fn reading(t: &mut Tally, line: &[u8], text: Option<&str>, b: &[u32], a: &[u32])
     }
     let raw = raw.flatten();
     let rust = raw.as_ref().map(|r| match r {
-        Ok(m) => Ok(placed(oracle::plain(m), line)),
+        Ok(m) => Ok(plain::read(oracle::plain(m), text.unwrap(), b, a)),
         Err(e) => Err(Refusal::from(e.clone())),
     });
     t.case(Group::Reading, number(&doc), rust.as_ref(), &doc, &here.answer(), &input);
@@ -195,10 +195,11 @@ pub fn regrouped(t: &mut Tally, r: &mut Rng, line: &[u8], b: &[u32], a: &[u32]) 
     }
     let Some(other) = gen::regrouped(r, line) else { return };
     let input = || format!("{} for {}, buttons {b:x?}, axes {a:x?}", shown(&other), shown(line));
-    let rust = std::str::from_utf8(&other).ok().and_then(|l| rust(|| oracle::read_raw(l, b, a)));
-    let rust = rust.map(|r| match r {
-        Ok(m) => Ok(placed(oracle::plain(&m), &other)),
-        Err(e) => Err(Refusal::from(e)),
+    let rust = std::str::from_utf8(&other).ok().and_then(|l| {
+        rust(|| match oracle::read_raw(l, b, a) {
+            Ok(m) => Ok(plain::read(oracle::plain(&m), l, b, a)),
+            Err(e) => Err(Refusal::from(e)),
+        })
     });
     if rust.is_none() {
         t.panic(&input);
@@ -214,6 +215,8 @@ fn look(t: &mut Tally, input: &dyn Fn() -> String, doc: &Map, raw: &oracle::Mapp
         let want = doc.entries.iter().find(|e| e.0 == code).map(|e| e.1);
         let input = || format!("{}, code {code:x}", input());
         t.case(Group::Map, 0, Some(&oracle::map(raw, code)), &want, &here.map(code), &input);
+        let want = doc.entries.iter().find(|e| e.0 == code).copied();
+        t.case(Group::Map, 0, None, &want, &here.entry(code), &input);
     }
     // every element of the map, and some that it may lack
     let mut asked = [false; 512];
@@ -233,36 +236,58 @@ fn look(t: &mut Tally, input: &dyn Fn() -> String, doc: &Map, raw: &oracle::Mapp
 /// Maps of any content: document 01 alone.
 pub fn any_map(t: &mut Tally, r: &mut Rng) {
     let n = r.pick(&[0, 1, 3, 255, 256]);
-    let entries: Vec<(u32, u16)> =
-        (0..n).map(|_| (r.below(300) as u32, r.pick(&[0, 1, 2, 300, AXIS + 1, AXIS + 2]))).collect();
+    let some_ranges = |r: &mut Rng| (r.below(3) as u8, r.below(3) as u8, r.one_in(2));
+    let entries: Vec<Entry> = (0..n)
+        .map(|_| (r.below(300) as u32, r.pick(&[0, 1, 2, 255, AXIS + 1, AXIS + 2]), some_ranges(r)))
+        .collect();
     let count = if r.one_in(3) { r.pick(&[0, 1, 255, 256, 257, 300, usize::MAX]) } else { n };
     let map = port::AnyMap::new(count, &entries);
     let mut all = entries.clone();
-    all.resize(256, (0, 0));
+    all.resize(256, (0, 0, FULL));
     all.truncate(count.min(256));
     let (code, e) = (r.below(310) as u32, r.pick(&[0, 1, 2, 5, 300, AXIS + 1, AXIS]));
     let input = || format!("count {count}, entries {entries:x?}, code {code:x}, element {e}");
     let want = (
         all.iter().find(|x| x.0 == code).map(|x| x.1),
         all.iter().filter(|x| x.1 == e).map(|x| x.0).min(),
+        all.iter().find(|x| x.0 == code).copied(),
     );
-    t.case(Group::Puts, 0, None, &want, &(map.map(code), map.map_rev(e)), &input);
+    t.case(Group::Puts, 0, None, &want, &(map.map(code), map.map_rev(e), map.entry(code)), &input);
+    numbers(t, (r.next() as u32, r.below(512) as u16, some_ranges(r)), r.next());
     // puts from the empty map
     let mut map = port::AnyMap::new(0, &[]);
-    let mut want: BTreeMap<u32, u16> = BTreeMap::new();
+    let mut want: BTreeMap<u32, Entry> = BTreeMap::new();
     let wide = r.one_in(20);
     for _ in 0..if wide { 300 } else { 8 } {
-        let (c, e) = (r.below(if wide { 280 } else { 6 }) as u32, r.below(20) as u16);
-        let full = want.len() == 256 && !want.contains_key(&c);
+        let e = (r.below(if wide { 280 } else { 6 }) as u32, r.below(20) as u16, some_ranges(r));
+        let full = want.len() == 256 && !want.contains_key(&e.0);
         if !full {
-            want.insert(c, e);
+            want.insert(e.0, e);
         }
         let doc = full.then(|| refusal(11));
         let n = if full { 11 } else { 0 };
-        t.case(Group::Puts, n, None, &doc, &map.put(c, e), &|| format!("put {c:x} to {e} into {want:x?}"));
+        t.case(Group::Puts, n, None, &doc, &map.put(e), &|| format!("put {e:x?} into {want:x?}"));
     }
-    let want: Vec<(u32, u16)> = want.into_iter().collect();
+    let want: Vec<Entry> = want.into_values().collect();
     t.case(Group::Puts, 0, None, &want, &map.entries(), &|| "a map after puts".into());
+}
+
+/// An entry as a number and back, and the entry of any number (document 02, P2, alone).
+fn numbers(t: &mut Tally, e: Entry, any: u64) {
+    let half = |r: u8| [2, 1, 0][r as usize];
+    let (code, to, (input, output, inverted)) = e;
+    let ranges = half(input) + 4 * half(output) + 16 * inverted as u64;
+    let shape = 2 * ranges + (to >= AXIS) as u64;
+    let want = ((code as u64) << 32 | shape << 16 | (to % AXIS) as u64, e);
+    let got = port::entry_number(e);
+    t.case(Group::Puts, 0, None, &want, &(got, port::entry_of_number(got)), &|| format!("number of {e:x?}"));
+    // the number of an element is cut to the few that the comparison tells apart
+    let x = any & !0xff00;
+    let back = |k: u64| [2, 1, 0, 0][(k % 4) as usize];
+    let ranges = x >> 17;
+    let to = (x & 0xff) as u16 + if x >> 16 & 1 == 1 { AXIS } else { 0 };
+    let want = ((x >> 32) as u32, to, (back(ranges), back(ranges >> 2), ranges >> 4 & 1 == 1));
+    t.case(Group::Puts, 0, None, &want, &port::entry_of_number(x), &|| format!("the entry of {x:x}"));
 }
 
 /// `default`, with the Rust that request P1 mended; and with the Rust as published, where East is the only difference.

@@ -1,6 +1,6 @@
 //! Document 01 once more, in plain Rust on bytes: judges what gilrs has no answer for (refusals 10, 11, 12 and 16 to 23).
 use std::collections::BTreeMap;
-use crate::plain::{refusal, refusal_at, Map, Refusal, Slots, Tok, Uuid, AXIS};
+use crate::plain::{refusal, refusal_at, Entry, Map, Refusal, Slots, Tok, Uuid, AXIS, FULL};
 
 pub const CODES_MAX: usize = 256;
 pub const LIST_MAX: usize = 1024;
@@ -191,16 +191,16 @@ fn pair(field: &[u8], p: usize) -> Tok {
     to.map_or(no(5, p), |to| Tok::Axis { from, to, input, output, inverted })
 }
 
-fn put(m: &mut Map, code: u32, e: u16) {
-    match m.entries.binary_search_by_key(&code, |x| x.0) {
-        Ok(i) => m.entries[i].1 = e,
-        Err(i) => m.entries.insert(i, (code, e)),
+fn put(m: &mut Map, e: Entry) {
+    match m.entries.binary_search_by_key(&e.0, |x| x.0) {
+        Ok(i) => m.entries[i] = e,
+        Err(i) => m.entries.insert(i, e),
     }
 }
 
 /// 11 where the put would make a 257th code.
-fn put_or_full(m: &mut Map, code: u32, e: u16, p: usize) -> Result<(), Refusal> {
-    put(m, code, e);
+fn put_or_full(m: &mut Map, e: Entry, p: usize) -> Result<(), Refusal> {
+    put(m, e);
     if m.entries.len() > CODES_MAX { Err(refusal_at(11, p)) } else { Ok(()) }
 }
 
@@ -228,8 +228,8 @@ pub fn read(line: &[u8], buttons: &[u32], axes: &[u32]) -> Result<Map, Refusal> 
             Tok::Name { start, len } => (m.name_start, m.name_len) = (start, len),
             t => {
                 let (puts, flags) = puts(t, buttons, axes)?;
-                for (code, e) in puts {
-                    put_or_full(&mut m, code, e, p)?;
+                for e in puts {
+                    put_or_full(&mut m, e, p)?;
                 }
                 m.hats |= flags;
             }
@@ -237,18 +237,18 @@ pub fn read(line: &[u8], buttons: &[u32], axes: &[u32]) -> Result<Map, Refusal> 
     }
 }
 
-/// What a token puts, in order, and the hat flags.
-fn puts(t: Tok, buttons: &[u32], axes: &[u32]) -> Result<(Vec<(u32, u16)>, u8), Refusal> {
-    let listed = |list: &[u32], n: u16, e: u16| list.get(n as usize).map(|c| (*c, e)).into_iter().collect();
+/// What a token puts, in order, and the hat flags. Document 02, P2: an entry has the ranges of its pair.
+fn puts(t: Tok, buttons: &[u32], axes: &[u32]) -> Result<(Vec<Entry>, u8), Refusal> {
+    let listed = |list: &[u32], n: u16, e: u16, r| list.get(n as usize).map(|c| (*c, e, r)).into_iter().collect();
     match t {
-        Tok::Axis { from, to, .. } => Ok((listed(axes, from, to), 0)),
-        Tok::Button { from, to, .. } => Ok((listed(buttons, from, to), 0)),
-        Tok::Hat { hat: 0, direction, to, .. } => hat_zero(direction, to),
+        Tok::Axis { from, to, input, output, inverted } => Ok((listed(axes, from, to, (input, output, inverted)), 0)),
+        Tok::Button { from, to, output } => Ok((listed(buttons, from, to, (2, output, false)), 0)),
+        Tok::Hat { hat: 0, direction, to, output } => hat_zero(direction, to, output),
         _ => Ok((Vec::new(), 0)),
     }
 }
 
-fn hat_zero(direction: u16, to: u16) -> Result<(Vec<(u32, u16)>, u8), Refusal> {
+fn hat_zero(direction: u16, to: u16, output: u8) -> Result<(Vec<Entry>, u8), Refusal> {
     let (ax, bt) = match direction {
         0 => return Ok((Vec::new(), 0)),
         1 => (0x30011, 0x10220),
@@ -259,11 +259,11 @@ fn hat_zero(direction: u16, to: u16) -> Result<(Vec<(u32, u16)>, u8), Refusal> {
     };
     let mut puts = Vec::new();
     match to {
-        18 | 19 => puts.push((ax, AXIS + 7)),
-        16 | 17 => puts.push((ax, AXIS + 8)),
+        18 | 19 => puts.push((ax, AXIS + 7, FULL)),
+        16 | 17 => puts.push((ax, AXIS + 8, FULL)),
         _ => {}
     }
-    puts.push((if to >= AXIS { ax } else { bt }, to));
+    puts.push((if to >= AXIS { ax } else { bt }, to, (2, output, false)));
     Ok((puts, direction as u8))
 }
 
@@ -275,8 +275,8 @@ pub fn alike(line: &[u8], buttons: &[u32], axes: &[u32]) -> bool {
         match w.step() {
             Tok::End => return true,
             t => {
-                for (code, e) in puts(t, buttons, axes).map_or(Vec::new(), |p| p.0) {
-                    if *seen.entry(code).or_insert(e) != e {
+                for e in puts(t, buttons, axes).map_or(Vec::new(), |p| p.0) {
+                    if *seen.entry(e.0).or_insert(e) != e {
                         return false;
                     }
                 }
@@ -328,7 +328,7 @@ pub fn build(
         let (list, letter) = if *e >= AXIS { (axes, 'a') } else { (buttons, 'b') };
         let i = list.iter().position(|c| c == code).unwrap();
         line.extend_from_slice(format!("{}:{letter}{i},", ident(*e)).as_bytes());
-        put(&mut m, *code, *e);
+        put(&mut m, (*code, *e, FULL));
     }
     Ok((m, line))
 }
@@ -342,13 +342,13 @@ pub fn default(buttons: &[u32], axes: &[u32]) -> Result<Map, Refusal> {
     for k in 1..=19 {
         let c = to_nec(k).unwrap();
         if buttons.contains(&c) {
-            put(&mut m, c, k);
+            put(&mut m, (c, k, FULL));
         }
     }
     let rest = [(0x30010, AXIS + 7), (0x30011, AXIS + 8), (0x30013, 7), (0x30012, 8), (0x30015, 9), (0x30014, 10)];
     for (c, e) in (1..=6).map(|k| (0x30000 + k as u32 - 1, AXIS + k)).chain(rest) {
         if axes.contains(&c) {
-            put(&mut m, c, e);
+            put(&mut m, (c, e, FULL));
         }
     }
     Ok(m)
@@ -356,6 +356,6 @@ pub fn default(buttons: &[u32], axes: &[u32]) -> Result<Map, Refusal> {
 
 /// What request P1 took out of it: the published default has East in every map.
 pub fn with_east(mut m: Map) -> Map {
-    put(&mut m, 0x10131, 2);
+    put(&mut m, (0x10131, 2, FULL));
     m
 }

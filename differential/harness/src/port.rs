@@ -1,6 +1,6 @@
 //! The proved library on plain data, through bindings/raspteal.h.
 use crate::ffi;
-use crate::plain::{Map, Refusal, Slots, Tok, Uuid, AXIS};
+use crate::plain::{Entry, Map, Refusal, Slots, Tok, Uuid, AXIS, FULL};
 
 fn element(e: u16) -> ffi::Element {
     ffi::Element { is_axis: e >= AXIS, number: e % AXIS }
@@ -30,12 +30,34 @@ fn refused(r: ffi::Refusal) -> Option<Refusal> {
     })
 }
 
+/// An entry both ways.
+fn entry(e: &ffi::Entry) -> Entry {
+    (e.code, number(e.element), (e.input, e.output, e.inverted))
+}
+
+fn flat((code, e, (input, output, inverted)): Entry) -> ffi::Entry {
+    unsafe { ffi::raspteal_entry_ranged(code, element(e), input, output, inverted) }
+}
+
+pub fn entry_number(e: Entry) -> u64 {
+    unsafe { ffi::raspteal_entry_number(flat(e)) }
+}
+
+pub fn entry_of_number(x: u64) -> Entry {
+    entry(unsafe { &ffi::raspteal_entry_of_number(x) })
+}
+
+fn entered(e: ffi::Entered) -> Option<Entry> {
+    assert!(e.found || entry(&e.entry) == (0, 0, FULL), "an entry that is not there");
+    e.found.then(|| entry(&e.entry))
+}
+
 fn plain(m: &ffi::Mapping) -> Map {
     assert!(m.count <= ffi::CODES_MAX);
-    let unused = |e: &ffi::Entry| e.code == 0 && number(e.element) == 0;
-    assert!(m.entries[m.count..].iter().all(unused), "an unused entry is not empty");
+    let unused = |e: &ffi::Entry| entry(e) == (0, 0, FULL);
+    assert!(m.entries[m.count..].iter().all(unused), "an unused entry is not as it should be");
     Map {
-        entries: m.entries[..m.count].iter().map(|e| (e.code, number(e.element))).collect(),
+        entries: m.entries[..m.count].iter().map(entry).collect(),
         name_start: m.name_start,
         name_len: m.name_len,
         default: m.is_default,
@@ -197,6 +219,9 @@ impl Reading {
         let m = unsafe { ffi::raspteal_mapping_map(self.0.map, code) };
         m.found.then_some(number(m.element))
     }
+    pub fn entry(&self, code: u32) -> Option<Entry> {
+        entered(unsafe { ffi::raspteal_mapping_entry(self.0.map, code) })
+    }
     pub fn map_rev(&self, e: u16) -> Option<u32> {
         let c = unsafe { ffi::raspteal_mapping_map_rev(self.0.map, element(e)) };
         c.found.then_some(c.code)
@@ -207,11 +232,11 @@ impl Reading {
 pub struct AnyMap(ffi::Mapping);
 
 impl AnyMap {
-    pub fn new(count: usize, entries: &[(u32, u16)]) -> Self {
+    pub fn new(count: usize, entries: &[Entry]) -> Self {
         let mut m = unsafe { ffi::raspteal_mapping_new() };
         m.count = count;
-        for (slot, (code, e)) in m.entries.iter_mut().zip(entries) {
-            *slot = ffi::Entry { code: *code, element: element(*e) };
+        for (slot, e) in m.entries.iter_mut().zip(entries) {
+            *slot = flat(*e);
         }
         AnyMap(m)
     }
@@ -219,16 +244,19 @@ impl AnyMap {
         let m = unsafe { ffi::raspteal_mapping_map(self.0, code) };
         m.found.then_some(number(m.element))
     }
+    pub fn entry(&self, code: u32) -> Option<Entry> {
+        entered(unsafe { ffi::raspteal_mapping_entry(self.0, code) })
+    }
     pub fn map_rev(&self, e: u16) -> Option<u32> {
         let c = unsafe { ffi::raspteal_mapping_map_rev(self.0, element(e)) };
         c.found.then_some(c.code)
     }
-    pub fn put(&mut self, code: u32, e: u16) -> Option<Refusal> {
-        let a = unsafe { ffi::raspteal_mapping_put(self.0, ffi::Entry { code, element: element(e) }) };
+    pub fn put(&mut self, e: Entry) -> Option<Refusal> {
+        let a = unsafe { ffi::raspteal_mapping_put(self.0, flat(e)) };
         self.0 = a.map;
         refused(a.refusal)
     }
-    pub fn entries(&self) -> Vec<(u32, u16)> {
+    pub fn entries(&self) -> Vec<Entry> {
         plain(&self.0).entries
     }
 }

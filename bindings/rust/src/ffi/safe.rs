@@ -87,6 +87,18 @@ pub fn entry_new(code: u32, element: Element) -> Entry {
     unsafe { raspteal_entry_new(code, element) }
 }
 
+pub fn entry_ranged(code: u32, element: Element, input: u8, output: u8, inverted: bool) -> Entry {
+    unsafe { raspteal_entry_ranged(code, element, input, output, inverted) }
+}
+
+pub fn entry_number(e: Entry) -> u64 {
+    unsafe { raspteal_entry_number(e) }
+}
+
+pub fn entry_of_number(x: u64) -> Entry {
+    unsafe { raspteal_entry_of_number(x) }
+}
+
 pub fn mapping_new() -> Mapping {
     unsafe { raspteal_mapping_new() }
 }
@@ -97,6 +109,10 @@ pub fn mapping_put(map: Mapping, e: Entry) -> Answer {
 
 pub fn mapping_map(map: Mapping, code: u32) -> Mapped {
     unsafe { raspteal_mapping_map(map, code) }
+}
+
+pub fn mapping_entry(map: Mapping, code: u32) -> Entered {
+    unsafe { raspteal_mapping_entry(map, code) }
 }
 
 pub fn lists_map(codes: &[u32], elements: &[u32], code: u32) -> Mapped {

@@ -5,6 +5,7 @@ use crate::ev::Button;
 use crate::ev::Code;
 use crate::ev::nec;
 use crate::mapping::Entry;
+use crate::parser::Ranges;
 use crate::parser::Token;
 ghost use mathlib.Core.Path.{_≡_};
 ghost use Rattle.line.specs.Puts.{listed, hatCodes, dpadAxis, besideOf, dpadPuts, hatPuts, putsOf};
@@ -45,22 +46,14 @@ pub fn puts_of(token: Token, after: usize, buttons: &[u32], axes: &[u32]) -> Put
     ensures { λ r. ⌜ r ≡ putsOf token after (now (buttons .entry)) (now (axes .entry)) ⌝ }
 {
     match token {
-        Token::AxisMapping {
-            from,
-            to,
-            ranges: _,
-        } => listed_put(axes, from, to),
-        Token::ButtonMapping {
-            from,
-            to,
-            ranges: _,
-        } => listed_put(buttons, from, to),
+        Token::AxisMapping { from, to, ranges } => listed_put(axes, from, to, ranges),
+        Token::ButtonMapping { from, to, ranges } => listed_put(buttons, from, to, ranges),
         Token::HatMapping {
             hat,
             direction,
             to,
-            ranges: _,
-        } => hat_puts(hat, direction, to),
+            ranges,
+        } => hat_puts(hat, direction, to, ranges),
         Token::Uuid(_) => Puts::Name {
             start: after,
             len: 0,
@@ -71,29 +64,29 @@ pub fn puts_of(token: Token, after: usize, buttons: &[u32], axes: &[u32]) -> Put
 }
 
 // The put of the code at `n` of a list, if there is one.
-fn listed_put(codes: &[u32], n: u16, to: AxisOrBtn) -> Puts
-    ensures { λ r. ⌜ r ≡ listed (now (codes .entry)) n to ⌝ }
+fn listed_put(codes: &[u32], n: u16, to: AxisOrBtn, ranges: Ranges) -> Puts
+    ensures { λ r. ⌜ r ≡ listed (now (codes .entry)) n to ranges ⌝ }
 {
     let at = n as usize;
     if at < codes.len() {
         let code = Code(codes[at]);
         return Puts::One {
-            entry: Entry::new(code, to),
+            entry: Entry::ranged(code, to, ranges),
             flags: 0,
         };
     }
     Puts::Nothing
 }
 
-fn hat_puts(hat: u16, direction: u16, to: AxisOrBtn) -> Puts
-    ensures { λ r. ⌜ r ≡ hatPuts hat direction to ⌝ }
+fn hat_puts(hat: u16, direction: u16, to: AxisOrBtn, ranges: Ranges) -> Puts
+    ensures { λ r. ⌜ r ≡ hatPuts hat direction to ranges ⌝ }
 {
     if hat != 0 {
         return Puts::Nothing;
     }
     match hat_codes(direction) {
         HatCodes::Centre => Puts::Nothing,
-        HatCodes::Codes { axis, button, flag } => dpad_puts(axis, button, to, flag),
+        HatCodes::Codes { axis, button, flag } => dpad_puts(axis, button, to, ranges, flag),
         HatCodes::Unknown => Puts::UnknownHatDirection,
     }
 }
@@ -135,13 +128,18 @@ fn hat_codes(direction: u16) -> HatCodes
     HatCodes::Unknown
 }
 
-fn dpad_puts(axis: Code, button: Code, to: AxisOrBtn, flags: u8) -> Puts
-    ensures { λ r. ⌜ r ≡ dpadPuts axis button to flags ⌝ }
+fn dpad_puts(axis: Code, button: Code, to: AxisOrBtn, ranges: Ranges, flags: u8) -> Puts
+    ensures { λ r. ⌜ r ≡ dpadPuts axis button to ranges flags ⌝ }
 {
     match to {
-        AxisOrBtn::Btn(b) => beside_puts(dpad_axis(b), axis, Entry::new(button, to), flags),
+        AxisOrBtn::Btn(b) => beside_puts(
+            dpad_axis(b),
+            axis,
+            Entry::ranged(button, to, ranges),
+            flags,
+        ),
         AxisOrBtn::Axis(_) => Puts::One {
-            entry: Entry::new(axis, to),
+            entry: Entry::ranged(axis, to, ranges),
             flags,
         },
     }

@@ -1,10 +1,6 @@
 // The map of a build, by the same puts as its line: its entries are numbers in one array until all are put.
 use crate::from_data::NAME_START;
 use crate::from_data::filled::Filled;
-use line::ev::Axis;
-use line::ev::AxisOrBtn;
-use line::ev::Button;
-use line::ev::Code;
 use line::mapping::CODES_MAX;
 use line::mapping::Entry;
 use line::mapping::Mapping;
@@ -13,44 +9,9 @@ ghost use mathlib.Core.Path.{_≡_};
 ghost use mathlib.Core.List.{_++_};
 ghost use Prim.Native.Nat.{_+_, _≤_, _<_};
 ghost use lib.ListN.{take, drop, replicate};
-ghost use Rattle.line.specs.Elements.{codeOf};
-ghost use Rattle.line.specs.Maps.{CODES_MAX, entryOf, unusedEntry};
-ghost use Rattle.line.specs.Inner.{elementIn, entryIn, entriesIn, numbersWith, Placed, PutIn, Roomy};
+ghost use Rattle.line.specs.Maps.{CODES_MAX, unusedEntry};
+ghost use Rattle.line.specs.Inner.{entriesIn, numbersWith, Placed, PutIn, Roomy};
 ghost use Rattle.map.specs.Inner.{Few, PutsIn, putMap};
-
-// What a code counts in the number of an entry, and what the kind of the element does: 0 for a button, 1 for an axis.
-const CODE_UNIT: u64 = 4294967296;
-
-const KIND_UNIT: u64 = 65536;
-
-fn pack(code: u32, kind: u16, number: u16) -> u64
-    ensures { λ r. ⌜ entryIn r ≡ entryOf (codeOf code) (elementIn kind number) ⌝ }
-{
-    code as u64 * CODE_UNIT + kind as u64 * KIND_UNIT + number as u64
-}
-
-// An entry as a number.
-fn packed(e: Entry) -> u64
-    ensures { λ r. ⌜ entryIn r ≡ e ⌝ }
-{
-    let element = e.element;
-    match element {
-        AxisOrBtn::Axis(a) => pack(e.code.0, 1, a.0),
-        AxisOrBtn::Btn(b) => pack(e.code.0, 0, b.0),
-    }
-}
-
-// The entry that a number is.
-fn unpacked(x: u64) -> Entry
-    ensures { λ r. ⌜ r ≡ entryIn x ⌝ }
-{
-    let code = Code((x / CODE_UNIT) as u32);
-    let number = (x % KIND_UNIT) as u16;
-    if x / KIND_UNIT % KIND_UNIT == 0 {
-        return Entry::new(code, AxisOrBtn::Btn(Button(number)));
-    }
-    Entry::new(code, AxisOrBtn::Axis(Axis(number)))
-}
 
 // Where an entry goes among the first n.
 fn find_place(xs: &[u64], n: usize, e: Entry) -> Place
@@ -59,7 +20,7 @@ fn find_place(xs: &[u64], n: usize, e: Entry) -> Place
 {
     let mut i: usize = 0;
     while i < n {
-        let x = unpacked(xs[i]);
+        let x = Entry::of_number(xs[i]);
         if e.code.0 < x.code.0 {
             return Place::Before(i);
         }
@@ -94,11 +55,11 @@ fn put_number(xs: &mut [u64], n: usize, e: Entry) -> usize
 {
     match find_place(xs, n, e) {
         Place::Held(i) => {
-            xs[i] = packed(e);
+            xs[i] = e.number();
             n
         }
         Place::Before(i) => {
-            insert_at(xs, i, n, packed(e));
+            insert_at(xs, i, n, e.number());
             n + 1
         }
     }
@@ -127,7 +88,7 @@ fn entries_of(xs: &[u64], n: usize) -> [Entry; CODES_MAX]
     let mut entries = [Entry::UNUSED; CODES_MAX];
     let mut i: usize = 0;
     while i < n {
-        entries[i] = unpacked(xs[i]);
+        entries[i] = Entry::of_number(xs[i]);
         i += 1;
     }
     entries

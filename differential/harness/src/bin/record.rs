@@ -1,12 +1,15 @@
 //! A fixed list of gilrs's answers, for crates/replay, which replays it with no Rust at hand. Arguments: the folder to
 //! write, and corpus files. Each answer is also document 01's: where the two differ, this stops.
 use harness::gen::{self, Rng};
-use harness::plain::{placed, Map, Refusal, Tok, AXIS};
-use harness::{book, doc01};
+use harness::plain::{placed, Map, Ranges, Refusal, Tok, AXIS, FULL};
+use harness::{book, doc01, plain};
 use std::fmt::Write;
 
 /// A file holds at most this many bytes.
 const ROOM: usize = 65536;
+
+/// The lines that are drawn for readings, however long their answers are, so that the lists after them stay the same.
+const READINGS: usize = 822;
 
 /// Lists of crates/replay: for lines, and for builds.
 fn buttons() -> Vec<u32> {
@@ -51,10 +54,19 @@ fn element(e: u16) -> String {
     if e >= AXIS { format!("a{}", e - AXIS) } else { format!("b{e}") }
 }
 
+fn half(r: u8) -> &'static str {
+    ["L", "U", "F"][r as usize]
+}
+
+fn halves((input, output, inverted): Ranges) -> String {
+    format!("{}{}{}", half(input), half(output), if inverted { "~" } else { "" })
+}
+
 fn map(m: &Map) -> String {
     let mut s = format!("{}+{};{};", m.name_start, m.name_len, m.hats);
-    for (c, e) in &m.entries {
-        write!(s, "{c:x}={},", element(*e)).unwrap();
+    for (c, e, r) in &m.entries {
+        let ranges = if *r == FULL { String::new() } else { halves(*r) };
+        write!(s, "{c:x}={}{ranges},", element(*e)).unwrap();
     }
     if m.default {
         s.push('d');
@@ -69,7 +81,6 @@ fn refusal(r: &Refusal) -> String {
 }
 
 fn token(t: &Tok) -> String {
-    let half = |r: u8| ["L", "U", "F"][r as usize];
     match t {
         Tok::End => "E".into(),
         Tok::Refused(r) => refusal(r),
@@ -77,7 +88,7 @@ fn token(t: &Tok) -> String {
         Tok::Platform { start, len } => format!("P{start}+{len}"),
         Tok::Name { start, len } => format!("N{start}+{len}"),
         Tok::Axis { from, to, input, output, inverted } => {
-            format!("A{from}>{}{}{}{}", element(*to), half(*input), half(*output), if *inverted { "~" } else { "" })
+            format!("A{from}>{}{}", element(*to), halves((*input, *output, *inverted)))
         }
         Tok::Button { from, to, output } => format!("B{from}>{}F{}", element(*to), half(*output)),
         Tok::Hat { hat, direction, to, output } => format!("H{hat}.{direction}>{}F{}", element(*to), half(*output)),
@@ -97,7 +108,7 @@ fn short_line(r: &mut Rng) -> String {
 
 fn read_case(l: &str) -> String {
     let (b, a) = (buttons(), axes());
-    let rust = oracle::read(l, &b, &a).map(|m| placed(m, l.as_bytes())).map_err(Refusal::from);
+    let rust = oracle::read(l, &b, &a).map(|m| plain::read(m, l, &b, &a)).map_err(Refusal::from);
     assert_eq!(rust, doc01::read(l.as_bytes(), &b, &a), "{l}");
     format!("read {} {l}", rust.map_or_else(|e| refusal(&e), |m| map(&m)))
 }
@@ -199,7 +210,9 @@ fn main() {
         assert_eq!(Ok(&d), doc01::default(&buttons()[..n], &axes()).as_ref());
         list.case(&format!("default {} {n}", map(&d)));
     }
-    while list.case(&read_case(&short_line(&mut r))) {}
+    for _ in 0..READINGS {
+        list.case(&read_case(&short_line(&mut r)));
+    }
     list.write(folder, "readings.txt");
 
     let mut list = List::new("Builds: `build ANSWER UUID SLOTS NAME`.");

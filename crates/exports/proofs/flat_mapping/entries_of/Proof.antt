@@ -1,7 +1,7 @@
 -- The entries before the place are read, the others are as they were.
 -- Assumes nothing.
 use Rattle.line.specs.Maps.{unusedEntry}
-use Rattle.exports.proofs.FlatLaws.{flatUnused, laid-more, laid-all}
+use Rattle.exports.proofs.FlatLaws.{flatPast, laid-more, laid-all}
 use Rattle.exports.specs.FlatMaps.{entryIn}
 use lib.ListN.{length, take, drop, replicate, length-replicate}
 use mathlib.Core.List.{_++_, map}
@@ -51,7 +51,7 @@ loop-again c =
     let room : length ys ≡ 256 = length-replicate 256 unusedEntry in (
       omega arith,
       rw (c .entry-of .ensures, l .loop .inv .1)
-          (laid-more entryIn flatUnused xs ys (l .loop .i) (omega arith) (omega arith)),
+          (laid-more entryIn flatPast xs ys (l .loop .i) (omega arith) (omega arith)),
     )
 
 returns : tie.Need-returns Inv-loop μ-loop

@@ -1,7 +1,7 @@
 -- `row` meets its contract: the two tables are the parts of the rows. Assumes nothing.
 use borrow.Author.Needs.{needs}
 use Rattle.map.specs.Default.{rows}
-use Rattle.map.proofs.DefaultLaws.{row-split, rows-long}
+use Rattle.map.proofs.DefaultLaws.{row-split, rows-full, rows-long}
 use Rattle.map.proofs.default.row.Statement.{statement}
 use Rattle.map.proofs.default.row.Tie as tie
 
@@ -20,7 +20,8 @@ array-copy-out-t104 c = search needs
 returns : tie.Need-returns
 unfolding rows
 returns c =
-    row-split rows (c .before .before .args .i) _ _ (rows-long (c .before .before .args .i) (c .before .before .pre))
+    let i = c .before .before .args .i in
+    row-split rows i _ _ (rows-long i (c .before .before .pre)) (rows-full i (c .before .before .pre))
 
 pub row-spec : {M : Type 1} → statement M
 row-spec = tie.close (tie.spec mul-t34 array-copy-out-t37 mul-t101 array-copy-out-t104 returns)

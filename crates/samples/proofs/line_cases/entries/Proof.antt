@@ -36,6 +36,9 @@ byte-requires c κs = search needs
 element-requires : tie.Need-element-requires Inv-loop μ-loop
 element-requires c κs = search needs
 
+ranged-requires : tie.Need-ranged-requires Inv-loop μ-loop
+ranged-requires c κs = search needs
+
 byte-requires-2 : tie.Need-byte-requires-2 Inv-loop μ-loop
 byte-requires-2 c κs = search needs
 
@@ -65,6 +68,7 @@ entries-spec =
     hex-requires
     byte-requires
     element-requires
+    ranged-requires
     byte-requires-2
     add-i
     loop-less

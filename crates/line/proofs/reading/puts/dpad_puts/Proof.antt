@@ -9,8 +9,8 @@ enum-known-to c = search needs
 dpad-axis-requires : tie.Need-dpad-axis-requires
 dpad-axis-requires c κs = search needs
 
-new-requires : tie.Need-new-requires
-new-requires c κs = search needs
+ranged-requires : tie.Need-ranged-requires
+ranged-requires c κs = search needs
 
 beside-puts-requires : tie.Need-beside-puts-requires
 beside-puts-requires c κs = search needs
@@ -18,19 +18,19 @@ beside-puts-requires c κs = search needs
 enum-told : tie.Need-enum-told
 enum-told c = search needs
 
-new-requires-2 : tie.Need-new-requires-2
-new-requires-2 c κs = search needs
+ranged-requires-2 : tie.Need-ranged-requires-2
+ranged-requires-2 c κs = search needs
 
 returns : tie.Need-returns
 returns c = simp (
   c .beside-puts .ensures,
-  c .before .new .ensures,
+  c .before .ranged .ensures,
   c .before .before .dpad-axis .ensures,
   c .before .before .before .before .to .given .1,
 )
 
 returns-2 : tie.Need-returns-2
-returns-2 c = simp (c .new2 .ensures, c .before .enum-told .given .1)
+returns-2 c = simp (c .ranged2 .ensures, c .before .enum-told .given .1)
 
 pub dpad-puts-spec : {M : Type 1} → statement M
 dpad-puts-spec =
@@ -38,9 +38,9 @@ dpad-puts-spec =
     (tie.spec
     enum-known-to
     dpad-axis-requires
-    new-requires
+    ranged-requires
     beside-puts-requires
     enum-told
-    new-requires-2
+    ranged-requires-2
     returns
     returns-2)

@@ -5,22 +5,22 @@ use borrow.Author.Needs.{needs}
 use Rattle.line.proofs.reading.puts.listed_put.Statement.{statement}
 use Rattle.line.proofs.reading.puts.listed_put.Tie as tie
 
-mul-t8 : tie.Need-mul-t8
-mul-t8 c = search needs
+mul-t9 : tie.Need-mul-t9
+mul-t9 c = search needs
 
-shared-slice-read-t10 : tie.Need-shared-slice-read-t10
-shared-slice-read-t10 c = search needs
+shared-slice-read-t11 : tie.Need-shared-slice-read-t11
+shared-slice-read-t11 c = search needs
 
-new-requires : tie.Need-new-requires
-new-requires c κs = search needs
+ranged-requires : tie.Need-ranged-requires
+ranged-requires c κs = search needs
 
 returns : tie.Need-returns
 unfolding listed
-returns c = simp (lt-ltb _ _ (c .before .before .if1 .taken), c .new .ensures)
+returns c = simp (lt-ltb _ _ (c .before .before .if1 .taken), c .ranged .ensures)
 
 returns-2 : tie.Need-returns-2
 unfolding listed
 returns-2 c = simp (le-ltb _ _ (c .if1 .left))
 
 pub listed-put-spec : {M : Type 1} → statement M
-listed-put-spec = tie.close (tie.spec mul-t8 shared-slice-read-t10 new-requires returns returns-2)
+listed-put-spec = tie.close (tie.spec mul-t9 shared-slice-read-t11 ranged-requires returns returns-2)

@@ -44,8 +44,8 @@ fore c =
     subst (λ (p : Place). Placed (entriesIn (a .n) (a .xs .now)) (a .e) p) (c .i2 .given .1)
     (c .before .before .find-place .ensures)
 
-packed-requires : tie.Need-packed-requires
-packed-requires c κs = search needs
+number-requires : tie.Need-number-requires
+number-requires c κs = search needs
 
 mul-xs : tie.Need-mul-xs
 mul-xs c =
@@ -62,8 +62,8 @@ slice-write-xs c =
 enum-known-i-2 : tie.Need-enum-known-i-2
 enum-known-i-2 c = search needs
 
-packed-requires-2 : tie.Need-packed-requires-2
-packed-requires-2 c κs = search needs
+number-requires-2 : tie.Need-number-requires-2
+number-requires-2 c κs = search needs
 
 insert-at-requires : tie.Need-insert-at-requires
 insert-at-requires c κs =
@@ -81,7 +81,7 @@ returns : tie.Need-returns
 returns c =
     let s = c .before .before .before .before .before .before .before in
     let a = s .args in
-    put-held (a .n) (a .xs .now) (a .e) _ _ (c .packed .ensures) (s .pre .1 .0) (s .pre .1 .1) (onto (c .before
+    put-held (a .n) (a .xs .now) (a .e) _ _ (c .number .ensures .1) (s .pre .1 .0) (s .pre .1 .1) (onto (c .before
     .before) .0) (onto (c .before .before) .1)
 
 same-length-2 : tie.Need-same-length-2
@@ -92,7 +92,7 @@ returns-2 c =
     let s = c .before .before .before .before .before .before .before .before .before .before .before in
     let a = s .args in
     let f = fore (c .before .before .before .before .before .before) in
-    put-fore (a .n) (a .xs .now) (a .e) _ _ (c .before .before .before .packed2 .ensures) (s .pre .1 .0) (s .pre
+    put-fore (a .n) (a .xs .now) (a .e) _ _ (c .before .before .before .number2 .ensures .1) (s .pre .1 .0) (s .pre
     .1 .1) (f .0) (f .1) (s .pre .0) _ (c .before .before .insert-at .ensures) (search needs)
 
 pub put-number-spec : {M : Type 1} → statement M
@@ -101,11 +101,11 @@ put-number-spec =
     (tie.spec
     find-place-requires
     enum-known-i
-    packed-requires
+    number-requires
     mul-xs
     slice-write-xs
     enum-known-i-2
-    packed-requires-2
+    number-requires-2
     insert-at-requires
     add-result
     same-length
