@@ -115,6 +115,19 @@ typedef struct {
     raspteal_entry entry;
 } raspteal_entered;
 
+/* The value of an element, if there is one. */
+typedef struct {
+    bool found;
+    int16_t value;
+} raspteal_value;
+
+/* An element's value, if there is one. */
+typedef struct {
+    bool found;
+    raspteal_element element;
+    int16_t value;
+} raspteal_emitted;
+
 /* A map from codes to elements: the first count entries, ascending by code, the others unused: code 0, button 0, input
  * and output 2, not inverted. An unused entry is not all 0. The name is name_len bytes at name_start of the line that
  * the map was read from. hats_mapped has a bit for each direction of hat 0. */
@@ -400,6 +413,17 @@ raspteal_look raspteal_store_found(const uint8_t *index, size_t index_len, const
  * sound. fits is false, and out is left as it is, where out is shorter than the line. */
 raspteal_written raspteal_store_get(const uint8_t *index, size_t index_len, const uint8_t *text, size_t text_len,
                                     raspteal_uuid id, uint8_t *out, size_t out_len);
+
+/* ---- Pads ------------------------------------------------------------------------------------------------------ */
+
+/* What a raw value gives to the element of an entry, or none. raw: 1 a button pressed, 2 the axis value v (-32768 to
+ * 32767), any other number a button released. A value is -32768 to 32767, a button's 0 to 32767. An axis value on the
+ * wrong side of a half input gives none. At v = 0 a full axis gives 16383 to a button. */
+raspteal_value raspteal_entry_value(raspteal_entry e, uint8_t raw, int16_t v);
+
+/* The same by the first entry of a code, with its element; none where the map has no such code. A program that keeps
+ * its map asks raspteal_entry_value of the entry itself, and hands over no map. */
+raspteal_emitted raspteal_mapping_event(raspteal_mapping map, uint32_t code, uint8_t raw, int16_t v);
 
 /* ---- Refusals by number -------------------------------------------------------------------------------------------
  *  1 the first field is no UUID

@@ -10,10 +10,10 @@ In a document, outside blocks of code:
   words   in READING.md and GUARANTEE.md every other single word in backticks is declared somewhere in crates/, or taken
           by specs/ from the toolchain's library; in the other documents every wordLikeThis.
   quotes  a block of code that opens with ```antt FILE has lines of FILE, word for word.
-  all     each definition in a file of the first kind (below) of the four layers has such a row in READING.md.
+  all     each definition in a file of the first kind (below) of the layers has such a row in READING.md.
   edits   in REFUSED.md, below the heading of a crate, each call of a row is a function of that crate, each edit of a
           row is in its must-fail/, and each edit there has a row for each of its wrong programs at least. Each public
-          call of the four layers has two rows and an edit; a row with the column Crate was tried by hand.
+          call of the layers has two rows and an edit; a row with the column Crate was tried by hand.
           A call that begins with _ is the end of a function's name.
 In specs/, a file is of the first kind ("rest on these definitions") or of the second ("No public contract rests on
 these", or "cites these"), and says so in its first lines; Lib.antt is neither. A file of the first kind uses none of the second, and a
@@ -30,7 +30,7 @@ STRICT = ["docs/READING.md", "docs/GUARANTEE.md"]
 FOLDERS = ("crates/", "docs/", "tests/", "bindings/", "differential/", ".ci/")
 KEYWORDS = set("pub abbrev unfoldable record data where let in use mod as ensures requires entry exit now ghost "
                "Type Unit the-variants".split())
-LAYERS = ("text", "line", "map", "store")
+LAYERS = ("text", "line", "map", "store", "pad")
 WORD = re.compile(r"[^\W\d][\w'′%-]*$")
 FIRST = re.compile(r"rests? on these definitions; they assume nothing")
 SECOND = re.compile(r"No public contract (rests on|cites) these")

@@ -1,9 +1,9 @@
-"""The public calls of the four layers, read from the sources: see docs/public-calls."""
+"""The public calls of the layers, read from the sources: see docs/public-calls."""
 import re
 import sys
 from pathlib import Path
 
-LAYERS = ["text", "line", "map", "store"]
+LAYERS = ["text", "line", "map", "store", "pad"]
 PAGE = Path("docs/CALLS.md")
 
 # A C function is named after its call: raspteal_, the type of a method (or `store`), and the call. These differ.
@@ -17,18 +17,21 @@ CROSSES_AS = {
     "Parser::next_token": "raspteal_parser_step",
 }
 
+# Calls whose C function has another name.
+NAMED = {"event": "raspteal_mapping_event"}
+
 # A promise of an answer and a buffer at once; a C function says the two apart.
 PARTS = {"Wrote": ["writeAnswer", "writeBuffer"], "Builds": ["buildOf", "outputOf"]}
 
 HEAD = """# The public calls
 
-Every public function of the four layers, with its contract in words. `docs/public-calls` makes this page from the sources; the gate fails where it is stale.
+Every public function of the four layers and of the pad layer beside them, with its contract in words. `docs/public-calls` makes this page from the sources; the gate fails where it is stale.
 
 How to read an entry:
 
 - The first line is the call: its name, its arguments with their types, and after `->` what it hands back. `&[u8]` is a lent text or buffer of bytes that is only read, `&mut [u8]` a lent buffer that may be written, `&[u32]` a list of codes, `usize` a place, a length or a count, `self` the value that the call is made on.
 - **Promise** is the contract, as the checker has proved it for every input; no call asks anything of its arguments. `result` is what the call hands back. An argument's name stands for its value at the call, and with a prime (`out'`) for what a lent buffer holds when the call returns. `f x y` is the definition `f`, given x and y; `x .part` is a part of x.
-- Below it stand the definitions that the promise cites, each with the words above it and the file that has it. A word in quotation marks is document 01's, or the RFC's.
+- Below it stand the definitions that the promise cites, each with the words above it and the file that has it. A word in quotation marks is document 01's, document 02's or the RFC's.
 - **In C** is the function of `bindings/raspteal.h` that makes the call.
 """
 
@@ -106,6 +109,8 @@ class Call:
     def c_name(self):
         if self.title in CROSSES_AS:
             return CROSSES_AS[self.title]
+        if self.title in NAMED:
+            return NAMED[self.title]
         if self.owner:
             snake = re.sub(r"(?<=[a-z])(?=[A-Z])", "_", TYPES.get(self.owner, self.owner)).lower()
             return f"raspteal_{snake}_{self.name}"

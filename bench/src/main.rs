@@ -6,6 +6,7 @@ mod hold;
 mod inputs;
 mod json;
 mod measure;
+mod pads;
 mod passes;
 mod report;
 mod rows;

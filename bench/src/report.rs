@@ -1,5 +1,5 @@
 //! What the costs come to: ratios, growths and goals; and what a report of them is.
-use crate::measure::{ratio, Costs, Side, Spread};
+use crate::measure::{ratio, spread, Costs, Side, Spread};
 use crate::rows::{Goal, Row};
 
 /// Something that is told each row as it is measured. At the end it says whether all is well.
@@ -31,11 +31,17 @@ pub fn growths(family: &[Costs]) -> Vec<Spread> {
     family.windows(2).filter_map(|w| Some(ratio(w[1].of(Side::Port)?, w[0].of(Side::Port)?))).collect()
 }
 
-/// The largest ratio that a goal is about.
+/// The median of several rounds; a count of instructions is one number, and no time.
+fn time(rounds: &[f64]) -> Option<f64> {
+    (rounds.len() > 1).then(|| spread(rounds).median)
+}
+
+/// The largest ratio or time that a goal is about.
 pub fn worst(goal: Goal, costs: &[Costs]) -> Option<f64> {
     let all: Vec<f64> = match goal {
         Goal::AtMost(_, side) => costs.iter().filter_map(|c| to(c, side)).map(|s| s.median).collect(),
         Goal::Growth(_) => families(costs).into_iter().flat_map(growths).map(|s| s.median).collect(),
+        Goal::Nanoseconds(_) => costs.iter().filter_map(|c| c.of(Side::Port)).filter_map(time).collect(),
         Goal::Stated => return None,
     };
     all.into_iter().reduce(f64::max)
@@ -43,7 +49,7 @@ pub fn worst(goal: Goal, costs: &[Costs]) -> Option<f64> {
 
 pub fn verdict(goal: Goal, costs: &[Costs]) -> &'static str {
     match (goal, worst(goal, costs)) {
-        (Goal::AtMost(most, _) | Goal::Growth(most), Some(w)) if w > most => "missed",
+        (Goal::AtMost(most, _) | Goal::Growth(most) | Goal::Nanoseconds(most), Some(w)) if w > most => "missed",
         (_, Some(_)) => "met",
         _ => "stated",
     }
@@ -53,6 +59,7 @@ pub fn goal_text(goal: Goal) -> String {
     match goal {
         Goal::AtMost(most, side) => format!("at most {most} × {}", side.name()),
         Goal::Growth(most) => format!("at most {most} per doubling"),
+        Goal::Nanoseconds(most) => format!("at most {most} ns"),
         Goal::Stated => "none".to_string(),
     }
 }

@@ -2,6 +2,7 @@
 use crate::here::{self, Call, Form, Pad};
 use crate::inputs::{self, List, BUFFER, RECORD};
 use crate::measure::{Case, Side, Work};
+use crate::pads;
 use crate::passes::{CopyPass, SumPass};
 use crate::rust;
 use crate::uuids::{self, Family};
@@ -16,6 +17,8 @@ pub enum Goal {
     AtMost(f64, Side),
     /// The cases of a family stand in order of size, each twice the one before: at most so many times its cost.
     Growth(f64),
+    /// At most so many nanoseconds a call, in the worst case; of counted instructions nothing is said.
+    Nanoseconds(f64),
     /// No goal: the figure is stated.
     Stated,
 }
@@ -37,7 +40,7 @@ const ORDINARY: Goal = Goal::AtMost(1.5, Side::Sum);
 const WORST: Goal = Goal::AtMost(15.0, Side::Sum);
 const LINEAR: Goal = Goal::Growth(2.2);
 
-pub const ROWS: [Row; 17] = [
+pub const ROWS: [Row; 19] = [
     row("read", "`parse_sdl_mapping`, 32 buttons and 16 axes", HALF, read),
     row("build", "`from_data`, 25 slots", HALF, build),
     row("insert", "`insert` of a list into a fresh store", Goal::AtMost(1.5, Side::Gilrs), insert),
@@ -55,6 +58,8 @@ pub const ROWS: [Row; 17] = [
     row("map", "`map`, 20 entries, a map kept as two lists", Goal::AtMost(3.0, Side::Gilrs), |_| map(20, true)),
     row("map-256", "`map`, 256 entries, a map kept as two lists", Goal::Stated, |_| map(256, true)),
     row("map-value", "`map`, 20 entries, the map handed over", Goal::Stated, |_| map(20, false)),
+    row("value", "`entry_value`, the value of a raw value", Goal::Nanoseconds(5.0), |_| pads::value()),
+    row("event-value", "`event`, 20 entries, the map handed over", Goal::Stated, |_| pads::event()),
 ];
 
 /// Records that fill an index of 65535 bytes, and sizes for a growth.

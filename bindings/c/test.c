@@ -41,6 +41,8 @@ static void layout(void) {
     CHECK(sizeof(raspteal_entry) == 12);
     CHECK(offsetof(raspteal_entry, inverted) == 10);
     CHECK(offsetof(raspteal_entered, entry) == 4);
+    CHECK(sizeof(raspteal_value) == 4);
+    CHECK(sizeof(raspteal_emitted) == 8);
     CHECK(offsetof(raspteal_mapping, name_start) == 8 + 256 * 12);
     CHECK(offsetof(raspteal_mapping, hats_mapped) == 8 + 256 * 12 + 17);
     CHECK(sizeof(raspteal_mapping) == 8 + 256 * 12 + 24);
@@ -220,6 +222,22 @@ static void stores(void) {
     CHECK(!raspteal_store_found(BUFFER(index), BUFFER(text), one).found);
 }
 
+static void pads(void) {
+    raspteal_entry e = raspteal_entry_ranged(5, (raspteal_element){true, 1}, 2, 0, false);
+    raspteal_value v = raspteal_entry_value(e, 2, 0);
+    CHECK(v.found && v.value == -16384);
+    CHECK(raspteal_entry_value(e, 1, 7).value == -32768);
+    CHECK(raspteal_entry_value(e, 0, 7).found && raspteal_entry_value(e, 9, 7).value == 0);
+    e = raspteal_entry_ranged(5, (raspteal_element){false, 1}, 1, 2, false);
+    v = raspteal_entry_value(e, 2, -1);
+    CHECK(!v.found && v.value == 0);
+    raspteal_mapping map = raspteal_mapping_put(raspteal_mapping_new(), e).map;
+    raspteal_emitted t = raspteal_mapping_event(map, 5, 2, 32767);
+    CHECK(t.found && !t.element.is_axis && t.element.number == 1 && t.value == 32767);
+    t = raspteal_mapping_event(map, 6, 1, 0);
+    CHECK(!t.found && !t.element.is_axis && t.element.number == 0 && t.value == 0);
+}
+
 int main(void) {
     layout();
     text();
@@ -227,6 +245,7 @@ int main(void) {
     lines();
     builds();
     stores();
+    pads();
     printf("%d passed, %d failed\n", passed, failed);
     return failed != 0;
 }

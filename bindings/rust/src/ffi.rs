@@ -108,6 +108,21 @@ pub struct Entry {
 
 #[repr(C)]
 #[derive(Clone, Copy, Debug, PartialEq, Eq)]
+pub struct Value {
+    pub found: bool,
+    pub value: i16,
+}
+
+#[repr(C)]
+#[derive(Clone, Copy, Debug, PartialEq, Eq)]
+pub struct Emitted {
+    pub found: bool,
+    pub element: Element,
+    pub value: i16,
+}
+
+#[repr(C)]
+#[derive(Clone, Copy, Debug, PartialEq, Eq)]
 pub struct Entered {
     pub found: bool,
     pub entry: Entry,
@@ -327,4 +342,6 @@ extern "C" {
         out: *mut u8,
         out_len: usize,
     ) -> Written;
+    pub fn raspteal_entry_value(e: Entry, raw: u8, v: i16) -> Value;
+    pub fn raspteal_mapping_event(map: Mapping, code: u32, raw: u8, v: i16) -> Emitted;
 }

@@ -35,6 +35,7 @@ mod error;
 #[doc(hidden)]
 pub mod ffi;
 mod mapping;
+mod pad;
 mod parser;
 mod store;
 pub mod text;
@@ -44,6 +45,7 @@ pub use data::{Built, MappingData};
 pub use element::{Axis, AxisOrBtn, Button, Code};
 pub use error::{Error, InsertError, ParseUuidError};
 pub use mapping::{Entry, Lookup, Mapping};
+pub use pad::{Event, Raw};
 pub use parser::{count_tokens, first_token, AxisRange, Parser, Token};
 pub use store::Store;
 pub use uuid::Uuid;

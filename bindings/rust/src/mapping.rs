@@ -199,6 +199,10 @@ impl Mapping {
         Ok(Mapping(a.map))
     }
 
+    pub(crate) fn flat(&self) -> ffi::Mapping {
+        self.0
+    }
+
     pub(crate) fn of(map: ffi::Mapping) -> Mapping {
         Mapping(map)
     }

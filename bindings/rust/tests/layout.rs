@@ -53,6 +53,8 @@ fn rows() -> Vec<Row> {
             Entry, "raspteal_entry", safe::entry_new(0, step.token.pair.to), code, element, input, output, inverted
         ),
         row!(Entered, "raspteal_entered", safe::mapping_entry(built.map, 0), found, entry),
+        row!(Value, "raspteal_value", safe::entry_value(built.map.entries[0], 0, 0), found, value),
+        row!(Emitted, "raspteal_emitted", safe::mapping_event(built.map, 0, 0, 0), found, element, value),
         row!(Mapping, "raspteal_mapping", built.map, count, entries, name_start, name_len, is_default, hats_mapped),
         row!(Answer, "raspteal_answer", safe::default(&[], &[]), refusal, map),
         row!(Pair, "raspteal_pair", step.token.pair, from, direction, to, input, output, inverted),

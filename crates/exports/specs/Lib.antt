@@ -5,3 +5,4 @@ pub mod FlatLists
 pub mod FlatTokens
 pub mod FlatSlots
 pub mod FlatStore
+pub mod FlatPads

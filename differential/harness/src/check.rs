@@ -26,9 +26,11 @@ pub enum Group {
     Save,
     Clear,
     Buffers,
+    Values,
+    Events,
 }
 
-pub const GROUPS: [(&str, &str); 21] = [
+pub const GROUPS: [(&str, &str); 23] = [
     ("utf8", "the longest valid run of UTF-8, with Rust's own reader"),
     ("uuid", "UUID texts, with the crate uuid"),
     ("index", "index numbers, with Rust's own reader"),
@@ -50,6 +52,8 @@ pub const GROUPS: [(&str, &str); 21] = [
     ("save", "from_data filed: map and refusal by the book"),
     ("clear", "clear (document 01 alone)"),
     ("buffers", "both buffers after each call, byte by byte, by the book (document 01 alone)"),
+    ("values", "what every raw value gives to every kind of entry (document 02, P3, alone)"),
+    ("events", "raw values of codes by maps of any content (document 02, P3, alone)"),
 ];
 
 /// How many kinds of answer are told apart: 0 for an answer, else the refusal's number.

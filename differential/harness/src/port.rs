@@ -6,7 +6,7 @@ fn element(e: u16) -> ffi::Element {
     ffi::Element { is_axis: e >= AXIS, number: e % AXIS }
 }
 
-fn number(e: ffi::Element) -> u16 {
+pub fn number(e: ffi::Element) -> u16 {
     e.number + if e.is_axis { AXIS } else { 0 }
 }
 
@@ -35,7 +35,7 @@ fn entry(e: &ffi::Entry) -> Entry {
     (e.code, number(e.element), (e.input, e.output, e.inverted))
 }
 
-fn flat((code, e, (input, output, inverted)): Entry) -> ffi::Entry {
+pub fn flat((code, e, (input, output, inverted)): Entry) -> ffi::Entry {
     unsafe { ffi::raspteal_entry_ranged(code, element(e), input, output, inverted) }
 }
 
@@ -229,7 +229,7 @@ impl Reading {
 }
 
 /// A map of any content: entries unsorted or twice, a count over 256.
-pub struct AnyMap(ffi::Mapping);
+pub struct AnyMap(pub ffi::Mapping);
 
 impl AnyMap {
     pub fn new(count: usize, entries: &[Entry]) -> Self {

@@ -250,3 +250,11 @@ pub fn store_get(index: &[u8], text: &[u8], id: Uuid, out: &mut [u8]) -> Written
     let (o, o_len) = (out.as_mut_ptr(), out.len());
     unsafe { raspteal_store_get(index.as_ptr(), index.len(), text.as_ptr(), text.len(), id, o, o_len) }
 }
+
+pub fn entry_value(e: Entry, raw: u8, v: i16) -> Value {
+    unsafe { raspteal_entry_value(e, raw, v) }
+}
+
+pub fn mapping_event(map: Mapping, code: u32, raw: u8, v: i16) -> Emitted {
+    unsafe { raspteal_mapping_event(map, code, raw, v) }
+}

@@ -3,6 +3,7 @@
 use harness::check::{Tally, GROUPS};
 use harness::compare::{self, AllSlots};
 use harness::gen::{self, Rng};
+use harness::pads;
 use harness::plain::AXIS;
 use harness::stores::Sides;
 use std::time::Duration;
@@ -56,6 +57,7 @@ fn random(t: &mut Tally, lines: &[&[u8]], secs: u64, seed: u64) {
             }
             if k % 10 == 0 {
                 compare::any_map(t, &mut r);
+                pads::events(t, &mut r);
                 let (room, at, n) = (r.below(60), r.below(64), r.next() as usize >> r.below(64));
                 compare::writers(t, room, at, n, (r.next() as u128 * r.next() as u128).to_be_bytes());
             }
@@ -149,6 +151,8 @@ mod fixed {
             compare::elements(t, n);
         }
         t.progress("element calls on every number", true);
+        pads::values(t);
+        t.progress("every raw value on every kind of entry", true);
         corpora(t, corpus);
         t.progress("both corpora", true);
         boundaries(t);

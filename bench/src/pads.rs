@@ -1,0 +1,96 @@
+//! Raw values: the library alone, since the Rust has no such call.
+use crate::measure::{Case, Side, Work};
+use harness::doc02::Raw;
+use harness::ffi;
+use harness::gen::Rng;
+use harness::pads;
+use harness::port::{self, AnyMap};
+use std::hint::black_box;
+
+/// Calls of one go.
+const CALLS: usize = 4096;
+
+fn case(label: String, work: impl Work + 'static) -> Vec<Case> {
+    vec![Case { family: String::new(), label, works: vec![(Side::Port, Box::new(work))] }]
+}
+
+/// Raw values with the entries that they are asked of.
+struct Values(Vec<(ffi::Entry, u8, i16)>);
+
+impl Work for Values {
+    fn calls(&self) -> usize {
+        self.0.len()
+    }
+    fn go(&mut self) {
+        for (e, raw, v) in &self.0 {
+            black_box(unsafe { ffi::raspteal_entry_value(*black_box(e), *raw, *v) });
+        }
+    }
+}
+
+fn raw(r: &mut Rng) -> (u8, i16) {
+    match pads::raw(r) {
+        Raw::Released => (0, 0),
+        Raw::Pressed => (1, 0),
+        Raw::Axis(v) => (2, v),
+    }
+}
+
+/// A value of an entry: as a pad reports them, 64 values of one code after the other; and every one of another code.
+pub fn value() -> Vec<Case> {
+    let mut r = Rng::new(3);
+    let mixed = Values((0..CALLS).map(|_| one(&mut r)).collect());
+    let runs = Values((0..CALLS / 64).flat_map(|_| run(&mut r)).collect());
+    let mut cases = case("64 values a code".to_string(), runs);
+    cases.extend(case("mixed".to_string(), mixed));
+    cases
+}
+
+fn one(r: &mut Rng) -> (ffi::Entry, u8, i16) {
+    let (raw, v) = raw(r);
+    (port::flat(pads::entry(r, 20)), raw, v)
+}
+
+/// Presses and releases of a button, or values of an axis on the side that counts.
+fn run(r: &mut Rng) -> Vec<(ffi::Entry, u8, i16)> {
+    let e = pads::entry(r, 20);
+    let flat = port::flat(e);
+    if r.one_in(3) {
+        return (0..64).map(|k| (flat, k % 2, 0)).collect();
+    }
+    let side = |v: i16| match e.2 .0 {
+        0 => -(v & i16::MAX),
+        1 => v & i16::MAX,
+        _ => v,
+    };
+    (0..64).map(|_| (flat, 2, side(r.next() as i16))).collect()
+}
+
+/// Events of a map that is handed over.
+struct Events {
+    map: AnyMap,
+    raws: Vec<(u32, u8, i16)>,
+}
+
+impl Work for Events {
+    fn calls(&self) -> usize {
+        self.raws.len()
+    }
+    fn go(&mut self) {
+        for (code, raw, v) in &self.raws {
+            black_box(unsafe { ffi::raspteal_mapping_event(black_box(&self.map).0, *code, *raw, *v) });
+        }
+    }
+}
+
+/// An event of a map of 20 entries.
+pub fn event() -> Vec<Case> {
+    let mut r = Rng::new(4);
+    let entries: Vec<_> = (0..20).map(|k| (k, pads::entry(&mut r, 20).1, pads::entry(&mut r, 20).2)).collect();
+    let one = |_| {
+        let (raw, v) = raw(&mut r);
+        (r.below(20) as u32, raw, v)
+    };
+    let raws = (0..CALLS).map(one).collect();
+    case("20 entries".to_string(), Events { map: AnyMap::new(20, &entries), raws })
+}

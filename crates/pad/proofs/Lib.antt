@@ -1,0 +1,5 @@
+pub mod ShareLaws
+pub mod BiasLaws
+pub mod ValueLaws
+pub mod OrderLaws
+pub mod Samples

@@ -1,0 +1,5 @@
+-- The definitions of the pad layer, in reading order: what a reader of the contracts meets.
+pub mod Values
+pub mod ValueClaims
+-- what private functions and proofs need
+pub mod Inner
