@@ -15,6 +15,9 @@ CROSSES_AS = {
     # A walker holds a reference, which does not cross: its position and state do.
     "Parser::new": "raspteal_parser_start",
     "Parser::next_token": "raspteal_parser_step",
+    # The tables do not cross, nor places in them: the name in an element's row does.
+    "key_names": "raspteal_ident_of",
+    "find_row": "raspteal_ident_of",
 }
 
 # Calls whose C function has another name.

@@ -8,7 +8,7 @@ use crate::say::say;
 use crate::table::say_reading;
 use line::ev::Axis;
 use line::ev::Button;
-use line::ev::nec;
+use line::ev::Code;
 use map::mapping_data::MappingData;
 use store::calls::get;
 use store::calls::insert;
@@ -40,9 +40,9 @@ fn insert_list(index: &mut [u8], text: &mut [u8]) -> u8 {
 // Jump is on button code 10131.
 fn save_pad(index: &mut [u8], text: &mut [u8]) -> u8 {
     let jump = MappingData::new()
-        .insert_btn(nec::BTN_EAST, Button::South)
+        .insert_btn(Code::BTN_EAST, Button::South)
         .slots;
-    let slots = jump.insert_axis(nec::AXIS_LSTICKX, Axis::LeftStickX).slots;
+    let slots = jump.insert_axis(Code::AXIS_LSTICKX, Axis::LeftStickX).slots;
     let saved = save(index, text, slots, &BUTTONS, &AXES, b"Seat 4", PAD);
     let map = saved.map;
     say_saved(get(index, text, PAD), map)

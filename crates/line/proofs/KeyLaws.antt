@@ -6,19 +6,20 @@ use Prim.Native.Nat.{ℕ, zero, suc, _+_, _-_, _<_, _≤_}
 use native.Mathlib.Omega.{arith}
 use borrow.Author.Tests.{lt-ltb, le-ltb, eq-eqb, ne-eqb, ltb-false}
 use lib.Dec.{T, ltb}
-use lib.ListN.{length, getD, drop, drop-of-length-le, List·getD-map}
-use lib.Seq.{drop-cons}
+use lib.ListN.{length, take, getD, set, drop, drop-of-length-le, List·getD-map}
+use lib.Seq.{drop-cons, take-suc, take-suc-set, take-all}
 use native.Mathlib.Numerals.{add-one}
 use Rattle.text.specs.Bytes.{pick, both, same}
 use Rattle.line.specs.Buttons as B
+use Rattle.line.specs.Axes as A
 use Rattle.line.specs.Elements.{sameElement}
-use Rattle.line.specs.Inner.{untilZero}
+use Rattle.line.specs.Inner.{untilZero, kindAndNumber, kindRows}
+use Rattle.line.specs.Numbers.{elementOfKind}
 use Rattle.line.specs.Tables.{ROWS, axesSdl, axes, nameAt, rowFrom, keyRow, elementFrom, elementRow}
-use Rattle.line.specs.Tables.{paddedName, byteOrder, placeOrder, sameOrder, every, sorted, howMany, oneRow}
-use Rattle.line.specs.Tables.{asButton}
-use Rattle.line.specs.Tables.{asAxis}
+use Rattle.line.specs.Tables.{nameRows, paddedName, byteOrder, placeOrder, sameOrder, every, sorted, howMany}
+use Rattle.line.specs.Tables.{oneRow, asButton, asAxis}
 use Rattle.line.specs.declared.ev.AxisOrBtn.{AxisOrBtn}
-use Rattle.line.specs.declared.ev.AxisOrBtn.the-variants.{Btn}
+use Rattle.line.specs.declared.ev.AxisOrBtn.the-variants.{Axis, Btn}
 use Rattle.line.specs.declared.tables.Order.{Order}
 use Rattle.line.specs.declared.tables.Order.the-variants.{Less, Equal, Greater}
 use Rattle.line.specs.declared.tables.KeyRow.the-variants.{At, Nowhere}
@@ -190,28 +191,77 @@ key-found key i h e =
     ∙ ap At (omega arith)
 
 -- ---- the rows of the table: each name, filled with zeros up to 13 bytes
-unfoldable pub rows : List (List ℕ)
-rows = map paddedName axesSdl
-
-rows-names : map untilZero rows ≡ axesSdl
-unfolding rows axesSdl untilZero
+rows-names : map untilZero nameRows ≡ axesSdl
+unfolding nameRows axesSdl untilZero
 rows-names = refl
 
 -- the name that a row holds
-pub row-name : (i : ℕ) → untilZero (getD rows i []) ≡ nameAt i
+pub row-name : (i : ℕ) → untilZero (getD nameRows i []) ≡ nameAt i
 unfolding untilZero
-row-name i = sym (List·getD-map untilZero rows i []) ∙ ap (λ (l : List (List ℕ)). getD l i []) rows-names
+row-name i = sym (List·getD-map untilZero nameRows i []) ∙ ap (λ (l : List (List ℕ)). getD l i []) rows-names
 
-pub row-padded : (i : ℕ) → i < ROWS → getD rows i [] ≡ paddedName (nameAt i)
-unfolding rows axesSdl
-row-padded i h = getD-any rows i [] (paddedName []) h ∙ List·getD-map paddedName axesSdl i []
+pub row-padded : (i : ℕ) → i < ROWS → getD nameRows i [] ≡ paddedName (nameAt i)
+unfolding nameRows axesSdl
+row-padded i h = getD-any nameRows i [] (paddedName []) h ∙ List·getD-map paddedName axesSdl i []
 
 -- what a comparison with a row says of the name
-pub told : (key : List ℕ) (i : ℕ) (r o : Order) → r ≡ byteOrder (untilZero (getD rows i [])) key → r ≡ o
-    → byteOrder (nameAt i) key ≡ o
-told key i r o e f = ap (λ (n : List ℕ). byteOrder n key) (sym (row-name i)) ∙ sym e ∙ f
+pub told : (names : List (List ℕ)) (key : List ℕ) (i : ℕ) (r o : Order) → names ≡ nameRows
+    → r ≡ byteOrder (untilZero (getD names i [])) key → r ≡ o → byteOrder (nameAt i) key ≡ o
+told names key i r o n e f =
+    ap (λ (m : List ℕ). byteOrder m key) (sym (row-name i))
+    ∙ ap (λ (l : List (List ℕ)). byteOrder (untilZero (getD l i [])) key) (sym n) ∙ sym e ∙ f
+
+-- the same of a table that is lent
+pub row-named : (names : List (List ℕ)) (i : ℕ) → names ≡ nameRows → untilZero (getD names i []) ≡ nameAt i
+row-named names i n = ap (λ (l : List (List ℕ)). untilZero (getD l i [])) n ∙ row-name i
+
+pub row-filled : (names : List (List ℕ)) (i : ℕ) → names ≡ nameRows → i < ROWS → getD names i [] ≡ paddedName (nameAt i)
+row-filled names i n h = ap (λ (l : List (List ℕ)). getD l i []) n ∙ row-padded i h
+
+-- ---- the elements as kind and number
+kind-back : (x : AxisOrBtn) → elementOfKind (getD (kindAndNumber x) 0 0) (getD (kindAndNumber x) 1 0) ≡ x
+kind-back (Axis a) = refl
+kind-back (Btn b) = refl
+
+pub kinds-length : length kindRows ≡ ROWS
+unfolding kindRows axes
+kinds-length = refl
+
+pub kind-row : (i : ℕ) → i < ROWS → getD kindRows i [] ≡ kindAndNumber (getD axes i (Btn B.Unknown))
+unfolding kindRows axes
+kind-row i h =
+    getD-any kindRows i [] (kindAndNumber (Btn B.Unknown)) h ∙ List·getD-map kindAndNumber axes i (Btn B.Unknown)
+
+pub kind-element : (kinds : List (List ℕ)) (i : ℕ) → kinds ≡ kindRows → i < ROWS
+    → elementOfKind (getD (getD kinds i []) 0 0) (getD (getD kinds i []) 1 0) ≡ getD axes i (Btn B.Unknown)
+kind-element kinds i n h =
+    ap (λ (l : List ℕ). elementOfKind (getD l 0 0) (getD l 1 0)) (ap (λ (k : List (List ℕ)). getD k i []) n ∙ kind-row i h)
+    ∙ kind-back (getD axes i (Btn B.Unknown))
+
+-- the first i rows are made, and one more
+pub kinds-turn : (elements : List AxisOrBtn) (kinds : List (List ℕ)) (i : ℕ) (k : List ℕ) → elements ≡ axes
+    → length kinds ≡ ROWS → i < ROWS → k ≡ kindAndNumber (getD elements i (Axis A.Unknown))
+    → take i kinds ≡ take i kindRows → take (i + 1) (set kinds i k) ≡ take (i + 1) kindRows
+unfolding axes
+kinds-turn elements kinds i k n m h e p =
+    let w : k ≡ getD kindRows i [] =
+    e ∙ ap (λ (l : List AxisOrBtn). kindAndNumber (getD l i (Axis A.Unknown))) n
+    ∙ ap (λ (x : AxisOrBtn). kindAndNumber x) (getD-any axes i (Axis A.Unknown) (Btn B.Unknown) h) ∙ sym (kind-row i h) in
+    rw (add-one, take-suc-set kinds i k (omega arith), take-suc kindRows i [] (omega (arith, kinds-length)), p, w)
+
+pub kinds-all : (kinds : List (List ℕ)) (i : ℕ) → length kinds ≡ ROWS → ROWS ≤ i → take i kinds ≡ take i kindRows
+    → kinds ≡ kindRows
+kinds-all kinds i m h p =
+    sym (take-all i kinds (omega arith)) ∙ p ∙ take-all i kindRows (omega (arith, kinds-length))
 
 -- ---- the row of an element
+pub element-told : (xs : List AxisOrBtn) (i : ℕ) (e : AxisOrBtn) (r : Bool) → xs ≡ axes → i < ROWS
+    → r ≡ sameElement (getD xs i (Axis A.Unknown)) e → r ≡ sameElement (getD axes i (Btn B.Unknown)) e
+unfolding axes
+element-told xs i e r n h q =
+    q ∙ ap (λ (l : List AxisOrBtn). sameElement (getD l i (Axis A.Unknown)) e) n
+    ∙ ap (λ (x : AxisOrBtn). sameElement x e) (getD-any axes i (Axis A.Unknown) (Btn B.Unknown) h)
+
 pub element-here : (i : ℕ) (e : AxisOrBtn) (r : Bool) → i < ROWS → r ≡ sameElement (getD axes i (Btn B.Unknown)) e
     → r ≡ true → elementFrom i (drop i axes) e ≡ At i
 unfolding elementFrom axes

@@ -3,7 +3,6 @@ pub mod PickLaws
 pub mod TableLaws
 pub mod ElementLaws
 pub mod KeyLaws
-pub mod KnownLaws
 pub mod PlaceLaws
 pub mod MapLaws
 pub mod PutLaws

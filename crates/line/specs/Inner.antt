@@ -1,18 +1,18 @@
 -- What the private functions of the tables, of a put and of a reading promise. No public contract cites these.
 -- Assumes nothing.
-use Prim.Native.Nat.{ℕ, _+_, _*_, _<_, _≤_}
+use Prim.Native.Nat.{ℕ, _<_, _≤_}
 use mathlib.Core.Path.{_≡_}
 use mathlib.Core.Bool.{false}
 use mathlib.Core.List.{List, [], _∷_, _++_, map}
 use lib.Bits.{bitOr}
 use lib.Dec.{eqb}
-use lib.ListN.{length, take, drop, set, getD}
+use lib.ListN.{length, take, drop, set}
 use Rattle.text.specs.Bytes.{pick}
 use Rattle.line.specs.declared.mapping.Entry.{Entry}
 use Rattle.line.specs.declared.mapping.Place.{Place}
 use Rattle.line.specs.declared.mapping.Place.the-variants.{Held, Before}
-use Rattle.line.specs.declared.tables.KeyElement.{KeyElement}
-use Rattle.line.specs.declared.tables.KeyElement.the-variants as Ke
+use Rattle.line.specs.declared.ev.AxisOrBtn.{AxisOrBtn}
+use Rattle.line.specs.declared.ev.AxisOrBtn.the-variants as El
 use Rattle.line.specs.declared.mapping.Mapping.{Mapping}
 use Rattle.line.specs.declared.reading.SdlAnswer.{SdlAnswer}
 use Rattle.line.specs.declared.reading.SdlAnswer.the-variants as Sd
@@ -22,12 +22,25 @@ use Rattle.line.specs.declared.reading.draft.Draft.{Draft}
 use Rattle.line.specs.Maps.{CODES_MAX, MapView, toMap, putEntry}
 use Rattle.line.specs.Numbers.{entryIn}
 use Rattle.line.specs.Reading.{acceptedOf, refusedOf}
-use Rattle.line.specs.Tables.{keyElement}
+use Rattle.line.specs.Tables.{nameRows, axes}
 
 -- the bytes before the first 0: the name that a row of the program's table holds
 unfoldable pub untilZero : List ℕ → List ℕ
 untilZero [] = []
 untilZero (b ∷ bs) = pick (eqb b 0) [] (b ∷ untilZero bs)
+
+-- an element as kind and number: kind 0 is a button, 1 an axis
+abbrev pub kindAndNumber : AxisOrBtn → List ℕ
+kindAndNumber (El.Axis a) = 1 ∷ a .0 ∷ []
+kindAndNumber (El.Btn b) = 0 ∷ b .0 ∷ []
+
+-- `AXES` so
+unfoldable pub kindRows : List (List ℕ)
+kindRows = map kindAndNumber axes
+
+-- both tables, as they are lent to a search
+abbrev pub Lent : List (List ℕ) → List (List ℕ) → Type 0
+Lent names kinds = (names ≡ nameRows) × (kinds ≡ kindRows)
 
 -- xs with e before the entry at k
 abbrev pub insertAt : ℕ → Entry → List Entry → List Entry
@@ -37,33 +50,6 @@ insertAt k e xs = take k xs ++ e ∷ drop k xs
 abbrev pub Placed : List Entry → Entry → Place → Type 0
 Placed xs e (Held k) = (k < length xs) × (putEntry e xs ≡ set xs k e)
 Placed xs e (Before k) = (k ≤ length xs) × (putEntry e xs ≡ insertAt k e xs)
-
--- ---- keys by number
-abbrev pub Bytes : List ℕ → Type 0
-Bytes s = (k : ℕ) → getD s k 0 < 256
-
--- the bytes in base 256, the first one lowest, and a 1 above them
-unfoldable pub keyNumber : List ℕ → ℕ
-keyNumber [] = 1
-keyNumber (b ∷ s) = b + 256 * keyNumber s
-
--- where a key is cut
-abbrev pub WORD : ℕ
-WORD = 7
-
--- an element that is told of a key is its element; nothing may be told
-abbrev pub Told : KeyElement → List ℕ → Type 0
-Told Ke.Missing key = Unit {0}
-Told (Ke.Is e) key = keyElement key ≡ Ke.Is e
-
--- what is told by the number of a key, and by the numbers of its first bytes and of the rest
-abbrev pub ToldOf : ℕ → KeyElement → Type 0
-ToldOf x r = (key : List ℕ) → Bytes key → keyNumber key ≡ x → Told r key
-
-abbrev pub ToldOfCut : ℕ → ℕ → KeyElement → Type 0
-ToldOfCut x y r =
-    (key : List ℕ) → Bytes (take WORD key) → Bytes (drop WORD key) → keyNumber (take WORD key) ≡ x
-    → keyNumber (drop WORD key) ≡ y → Told r key
 
 -- ---- a map while it is read: its entries are numbers
 -- the first n of them

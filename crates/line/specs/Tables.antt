@@ -105,6 +105,10 @@ asAxis k = Axis (record { 0 = k })
 abbrev pub paddedName : List ℕ → List ℕ
 paddedName n = n ++ replicate (IDENT_MAX - length n) 0
 
+-- `AXES_SDL` as the program holds it: each name, filled with zeros
+unfoldable pub nameRows : List (List ℕ)
+nameRows = map paddedName axesSdl
+
 abbrev pub named : List ℕ → Ident
 named n = record { name = paddedName n; len = length n }
 

@@ -1,5 +1,5 @@
 // Gamepad elements: event codes, buttons and axes by their fixed numbers, and the element calls.
-pub mod nec;
+mod nec;
 
 ghost use mathlib.Core.Path.{_≡_};
 ghost use Rattle.line.specs.Elements.{countedOf, toNecOf, isDpadOf, isStickOf, isStickAxisOf, secondAxisOf};

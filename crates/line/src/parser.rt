@@ -6,6 +6,10 @@ mod value;
 
 use crate::ev::AxisOrBtn;
 use crate::parser::pair::read_pair;
+use crate::tables::IDENT_MAX;
+use crate::tables::ROWS;
+use crate::tables::key_kinds;
+use crate::tables::key_names;
 use text::bytes::find_byte;
 use text::bytes::same_bytes;
 use text::utf8::is_utf8;
@@ -19,6 +23,7 @@ ghost use Rattle.line.specs.Walker.{guidOf, uuidStep, fieldStep, startOf
 ghost use Rattle.line.specs.Walker as specs;
 ghost use Rattle.line.specs.Pairs.{refuse};
 ghost use Rattle.line.specs.Parser.{parserOf, stepFrom, moved};
+ghost use Rattle.line.specs.Inner.{Lent};
 
 pub enum State {
     Uuid,
@@ -166,11 +171,27 @@ pub fn start_state(line: &[u8]) -> State
 pub fn step(line: &[u8], pos: usize, state: State) -> Stepped
     ensures { λ r. ⌜ r ≡ stepOf (now (line .entry)) pos state ⌝ }
 {
+    let names = key_names();
+    let kinds = key_kinds();
+    step_by(&names, &kinds, line, pos, state)
+}
+
+// The same by tables that are lent: a walk over a whole line makes them once.
+pub(crate) fn step_by(
+    names: &[[u8; IDENT_MAX]; ROWS],
+    kinds: &[[u16; 2]; ROWS],
+    line: &[u8],
+    pos: usize,
+    state: State,
+) -> Stepped
+    requires { ⌜ Lent (now names) (now kinds) ⌝ }
+    ensures { λ r. ⌜ r ≡ stepOf (now (line .entry)) pos state ⌝ }
+{
     if line.len() <= pos {
         return take_step(Answer::End, pos, state);
     }
     let comma = find_byte(&line[pos..], b',');
-    field_step(line, pos, pos + comma, state)
+    field_step(names, kinds, line, pos, pos + comma, state)
 }
 
 fn take_step(answer: Answer, pos: usize, state: State) -> Stepped
@@ -186,8 +207,15 @@ fn refused(kind: ErrorKind, position: usize) -> Answer
 }
 
 // A step at p, before the line's end; e is the place of the next comma, or the end.
-fn field_step(line: &[u8], p: usize, e: usize, state: State) -> Stepped
-    requires { ⌜ (p ≤ e) × (e ≤ length (now line)) ⌝ }
+fn field_step(
+    names: &[[u8; IDENT_MAX]; ROWS],
+    kinds: &[[u16; 2]; ROWS],
+    line: &[u8],
+    p: usize,
+    e: usize,
+    state: State,
+) -> Stepped
+    requires { ⌜ Lent (now names) (now kinds) × (p ≤ e) × (e ≤ length (now line)) ⌝ }
     ensures { λ r. ⌜ r ≡ fieldStep (now (line .entry)) p e state ⌝ }
 {
     match state {
@@ -199,7 +227,11 @@ fn field_step(line: &[u8], p: usize, e: usize, state: State) -> Stepped
             };
             take_step(Answer::Found(name), e + 1, State::KeyVal)
         }
-        State::KeyVal => take_step(read_pair(&line[p..e], p), e + 1, State::KeyVal),
+        State::KeyVal => take_step(
+            read_pair(names, kinds, &line[p..e], p),
+            e + 1,
+            State::KeyVal,
+        ),
         State::Invalid => take_step(refused(ErrorKind::InvalidParserState, 0), p, State::Invalid),
         State::NotUtf8 => take_step(
             refused(ErrorKind::NotUtf8, valid_up_to(line)),

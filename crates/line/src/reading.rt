@@ -9,18 +9,22 @@ use crate::parser::Answer;
 use crate::parser::Error;
 use crate::parser::ErrorKind;
 use crate::parser::State;
-use crate::parser::step;
+use crate::parser::step_by;
 use crate::reading::draft::Draft;
 use crate::reading::draft::drafted;
 use crate::reading::draft::put_number;
 use crate::reading::puts::Puts;
 use crate::reading::puts::puts_of;
+use crate::tables::IDENT_MAX;
+use crate::tables::ROWS;
+use crate::tables::key_kinds;
+use crate::tables::key_names;
 use text::utf8::valid_up_to;
 ghost use mathlib.Core.Path.{_≡_};
 ghost use Rattle.line.specs.Maps.{toMap};
 ghost use Rattle.line.specs.Reading.{refusedOf, acceptedOf, skips, putOne, thenPut, putAll, taken, readLine};
 ghost use Rattle.line.specs.Reading.{readingOf};
-ghost use Rattle.line.specs.Inner.{viewIn, draftNamed, draftFlagged, Roomy, Turned};
+ghost use Rattle.line.specs.Inner.{viewIn, draftNamed, draftFlagged, Lent, Roomy, Turned};
 
 // The most codes of a list.
 pub const LIST_MAX: usize = 1024;
@@ -66,11 +70,20 @@ pub fn parse_sdl_mapping(line: &[u8], buttons: &[u32], axes: &[u32]) -> SdlMappi
     if LIST_MAX < axes.len() {
         return refused(ParseSdlMappingError::ListTooLong);
     }
-    read_fields(line, buttons, axes)
+    let names = key_names();
+    let kinds = key_kinds();
+    read_fields(&names, &kinds, line, buttons, axes)
 }
 
 // The fields of a line, one step of the walker after the other.
-fn read_fields(line: &[u8], buttons: &[u32], axes: &[u32]) -> SdlMapping
+fn read_fields(
+    names: &[[u8; IDENT_MAX]; ROWS],
+    kinds: &[[u16; 2]; ROWS],
+    line: &[u8],
+    buttons: &[u32],
+    axes: &[u32],
+) -> SdlMapping
+    requires { ⌜ Lent (now names) (now kinds) ⌝ }
     ensures { λ r. ⌜ r ≡ readLine (now (line .entry)) (now (buttons .entry)) (now (axes .entry)) ⌝ }
 {
     let mut xs = [0u64; CODES_MAX];
@@ -78,7 +91,7 @@ fn read_fields(line: &[u8], buttons: &[u32], axes: &[u32]) -> SdlMapping
     let mut pos: usize = 0;
     let mut state = State::Uuid;
     while pos < line.len() {
-        let next = step(line, pos, state);
+        let next = step_by(names, kinds, line, pos, state);
         let answer = next.answer;
         let after = next.pos;
         let turn = take_answer(&mut xs, draft, answer, pos, after, buttons, axes);

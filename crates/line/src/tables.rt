@@ -1,20 +1,15 @@
 // The key names of mapping lines and the elements that they name, searched by key and by element.
-mod known;
-mod rows;
-
 use crate::ev::Axis;
 use crate::ev::AxisOrBtn;
 use crate::ev::Button;
-use crate::tables::known::known_element;
-use crate::tables::rows::known_row;
 ghost use mathlib.Core.Path.{_≡_};
 ghost use Prim.Native.Nat.{_<_};
 ghost use lib.ListN.{length, getD};
 ghost use Rattle.line.specs.Tables.{ROWS, axes, nameAt, named, byteOrder, keyRow, elementRow, keyElement};
-ghost use Rattle.line.specs.Tables.{identOf};
-ghost use Rattle.line.specs.Inner.{untilZero};
+ghost use Rattle.line.specs.Tables.{nameRows, identOf};
+ghost use Rattle.line.specs.Inner.{untilZero, kindAndNumber, kindRows, Lent};
 
-const ROWS: usize = 35;
+pub const ROWS: usize = 35;
 
 // The longest name.
 pub const IDENT_MAX: usize = 13;
@@ -122,22 +117,73 @@ pub const AXES: [AxisOrBtn; ROWS] = [
     AxisOrBtn::Btn(Button::Z),
 ];
 
+// The names as one value. A constant is built anew wherever it is read: whoever seeks many keys makes this once and
+// lends it.
+pub fn key_names() -> [[u8; IDENT_MAX]; ROWS]
+    ensures { λ r. ⌜ r ≡ nameRows ⌝ }
+{
+    AXES_SDL
+}
+
+// The elements as one value.
+fn key_elements() -> [AxisOrBtn; ROWS]
+    ensures { λ r. ⌜ r ≡ axes ⌝ }
+{
+    AXES
+}
+
+// The elements as they can be lent, each as its kind and number.
+pub(crate) fn key_kinds() -> [[u16; 2]; ROWS]
+    ensures { λ r. ⌜ r ≡ kindRows ⌝ }
+{
+    kinds_of(key_elements())
+}
+
+fn kinds_of(elements: [AxisOrBtn; ROWS]) -> [[u16; 2]; ROWS]
+    requires { ⌜ elements ≡ axes ⌝ }
+    ensures { λ r. ⌜ r ≡ kindRows ⌝ }
+{
+    let mut kinds = [[0u16; 2]; ROWS];
+    let mut k = 0;
+    while k < ROWS {
+        let x = elements[k];
+        kinds[k] = kind_number(x);
+        k += 1;
+    }
+    kinds
+}
+
+// Kind 0 is a button, 1 an axis.
+fn kind_number(e: AxisOrBtn) -> [u16; 2]
+    ensures { λ r. ⌜ r ≡ kindAndNumber e ⌝ }
+{
+    match e {
+        AxisOrBtn::Axis(a) => [1, a.0],
+        AxisOrBtn::Btn(b) => [0, b.0],
+    }
+}
+
 // The element that `key` names.
 pub fn find_element(key: &[u8]) -> KeyElement
     ensures { λ r. ⌜ r ≡ keyElement (now (key .entry)) ⌝ }
 {
-    match known_element(key) {
-        KeyElement::Is(e) => KeyElement::Is(e),
-        KeyElement::Missing => sought_element(key),
-    }
+    let names = key_names();
+    let kinds = key_kinds();
+    sought_element(&names, &kinds, key)
 }
 
-fn sought_element(key: &[u8]) -> KeyElement
+// The same by tables that are lent.
+pub(crate) fn sought_element(
+    names: &[[u8; IDENT_MAX]; ROWS],
+    kinds: &[[u16; 2]; ROWS],
+    key: &[u8],
+) -> KeyElement
+    requires { ⌜ Lent (now names) (now kinds) ⌝ }
     ensures { λ r. ⌜ r ≡ keyElement (now (key .entry)) ⌝ }
 {
-    let row = find_key(key);
+    let row = find_key(names, key);
     match row {
-        KeyRow::At(i) => KeyElement::Is(element_at(i)),
+        KeyRow::At(i) => KeyElement::Is(element_at(kinds, i)),
         KeyRow::Nowhere => KeyElement::Missing,
     }
 }
@@ -146,9 +192,10 @@ fn sought_element(key: &[u8]) -> KeyElement
 pub fn ident_of(e: AxisOrBtn) -> Ident
     ensures { λ r. ⌜ r ≡ identOf e ⌝ }
 {
-    let row = known_row(e);
+    let names = key_names();
+    let row = find_row(e);
     match row {
-        KeyRow::At(i) => ident_at(i),
+        KeyRow::At(i) => ident_at(&names, i),
         KeyRow::Nowhere => Ident {
             name: [0; IDENT_MAX],
             len: 0,
@@ -156,15 +203,23 @@ pub fn ident_of(e: AxisOrBtn) -> Ident
     }
 }
 
+// The first row of an element.
+pub fn find_row(e: AxisOrBtn) -> KeyRow
+    ensures { λ r. ⌜ r ≡ elementRow e ⌝ }
+{
+    row_in(key_elements(), e)
+}
+
 // The row of `key`, by a binary search.
-fn find_key(key: &[u8]) -> KeyRow
+fn find_key(names: &[[u8; IDENT_MAX]; ROWS], key: &[u8]) -> KeyRow
+    requires { ⌜ now names ≡ nameRows ⌝ }
     ensures { λ r. ⌜ r ≡ keyRow (now (key .entry)) ⌝ }
 {
     let mut low = 0;
     let mut high = ROWS;
     while low < high {
         let mid = low + (high - low) / 2;
-        let row = AXES_SDL[mid];
+        let row = names[mid];
         let order = order_of(row, key);
         match order {
             Order::Less => {
@@ -212,13 +267,13 @@ fn order_of(row: [u8; IDENT_MAX], key: &[u8]) -> Order
     Order::Equal
 }
 
-// The first row of an element.
-fn find_row(e: AxisOrBtn) -> KeyRow
+fn row_in(elements: [AxisOrBtn; ROWS], e: AxisOrBtn) -> KeyRow
+    requires { ⌜ elements ≡ axes ⌝ }
     ensures { λ r. ⌜ r ≡ elementRow e ⌝ }
 {
     let mut i = 0;
     while i < ROWS {
-        let x = element_at(i);
+        let x = elements[i];
         if x.eq(e) {
             return KeyRow::At(i);
         }
@@ -227,18 +282,22 @@ fn find_row(e: AxisOrBtn) -> KeyRow
     KeyRow::Nowhere
 }
 
-fn element_at(i: usize) -> AxisOrBtn
-    requires { ⌜ i < ROWS ⌝ }
+fn element_at(kinds: &[[u16; 2]; ROWS], i: usize) -> AxisOrBtn
+    requires { ⌜ (now kinds ≡ kindRows) × (i < ROWS) ⌝ }
     ensures { λ r. ⌜ r ≡ getD axes i (AxisOrBtn.Btn (record { 0 = 0 })) ⌝ }
 {
-    AXES[i]
+    let row = kinds[i];
+    if row[0] == 0 {
+        return AxisOrBtn::Btn(Button(row[1]));
+    }
+    AxisOrBtn::Axis(Axis(row[1]))
 }
 
-fn ident_at(i: usize) -> Ident
-    requires { ⌜ i < ROWS ⌝ }
+fn ident_at(names: &[[u8; IDENT_MAX]; ROWS], i: usize) -> Ident
+    requires { ⌜ (now names ≡ nameRows) × (i < ROWS) ⌝ }
     ensures { λ r. ⌜ r ≡ named (nameAt i) ⌝ }
 {
-    let name = AXES_SDL[i];
+    let name = names[i];
     let len = name_len(name);
     Ident { name, len }
 }

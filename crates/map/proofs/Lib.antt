@@ -3,7 +3,6 @@ pub mod FilledLaws
 mod MissingLaws
 pub mod OutputLaws
 pub mod NameLaws
-pub mod DigitLaws
 pub mod LengthLaws
 pub mod PutsLaws
 pub mod CheckLaws

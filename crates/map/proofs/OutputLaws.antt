@@ -1,21 +1,18 @@
 -- Laws of texts that are put one after the other into an output, and of the line in its parts.
 -- Assumes nothing.
-use Prim.Native.Nat.{ℕ, _+_, _-_, _<_, _≤_}
+use Prim.Native.Nat.{ℕ, _+_, _<_, _≤_}
 use mathlib.Core.Path.{_≡_, refl, sym, ap, _∙_}
 use mathlib.Core.List.{List, [], _∷_, _++_, append-assoc, append-nil}
 use native.Mathlib.Numerals.{add-one}
 use native.Mathlib.Omega.{arith}
-use lib.ListN.{length, replicate, take, drop, getD, length-append, length-take, take-append-drop}
-use lib.Seq.{take-append-seam, take-suc, take-all, length-take-le, getD-take}
+use lib.ListN.{length, take, drop, getD, length-append, length-take, take-append-drop}
+use lib.Seq.{take-suc, take-all, length-take-le, getD-take}
 use Rattle.text.specs.Bytes.{byte, written, Wrote}
 use Rattle.text.specs.Inner.{Put}
 use Rattle.text.specs.declared.uuid.Uuid.{Uuid}
 use Rattle.text.specs.declared.bytes.Written.{Written}
 use Rattle.text.proofs.BytesLaws.{answer-fits, buffer-fits, written-length, written-append, written-none}
-use Rattle.line.specs.declared.ev.AxisOrBtn.{AxisOrBtn}
 use Rattle.line.specs.declared.mapping.Entry.{Entry}
-use Rattle.line.specs.declared.tables.Ident.{Ident}
-use Rattle.line.specs.Tables.{IDENT_MAX, identText, identOf}
 use Rattle.map.specs.declared.from_data.filled.Filled.{Filled}
 use Rattle.map.specs.declared.mapping_data.MappingData.{MappingData}
 use Rattle.map.specs.Build.{ended, pairText, pairTexts, filledButtons, filledAxes, builtLine}
@@ -180,11 +177,3 @@ module _ (d : MappingData) (buttons axes name : List ℕ) (uuid : Uuid) (f g : F
 
   pub length-held : lengthOf buttons f axes g name ≡ lineLength d buttons axes name
   length-held = rw (b .are, a .are)
-
--- ---- an ident as the table hands it out
-module _ (e : AxisOrBtn) (i : Ident) (p : i ≡ identOf e) where
-  pub ident-part : take (i .len) (i .name) ≡ identText e
-  ident-part = rw p (take-append-seam (identText e) (replicate (IDENT_MAX - length (identText e)) 0))
-
-  pub ident-in : i .len ≤ length (i .name)
-  ident-in = rw p (simp length-append (omega arith))

@@ -21,7 +21,6 @@ use Rattle.line.specs.Reading.{LIST_MAX}
 use Rattle.line.specs.declared.ev.AxisOrBtn.{AxisOrBtn}
 use Rattle.line.specs.Tables.{identText, asButton, asAxis}
 use Rattle.map.specs.declared.from_data.filled.Filled.{Filled}
-use Rattle.map.specs.declared.from_data.names.Name.{Name}
 use Rattle.map.specs.declared.mapping_data.MappingData.{MappingData}
 use Rattle.map.specs.Lists.{placeOf}
 use Rattle.map.specs.Slots.{buttonSlots}
@@ -82,19 +81,6 @@ Room out at v = at + length v ≤ length out
 
 abbrev pub WritesPairs : ℕ → List ℕ → Filled → List ℕ → ℕ → ℕ → List ℕ → Type 0
 WritesPairs letter codes f out at next after = Put out at (pairFields letter codes (heldIn f)) next after
-
--- ---- names as numbers
--- the lowest n bytes of a number
-unfoldable pub wordBytes : ℕ → ℕ → List ℕ
-wordBytes zero x = []
-wordBytes (suc n) x = x % 256 ∷ wordBytes n (x / 256)
-
-abbrev pub nameText : Name → List ℕ
-nameText w = wordBytes (w .some) (w .first) ++ wordBytes (w .more) (w .rest)
-
--- a name that is told is that of the element
-abbrev pub Tells : AxisOrBtn → Name → Type 0
-Tells e w = (w .some ≡ 0 → ⊥) → nameText w ≡ identText e
 
 -- ---- lengths
 abbrev pub ListFits : List ℕ → Type 0

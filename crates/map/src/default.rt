@@ -7,7 +7,6 @@ use line::ev::Axis;
 use line::ev::AxisOrBtn;
 use line::ev::Button;
 use line::ev::Code;
-use line::ev::nec;
 use line::mapping::Entry;
 use line::mapping::Mapping;
 use line::parser::Ranges;
@@ -21,37 +20,37 @@ const ROWS: usize = 31;
 
 // The codes, and the element of each beside it.
 const CODES: [Code; ROWS] = [
-    nec::BTN_SOUTH,
-    nec::BTN_EAST,
-    nec::BTN_C,
-    nec::BTN_NORTH,
-    nec::BTN_WEST,
-    nec::BTN_Z,
-    nec::BTN_LT,
-    nec::BTN_RT,
-    nec::BTN_LT2,
-    nec::BTN_RT2,
-    nec::BTN_SELECT,
-    nec::BTN_START,
-    nec::BTN_MODE,
-    nec::BTN_LTHUMB,
-    nec::BTN_RTHUMB,
-    nec::BTN_DPAD_UP,
-    nec::BTN_DPAD_DOWN,
-    nec::BTN_DPAD_LEFT,
-    nec::BTN_DPAD_RIGHT,
-    nec::AXIS_LSTICKX,
-    nec::AXIS_LSTICKY,
-    nec::AXIS_LEFTZ,
-    nec::AXIS_RSTICKX,
-    nec::AXIS_RSTICKY,
-    nec::AXIS_RIGHTZ,
-    nec::AXIS_DPADX,
-    nec::AXIS_DPADY,
-    nec::AXIS_LT,
-    nec::AXIS_RT,
-    nec::AXIS_LT2,
-    nec::AXIS_RT2,
+    Code::BTN_SOUTH,
+    Code::BTN_EAST,
+    Code::BTN_C,
+    Code::BTN_NORTH,
+    Code::BTN_WEST,
+    Code::BTN_Z,
+    Code::BTN_LT,
+    Code::BTN_RT,
+    Code::BTN_LT2,
+    Code::BTN_RT2,
+    Code::BTN_SELECT,
+    Code::BTN_START,
+    Code::BTN_MODE,
+    Code::BTN_LTHUMB,
+    Code::BTN_RTHUMB,
+    Code::BTN_DPAD_UP,
+    Code::BTN_DPAD_DOWN,
+    Code::BTN_DPAD_LEFT,
+    Code::BTN_DPAD_RIGHT,
+    Code::AXIS_LSTICKX,
+    Code::AXIS_LSTICKY,
+    Code::AXIS_LEFTZ,
+    Code::AXIS_RSTICKX,
+    Code::AXIS_RSTICKY,
+    Code::AXIS_RIGHTZ,
+    Code::AXIS_DPADX,
+    Code::AXIS_DPADY,
+    Code::AXIS_LT,
+    Code::AXIS_RT,
+    Code::AXIS_LT2,
+    Code::AXIS_RT2,
 ];
 
 const ELEMENTS: [AxisOrBtn; ROWS] = [
@@ -110,7 +109,7 @@ fn row(i: usize) -> Entry
 fn in_its_list(buttons: &[u32], axes: &[u32], code: Code) -> bool
     ensures { λ r. ⌜ r ≡ inItsList (now (buttons .entry)) (now (axes .entry)) code ⌝ }
 {
-    if code.0 < nec::AXIS_LSTICKX.0 {
+    if code.0 < Code::AXIS_LSTICKX.0 {
         return in_list(buttons, code);
     }
     in_list(axes, code)

@@ -1,7 +1,6 @@
 // Build: the line and the map of the filled slots.
 mod checks;
 mod filled;
-mod names;
 mod output;
 mod puts;
 

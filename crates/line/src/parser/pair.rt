@@ -7,20 +7,29 @@ use crate::parser::Token;
 use crate::parser::refused;
 use crate::parser::value::Value;
 use crate::parser::value::read_value;
+use crate::tables::IDENT_MAX;
 use crate::tables::KeyElement;
-use crate::tables::find_element;
+use crate::tables::ROWS;
+use crate::tables::sought_element;
 use text::bytes::find_byte;
 use text::bytes::same_bytes;
 ghost use mathlib.Core.Path.{_≡_};
 ghost use Prim.Native.Nat.{_+_, _<_, _^_};
 ghost use lib.ListN.{length};
+ghost use Rattle.text.specs.Bytes.{ascii, same};
 ghost use Rattle.line.specs.Fields.{countOf};
 ghost use Rattle.line.specs.Pairs.{halfOf, skipOf, rangesOf, axisToken, buttonToken, hatToken, mappedOf, keyedOf};
 ghost use Rattle.line.specs.Pairs.{pairOf};
+ghost use Rattle.line.specs.Inner.{Lent};
 
 // The pair that starts at p of the line: cut at its one colon.
-pub fn read_pair(pair: &[u8], p: usize) -> Answer
-    requires { ⌜ p + length (now pair) < 2 ^ 64 ⌝ }
+pub fn read_pair(
+    names: &[[u8; IDENT_MAX]; ROWS],
+    kinds: &[[u16; 2]; ROWS],
+    pair: &[u8],
+    p: usize,
+) -> Answer
+    requires { ⌜ Lent (now names) (now kinds) × (p + length (now pair) < 2 ^ 64) ⌝ }
     ensures { λ r. ⌜ r ≡ pairOf (now (pair .entry)) p ⌝ }
 {
     if count_byte(pair, b':') != 1 {
@@ -28,7 +37,7 @@ pub fn read_pair(pair: &[u8], p: usize) -> Answer
     }
     let colon = find_byte(pair, b':');
     let after = colon + 1;
-    keyed(&pair[..colon], &pair[after..], p, p + after)
+    keyed(names, kinds, &pair[..colon], &pair[after..], p, p + after)
 }
 
 fn count_byte(s: &[u8], b: u8) -> usize
@@ -46,21 +55,35 @@ fn count_byte(s: &[u8], b: u8) -> usize
 }
 
 // A key and its value, which stands at place `at` of the line.
-fn keyed(key: &[u8], value: &[u8], p: usize, at: usize) -> Answer
-    requires { ⌜ p + length (now value) < 2 ^ 64 ⌝ }
+fn keyed(
+    names: &[[u8; IDENT_MAX]; ROWS],
+    kinds: &[[u16; 2]; ROWS],
+    key: &[u8],
+    value: &[u8],
+    p: usize,
+    at: usize,
+) -> Answer
+    requires { ⌜ Lent (now names) (now kinds) × (p + length (now value) < 2 ^ 64) ⌝ }
     ensures { λ r. ⌜ r ≡ keyedOf (now (key .entry)) (now (value .entry)) p at ⌝ }
 {
     let len = value.len();
     if len == 0 {
         return refused(ErrorKind::EmptyValue, p);
     }
-    if same_bytes(key, b"platform") {
+    if is_platform(key) {
         return Answer::Found(Token::Platform { start: at, len });
     }
     let output = key_half(key);
     let skip = sign_len(output);
-    let to = find_element(&key[skip..]);
+    let to = sought_element(names, kinds, &key[skip..]);
     mapped(read_value(value, p), output, to, p)
+}
+
+// A key is `platform` as it stands, before a sign is cut off.
+fn is_platform(key: &[u8]) -> bool
+    ensures { λ r. ⌜ r ≡ same (now (key .entry)) (ascii "platform") ⌝ }
+{
+    same_bytes(key, b"platform")
 }
 
 // The output half that a key's sign sets.

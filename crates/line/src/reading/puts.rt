@@ -3,7 +3,6 @@ use crate::ev::Axis;
 use crate::ev::AxisOrBtn;
 use crate::ev::Button;
 use crate::ev::Code;
-use crate::ev::nec;
 use crate::mapping::Entry;
 use crate::parser::Ranges;
 use crate::parser::Token;
@@ -99,29 +98,29 @@ fn hat_codes(direction: u16) -> HatCodes
     }
     if direction == 1 {
         return HatCodes::Codes {
-            axis: nec::AXIS_DPADY,
-            button: nec::BTN_DPAD_UP,
+            axis: Code::AXIS_DPADY,
+            button: Code::BTN_DPAD_UP,
             flag: 1,
         };
     }
     if direction == 4 {
         return HatCodes::Codes {
-            axis: nec::AXIS_DPADY,
-            button: nec::BTN_DPAD_DOWN,
+            axis: Code::AXIS_DPADY,
+            button: Code::BTN_DPAD_DOWN,
             flag: 4,
         };
     }
     if direction == 2 {
         return HatCodes::Codes {
-            axis: nec::AXIS_DPADX,
-            button: nec::BTN_DPAD_RIGHT,
+            axis: Code::AXIS_DPADX,
+            button: Code::BTN_DPAD_RIGHT,
             flag: 2,
         };
     }
     if direction == 8 {
         return HatCodes::Codes {
-            axis: nec::AXIS_DPADX,
-            button: nec::BTN_DPAD_LEFT,
+            axis: Code::AXIS_DPADX,
+            button: Code::BTN_DPAD_LEFT,
             flag: 8,
         };
     }

@@ -2,11 +2,14 @@
 use crate::from_data::BUILT_MAX;
 use crate::from_data::NAME_START;
 use crate::from_data::filled::Filled;
-use crate::from_data::names::known_name;
-use crate::from_data::names::put_name;
 use line::ev::AxisOrBtn;
 use line::mapping::Entry;
+use line::tables::IDENT_MAX;
+use line::tables::KeyRow;
+use line::tables::ROWS;
+use line::tables::find_row;
 use line::tables::ident_of;
+use line::tables::key_names;
 use text::bytes::Written;
 use text::bytes::write_bytes;
 use text::decimal::index_len;
@@ -19,7 +22,8 @@ ghost use Rattle.text.specs.Decimal.{decimal};
 ghost use Rattle.text.specs.Uuid.{uuidText};
 ghost use Rattle.text.specs.Inner.{Put};
 ghost use Rattle.line.specs.Reading.{LIST_MAX};
-ghost use Rattle.line.specs.Tables.{identText};
+ghost use Rattle.line.specs.Tables.{nameRows, identText};
+ghost use Rattle.line.specs.Inner.{untilZero};
 ghost use Rattle.map.specs.Build.{NAME_MAX};
 ghost use Rattle.map.specs.Inner.{Few, Ready, PlacedIn, heldIn, withComma, valueText, pairAt, pairFields};
 ghost use Rattle.map.specs.Inner.{headText, lineText, Room, WritesPairs, lengthAt, pairsLength, lengthOf};
@@ -93,20 +97,10 @@ fn put_bytes(out: &mut [u8], at: usize, v: &[u8]) -> usize
     upto(write_bytes(out, at, v))
 }
 
-// One digit or two are written here.
 fn put_index(out: &mut [u8], at: usize, n: usize) -> usize
     requires { ⌜ at + length (decimal n) ≤ length (now out) ⌝ }
     ensures { λ r. ⌜ Put (now (out .entry)) at (decimal n) r (now (out .exit)) ⌝ }
 {
-    if n < 10 {
-        out[at] = b'0' + (n % 10) as u8;
-        return at + 1;
-    }
-    if n < 100 {
-        out[at] = b'0' + (n / 10 % 10) as u8;
-        out[at + 1] = b'0' + (n % 10) as u8;
-        return at + 2;
-    }
     upto(write_index(out, at, n))
 }
 
@@ -117,26 +111,38 @@ fn put_uuid(out: &mut [u8], at: usize, uuid: Uuid) -> usize
     upto(uuid.write_simple(out, at))
 }
 
-fn put_ident(out: &mut [u8], at: usize, element: AxisOrBtn) -> usize
-    requires { ⌜ at + length (identText element) ≤ length (now out) ⌝ }
+// The ident of an element, from its row of the names.
+fn put_ident(
+    names: &[[u8; IDENT_MAX]; ROWS],
+    out: &mut [u8],
+    at: usize,
+    element: AxisOrBtn,
+) -> usize
+    requires { ⌜ (now names ≡ nameRows) × (at + length (identText element) ≤ length (now out)) ⌝ }
     ensures { λ r. ⌜ Put (now (out .entry)) at (identText element) r (now (out .exit)) ⌝ }
 {
-    let name = known_name(element);
-    if name.some == 0 {
-        return put_sought(out, at, element);
+    let row = find_row(element);
+    match row {
+        KeyRow::At(i) => put_name(out, at, names[i]),
+        KeyRow::Nowhere => at,
     }
-    put_name(out, at, name)
 }
 
-// An ident as the tables have it.
-fn put_sought(out: &mut [u8], at: usize, element: AxisOrBtn) -> usize
-    requires { ⌜ at + length (identText element) ≤ length (now out) ⌝ }
-    ensures { λ r. ⌜ Put (now (out .entry)) at (identText element) r (now (out .exit)) ⌝ }
+// The bytes of a row before its first 0.
+fn put_name(out: &mut [u8], at: usize, row: [u8; IDENT_MAX]) -> usize
+    requires { ⌜ at + length (untilZero row) ≤ length (now out) ⌝ }
+    ensures { λ r. ⌜ Put (now (out .entry)) at (untilZero row) r (now (out .exit)) ⌝ }
 {
-    let ident = ident_of(element);
-    let name = ident.name;
-    let len = ident.len;
-    put_bytes(out, at, &name[..len])
+    let mut j: usize = 0;
+    while j < IDENT_MAX {
+        let b = row[j];
+        if b == 0 {
+            return at + j;
+        }
+        out[at + j] = b;
+        j += 1;
+    }
+    at + j
 }
 
 // `:b` or `:a`, and the index.
@@ -150,20 +156,34 @@ fn put_value(out: &mut [u8], at: usize, letter: u8, n: usize) -> usize
 }
 
 // The pair of an entry whose code has the place n, with its comma.
-fn put_pair(out: &mut [u8], at: usize, letter: u8, n: usize, e: Entry) -> usize
-    requires { ⌜ at + length (pairAt letter n e) ≤ length (now out) ⌝ }
+fn put_pair(
+    names: &[[u8; IDENT_MAX]; ROWS],
+    out: &mut [u8],
+    at: usize,
+    letter: u8,
+    n: usize,
+    e: Entry,
+) -> usize
+    requires { ⌜ (now names ≡ nameRows) × (at + length (pairAt letter n e) ≤ length (now out)) ⌝ }
     ensures { λ r. ⌜ Put (now (out .entry)) at (pairAt letter n e) r (now (out .exit)) ⌝ }
 {
     let element = e.element;
-    let colon = put_ident(out, at, element);
+    let colon = put_ident(names, out, at, element);
     let comma = put_value(out, colon, letter, n);
     put_bytes(out, comma, b",")
 }
 
 // The pairs of the filled slots, whose places are those in the list.
-fn put_pairs(out: &mut [u8], at: usize, letter: u8, list: &[u32], filled: Filled) -> usize
-    requires { ⌜ Few filled × PlacedIn (now list) filled × Room (now out) at (pairFields letter (now list)
-        (heldIn filled)) ⌝ }
+fn put_pairs(
+    out: &mut [u8],
+    at: usize,
+    letter: u8,
+    list: &[u32],
+    filled: Filled,
+    names: &[[u8; IDENT_MAX]; ROWS],
+) -> usize
+    requires { ⌜ (now names ≡ nameRows) × Few filled × PlacedIn (now list) filled
+        × Room (now out) at (pairFields letter (now list) (heldIn filled)) ⌝ }
     ensures { λ r. ⌜ WritesPairs letter (now (list .entry)) filled (now (out .entry)) at r (now (out .exit)) ⌝ }
 {
     let n = filled.count;
@@ -171,7 +191,7 @@ fn put_pairs(out: &mut [u8], at: usize, letter: u8, list: &[u32], filled: Filled
     let mut i: usize = 0;
     while i < n {
         let e = filled.entries[i];
-        next = put_pair(out, next, letter, filled.places[i], e);
+        next = put_pair(names, out, next, letter, filled.places[i], e);
         i += 1;
     }
     next
@@ -212,6 +232,7 @@ pub fn put_line(
         (now (name .entry)) uuid) r (now (out .exit)) ⌝ }
 {
     let pairs = put_head(out, uuid, name);
-    let more = put_pairs(out, pairs, b'b', buttons, first);
-    put_pairs(out, more, b'a', axes, last)
+    let names = key_names();
+    let more = put_pairs(out, pairs, b'b', buttons, first, &names);
+    put_pairs(out, more, b'a', axes, last, &names)
 }

@@ -41,17 +41,23 @@ returns-3 c =
       c .refused3 .ensures,
     )
 
+key-names-requires : tie.Need-key-names-requires
+key-names-requires c κs = tt
+
+key-kinds-requires : tie.Need-key-kinds-requires
+key-kinds-requires c κs = tt
+
 read-fields-requires : tie.Need-read-fields-requires
-read-fields-requires c κs = tt
+read-fields-requires c κs = (c .before .before .before .key-names .ensures, c .before .before .key-kinds .ensures)
 
 returns-4 : tie.Need-returns-4
 unfolding readingOf isUtf8
 returns-4 c =
     simp (
-      ← c .before .before .before .before .valid-up-to .ensures,
-      eq-eqb _ _ (c .before .before .before .if1 .left),
-      le-leb _ _ (c .before .before .if2 .left),
-      le-leb _ _ (c .before .if3 .left),
+      ← c .before .before .before .before .before .before .before .before .valid-up-to .ensures,
+      eq-eqb _ _ (c .before .before .before .before .before .before .before .if1 .left),
+      le-leb _ _ (c .before .before .before .before .before .before .if2 .left),
+      le-leb _ _ (c .before .before .before .before .before .if3 .left),
       c .read-fields .ensures,
     )
 
@@ -66,5 +72,7 @@ parse-sdl-mapping-spec =
     returns-2
     refused-requires-3
     returns-3
+    key-names-requires
+    key-kinds-requires
     read-fields-requires
     returns-4)

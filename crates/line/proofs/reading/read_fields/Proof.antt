@@ -15,19 +15,19 @@ use Rattle.line.proofs.reading.read_fields.Statement.{statement}
 use Rattle.line.proofs.reading.read_fields.Tie as tie
 
 abbrev Inv-loop : tie.InvT-loop
-Inv-loop line buttons axes xs₀ draft₀ pos₀ state₀ xs draft pos state =
+Inv-loop names kinds line buttons axes xs₀ draft₀ pos₀ state₀ xs draft pos state =
     (restOf line pos state (toMap (viewIn draft xs)) buttons axes ≡ readLine line buttons axes)
     × Roomy (draft .count) xs
 
 abbrev μ-loop : tie.MeasureT-loop
-μ-loop line buttons axes xs₀ draft₀ pos₀ state₀ xs draft pos state = length line - pos
+μ-loop names kinds line buttons axes xs₀ draft₀ pos₀ state₀ xs draft pos state = length line - pos
 
 loop-holds : tie.Need-loop-holds Inv-loop μ-loop
 unfolding restOf readLine emptyMap
 loop-holds c = (refl, (omega arith, search needs))
 
-step-requires : tie.Need-step-requires Inv-loop μ-loop
-step-requires c κs = search needs
+step-by-requires : tie.Need-step-by-requires Inv-loop μ-loop
+step-by-requires c κs = search needs
 
 slice-aggregate-take-answer : tie.Need-slice-aggregate-take-answer Inv-loop μ-loop
 slice-aggregate-take-answer c = sym (c .before .before .before .loop .inv .1 .1)
@@ -44,7 +44,7 @@ refused-requires c κs = search needs
 returns : tie.Need-returns Inv-loop μ-loop
 returns c =
     let y = c .before .before .before .before .before .take-answer in
-    let x = c .before .before .before .before .before .before .before .step in
+    let x = c .before .before .before .before .before .before .before .step-by in
     let l = c .before .before .before .before .before .before .before .before .before in
     let a = l .before .before .before .before .args in
     let was = was-refused _ _ _ (y .ensures) _ (c .before .before .went .given .1) in
@@ -61,7 +61,7 @@ enum-told c = search needs
 loop-less : tie.Need-loop-less Inv-loop μ-loop
 loop-less c =
     let y = c .before .before .before .before .take-answer in
-    let x = c .before .before .before .before .before .before .step in
+    let x = c .before .before .before .before .before .before .step-by in
     let l = c .before .before .before .before .before .before .before .before in
     let a = l .before .before .before .before .args in
     let was = was-accepted _ _ _ (y .ensures) (c .before .enum-told .given .1) in
@@ -77,7 +77,7 @@ loop-less c =
 loop-again : tie.Need-loop-again Inv-loop μ-loop
 loop-again c =
     let y = c .before .before .before .before .take-answer in
-    let x = c .before .before .before .before .before .before .step in
+    let x = c .before .before .before .before .before .before .step-by in
     let l = c .before .before .before .before .before .before .before .before in
     let a = l .before .before .before .before .args in
     let was = was-accepted _ _ _ (y .ensures) (c .before .enum-told .given .1) in
@@ -115,7 +115,7 @@ read-fields-spec =
     Inv-loop
     μ-loop
     loop-holds
-    step-requires
+    step-by-requires
     slice-aggregate-take-answer
     take-answer-requires
     enum-known-went

@@ -5,8 +5,7 @@ use Prim.Native.Nat.{ℕ}
 use borrow.Author.Needs.{needs}
 use lib.ListN.{length}
 use Rattle.line.specs.declared.tables.Ident.{Ident}
-use Rattle.line.specs.Tables.{axesSdl}
-use Rattle.line.proofs.KeyLaws.{rows, row-name, row-padded}
+use Rattle.line.proofs.KeyLaws.{row-named, row-filled}
 use Rattle.line.proofs.tables.ident_at.Statement.{statement}
 use Rattle.line.proofs.tables.ident_at.Tie as tie
 
@@ -17,18 +16,19 @@ ident-same p q = rw (p, q)
 mul-name : tie.Need-mul-name
 mul-name c = search needs
 
-array-copy-out-name : tie.Need-array-copy-out-name
-array-copy-out-name c = search needs
+element-copy-out-name : tie.Need-element-copy-out-name
+element-copy-out-name c = search needs
 
 name-len-requires : tie.Need-name-len-requires
 name-len-requires c κs = search needs
 
 returns : tie.Need-returns
-unfolding rows axesSdl
 returns c =
-    let i = c .before .before .args .i in
-    ident-same (row-padded i (c .before .before .pre)) (c .name-len .ensures ∙ ap (λ (l : List ℕ). length l)
-    (row-name i))
+    let s = c .before .before in
+    let names = s .args .names .now in
+    let i = s .args .i in
+    ident-same (row-filled names i (s .pre .0) (s .pre .1)) (c .name-len .ensures ∙ ap (λ (l : List ℕ). length l)
+    (row-named names i (s .pre .0)))
 
 pub ident-at-spec : {M : Type 1} → statement M
-ident-at-spec = tie.close (tie.spec mul-name array-copy-out-name name-len-requires returns)
+ident-at-spec = tie.close (tie.spec mul-name element-copy-out-name name-len-requires returns)

@@ -6,15 +6,17 @@ use Rattle.line.proofs.tables.sought_element.Statement.{statement}
 use Rattle.line.proofs.tables.sought_element.Tie as tie
 
 find-key-requires : tie.Need-find-key-requires
-find-key-requires c κs = search needs
+find-key-requires c κs = c .before .pre .0
 
 enum-known-row : tie.Need-enum-known-row
 enum-known-row c = search needs
 
 element-at-requires : tie.Need-element-at-requires
 element-at-requires c κs =
-    key-bound (c .before .before .before .before .before .args .key .now) _
-    (sym (c .before .before .before .find-key .ensures) ∙ c .before .row .given .1)
+    let s = c .before .before .before .before .before in (
+      s .pre .1,
+      key-bound (s .args .key .now) _ (sym (c .before .before .before .find-key .ensures) ∙ c .before .row .given .1),
+    )
 
 enum-told : tie.Need-enum-told
 enum-told c = search needs

@@ -16,17 +16,14 @@ returns : tie.Need-returns
 unfolding keyedOf
 returns c = simp (eq-eqb _ _ (c .before .if1 .taken), c .refused .ensures)
 
-slice-aggregate-same-bytes : tie.Need-slice-aggregate-same-bytes
-slice-aggregate-same-bytes c = search needs
-
-same-bytes-requires : tie.Need-same-bytes-requires
-same-bytes-requires c κs = search needs
+is-platform-requires : tie.Need-is-platform-requires
+is-platform-requires c κs = search needs
 
 returns-2 : tie.Need-returns-2
 unfolding keyedOf
 returns-2 c = simp (
-  ne-eqb _ _ (c .before .before .before .if1 .left),
-  sym (c .before .same-bytes .ensures)
+  ne-eqb _ _ (c .before .before .if1 .left),
+  sym (c .before .is-platform .ensures)
       ∙ c .if2 .taken,
 )
 
@@ -36,25 +33,25 @@ key-half-requires c κs = search needs
 sign-len-requires : tie.Need-sign-len-requires
 sign-len-requires c κs = search needs
 
-sub-find-element : tie.Need-sub-find-element
-sub-find-element c =
-    let key = c .before .before .before .before .before .before .before .before .args .key .now in
+sub-sought-element : tie.Need-sub-sought-element
+sub-sought-element c =
+    let key = c .before .before .before .before .before .before .before .args .key .now in
     let e : c .sign-len .result ≡ skipOf (halfOf key) =
     c .sign-len .ensures ∙ ap skipOf (c .before .key-half .ensures) in
     omega (arith, skip-le key)
 
-part-find-element-start : tie.Need-part-find-element-start
-part-find-element-start c =
-    let key = c .before .before .before .before .before .before .before .before .args .key .now in
+part-sought-element-start : tie.Need-part-sought-element-start
+part-sought-element-start c =
+    let key = c .before .before .before .before .before .before .before .args .key .now in
     let e : c .sign-len .result ≡ skipOf (halfOf key) =
     c .sign-len .ensures ∙ ap skipOf (c .before .key-half .ensures) in
     omega (arith, skip-le key)
 
-part-find-element-end : tie.Need-part-find-element-end
-part-find-element-end c = search needs
+part-sought-element-end : tie.Need-part-sought-element-end
+part-sought-element-end c = search needs
 
-find-element-requires : tie.Need-find-element-requires
-find-element-requires c κs = search needs
+sought-element-requires : tie.Need-sought-element-requires
+sought-element-requires c κs = search needs
 
 read-value-requires : tie.Need-read-value-requires
 read-value-requires c κs = search needs
@@ -66,13 +63,13 @@ returns-3 : tie.Need-returns-3
 unfolding keyedOf
 returns-3 c =
     let l = c .before .before .before .before .before .before in
-    let key = l .before .before .before .before .before .before .args .key .now in
+    let key = l .before .before .before .before .before .args .key .now in
     simp (
-      ne-eqb _ _ (l .before .before .before .if1 .left),
-      sym (l .before .same-bytes .ensures) ∙ l .if2 .left,
+      ne-eqb _ _ (l .before .before .if1 .left),
+      sym (l .before .is-platform .ensures) ∙ l .if2 .left,
       c .mapped .ensures,
       c .before .read-value .ensures,
-      c .before .before .find-element .ensures,
+      c .before .before .sought-element .ensures,
       c .before .before .before .before .sign-len .ensures,
       c .before .before .before .before .before .key-half .ensures,
       part-to-end key (skipOf (halfOf key)),
@@ -84,15 +81,14 @@ keyed-spec =
     (tie.spec
     refused-requires
     returns
-    slice-aggregate-same-bytes
-    same-bytes-requires
+    is-platform-requires
     returns-2
     key-half-requires
     sign-len-requires
-    sub-find-element
-    part-find-element-start
-    part-find-element-end
-    find-element-requires
+    sub-sought-element
+    part-sought-element-start
+    part-sought-element-end
+    sought-element-requires
     read-value-requires
     mapped-requires
     returns-3)

@@ -14,7 +14,7 @@ put-ident-requires c κs =
     let a = s .args in
     let i = identText (a .e .element) in
     let v = valueText (a .letter) (a .n) in
-    room-first (a .out .now) (a .at) i v (byte "," ∷ []) (s .pre)
+    (s .pre .0, room-first (a .out .now) (a .at) i v (byte "," ∷ []) (s .pre .1))
 
 put-value-requires : tie.Need-put-value-requires
 put-value-requires c κs =
@@ -23,7 +23,7 @@ put-value-requires c κs =
     let a = s .args in
     let i = identText (a .e .element) in
     let v = valueText (a .letter) (a .n) in
-    room-second (a .out .now) (a .at) i v (byte "," ∷ []) (s .pre) _ _ (ident .put-ident .ensures)
+    room-second (a .out .now) (a .at) i v (byte "," ∷ []) (s .pre .1) _ _ (ident .put-ident .ensures)
 
 slice-aggregate-put-bytes : tie.Need-slice-aggregate-put-bytes
 slice-aggregate-put-bytes c = search needs
@@ -37,7 +37,7 @@ put-bytes-requires c κs =
     let i = identText (a .e .element) in
     let v = valueText (a .letter) (a .n) in
     let w = value .put-value .ensures in
-    room-third (a .out .now) (a .at) i v (byte "," ∷ []) (s .pre) _ _ (ident .put-ident .ensures) _ _ w
+    room-third (a .out .now) (a .at) i v (byte "," ∷ []) (s .pre .1) _ _ (ident .put-ident .ensures) _ _ w
 
 same-length : tie.Need-same-length
 same-length c = search needs
@@ -52,7 +52,7 @@ returns c =
     let i = identText (a .e .element) in
     let v = valueText (a .letter) (a .n) in
     let w = value .put-value .ensures in
-    three-put (a .out .now) (a .at) i v (byte "," ∷ []) (s .pre) _ _ (ident .put-ident .ensures) _ _ w _ _
+    three-put (a .out .now) (a .at) i v (byte "," ∷ []) (s .pre .1) _ _ (ident .put-ident .ensures) _ _ w _ _
     (comma .put-bytes .ensures)
 
 pub put-pair-spec : {M : Type 1} → statement M

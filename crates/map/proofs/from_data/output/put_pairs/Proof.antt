@@ -13,16 +13,17 @@ use Rattle.map.proofs.from_data.output.put_pairs.Statement.{statement}
 use Rattle.map.proofs.from_data.output.put_pairs.Tie as tie
 
 abbrev Inv-loop : tie.InvT-loop
-Inv-loop out₀ at letter list filled n next₀ i₀ out next i =
+Inv-loop out₀ at letter list names filled n next₀ i₀ out next i =
     (i ≤ n) × Put out₀ at (pairFields letter list (take i (heldIn filled))) next out
+    × (length (filled .entries) ≡ buttonSlots)
 
 abbrev μ-loop : tie.MeasureT-loop
-μ-loop out₀ at letter list filled n next₀ i₀ out next i = n - i
+μ-loop out₀ at letter list names filled n next₀ i₀ out next i = n - i
 
 loop-holds : tie.Need-loop-holds Inv-loop μ-loop
 loop-holds c =
     let a = c .before .before .args in
-    (omega arith, pairs-none (a .letter) (a .list .now) (a .t5) (a .out .now) (a .at))
+    (omega arith, pairs-none (a .letter) (a .list .now) (a .t5) (a .out .now) (a .at), search (needs, entries-long))
 
 mul-e : tie.Need-mul-e Inv-loop μ-loop
 mul-e c = search needs
@@ -41,10 +42,12 @@ put-pair-requires c κs =
     let l = c .before .before .before .before in
     let s = l .before .before .before in
     let a = s .args in
-    let n : length (a .t5 .entries) ≡ buttonSlots = search (needs, entries-long) in
-    rw (s .pre .1 .at (l .loop .i) past (omega arith))
-    (pairs-room (a .letter) (a .list .now) (a .t5) (a .out .now) (a .at) (s .pre .2) (l .loop .i) _ _
-    (l .loop .inv .1) past (omega arith) (omega arith))
+    let n : length (a .t5 .entries) ≡ buttonSlots = l .loop .inv .2 in (
+      s .pre .0,
+      rw (s .pre .2 .at (l .loop .i) past (omega arith))
+          (pairs-room (a .letter) (a .list .now) (a .t5) (a .out .now) (a .at) (s .pre .3) (l .loop .i) _ _
+          (l .loop .inv .1) past (omega arith) (omega arith)),
+    )
 
 add-i : tie.Need-add-i Inv-loop μ-loop
 add-i c = search needs
@@ -57,11 +60,12 @@ loop-again c =
     let l = c .before .before .before .before .before .before .before in
     let s = l .before .before .before in
     let a = s .args in
-    let n : length (a .t5 .entries) ≡ buttonSlots = search (needs, entries-long) in
-    let w = rw (s .pre .1 .at (l .loop .i) past (omega arith)) at (c .before .before .put-pair .ensures) in (
+    let n : length (a .t5 .entries) ≡ buttonSlots = l .loop .inv .2 in
+    let w = rw (s .pre .2 .at (l .loop .i) past (omega arith)) at (c .before .before .put-pair .ensures) in (
       omega arith,
-      pairs-turn (a .letter) (a .list .now) (a .t5) (a .out .now) (a .at) (s .pre .2) (l .loop .i) _ _
+      pairs-turn (a .letter) (a .list .now) (a .t5) (a .out .now) (a .at) (s .pre .3) (l .loop .i) _ _
           (l .loop .inv .1) past (omega arith) (omega arith) _ _ w,
+      n,
     )
 
 same-length : tie.Need-same-length Inv-loop μ-loop
@@ -69,7 +73,7 @@ same-length c =
     let l = c .before in
     let s = l .before .before .before in
     let a = s .args in
-    pairs-length (a .letter) (a .list .now) (a .t5) (a .out .now) (a .at) (s .pre .2) (l .loop .i) _ _ (l .loop .inv .1)
+    pairs-length (a .letter) (a .list .now) (a .t5) (a .out .now) (a .at) (s .pre .3) (l .loop .i) _ _ (l .loop .inv .1)
 
 returns : tie.Need-returns Inv-loop μ-loop
 returns c =
