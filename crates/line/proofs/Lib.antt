@@ -18,6 +18,8 @@ pub mod SliceLaws
 pub mod ParserLaws
 pub mod TokenLaws
 pub mod ReadingLaws
+pub mod CallLaws
+pub mod ShapeLaws
 pub mod RefusalLaws
 -- what a built line reads as
 pub mod PairLaws

@@ -13,6 +13,8 @@ pub mod Parser
 pub mod Puts
 pub mod Reading
 pub mod Refusals
+pub mod Calls
+pub mod Shapes
 -- pairs in another order
 pub mod Effects
 pub mod Regrouping
