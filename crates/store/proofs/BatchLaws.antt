@@ -23,20 +23,20 @@ use Rattle.store.specs.Decode.{decode}
 use Rattle.store.specs.Held.{Held, file, bufferMax}
 use Rattle.map.specs.Bounds.{lineMax}
 use Rattle.map.specs.Search.{lf}
-use Rattle.store.specs.Inner.{Bytes, firstLine, known}
+use Rattle.store.specs.Inner.{Bytes, Good, firstLine, known}
 use Rattle.store.specs.Keys.{slots}
 use Rattle.store.specs.Lines.{linesOf, wanted}
 use Rattle.store.specs.Slots.{Table, Long, Tabled, Settles, Settled, Slotted, Loads, Files′, Filed, fits, full}
 use Rattle.store.specs.Slots.{FilesSlot, Comes, goes, stops}
 use Rattle.store.specs.Slots.{Slotting, ReachesSlot, Takes, onward, halted, Went, TakesLines, Encoded, Batches}
-use Rattle.store.proofs.BookLaws.{wanted-shape}
+use Rattle.store.proofs.BookLaws.{wanted-shape, Kept, keeps-reach}
 use Rattle.store.proofs.DecodeLaws.{laid, lines-of}
 use Rattle.store.proofs.InsertLaws.{reach-not, reach-long, reach-room}
 use Rattle.store.proofs.LineLaws.{cut-at, plus-minus}
 use Rattle.store.specs.declared.calls.Answer.the-variants as A
 
 -- the exits of `reach_slot`
-module _ (n m : ℕ) (t s : List ℕ) (a : Table) (heads next : List ℕ) (f : Fill) (at len : ℕ)
+module _ (i t s : List ℕ) (a : Table) (heads next : List ℕ) (f : Fill) (at len : ℕ)
     (inside : at + len ≤ length s) where
   abbrev l : List ℕ
   l = take len (drop at s)
@@ -45,40 +45,41 @@ module _ (n m : ℕ) (t s : List ℕ) (a : Table) (heads next : List ℕ) (f : F
   part-long = length-take-le len (drop at s) (omega (arith, length-drop at s))
 
   pub slot-not : wanted l ≡ Invalid
-      → ReachesSlot n m t s a heads next f l a heads next (record { on = true; answer = A.Done; fill = f })
-  slot-not e old hs w = goes hs (reach-not n m hs l e) refl w
+      → ReachesSlot i t s a heads next f l a heads next (record { on = true; answer = A.Done; fill = f })
+  slot-not e old hs w = goes hs (reach-not (length i) (length t) hs l e) refl w
 
   module _ (u : Uuid) (e : wanted l ≡ Parsed u) where
     pub slot-long : lineMax < len → (r : Step) → r ≡ record { on = false; answer = A.LineTooLong; fill = f }
-        → ReachesSlot n m t s a heads next f l a heads next r
-    slot-long p r er = subst (ReachesSlot n m t s a heads next f l a heads next) (sym er)
-        (λ old hs w. stops (reach-long n m hs l u e (omega (arith, part-long))) refl (w .tabled))
+        → ReachesSlot i t s a heads next f l a heads next r
+    slot-long p r er = subst (ReachesSlot i t s a heads next f l a heads next) (sym er)
+        (λ old hs w. stops (reach-long (length i) (length t) hs l u e (omega (arith, part-long))) refl (w .tabled))
 
     module _ (p : len ≤ lineMax) where
-      pub slot-files : (old : ℕ) (hs : List Held) → Slotted n m t s a heads next old f hs
-          → Files′ n m t s a heads next old f u at len hs
+      pub slot-files : (old : ℕ) (hs : List Held) → Slotted i t s a heads next old f hs
+          → Files′ i t s a heads next old f u at len hs
       slot-files old hs w =
-          record { slotted = w; inside = inside; shape = wanted-shape l u e (omega (arith, part-long)) }
+          let v = wanted-shape l u e (omega (arith, part-long)) in
+          record { slotted = w; inside = inside; shape = record { some = v .some; most = v .most } }
 
       module _ (a′ : Table) (heads′ next′ : List ℕ) (r : Fill)
-          (g : FilesSlot n m t a heads next f u at len a′ heads′ next′ r) where
+          (g : FilesSlot i t a heads next f u at len a′ heads′ next′ r) where
         pub slot-full : r .count ≡ f .count → (v : Step) → v ≡ record { on = false; answer = A.NoRoom; fill = f }
-            → ReachesSlot n m t s a heads next f l a′ heads′ next′ v
-        slot-full z v ev = subst (ReachesSlot n m t s a heads next f l a′ heads′ next′) (sym ev)
+            → ReachesSlot i t s a heads next f l a′ heads′ next′ v
+        slot-full z v ev = subst (ReachesSlot i t s a heads next f l a′ heads′ next′) (sym ev)
             (λ old hs w. go old hs (g s old hs (slot-files old hs w)))
           where
-            go : (old : ℕ) (hs : List Held) → Filed n m t s a′ heads′ next′ old f (under u l) hs r
-                → Comes n m t s a′ heads′ next′ old l hs (record { on = false; answer = A.NoRoom; fill = f })
+            go : (old : ℕ) (hs : List Held) → Filed i t s a′ heads′ next′ old f (under u l) hs r
+                → Comes i t s a′ heads′ next′ old l hs (record { on = false; answer = A.NoRoom; fill = f })
             go old hs (fits q c y) = absurd (omega (arith, c, z))
-            go old hs (full q c y) = stops (reach-room n m hs l u e (omega (arith, part-long)) false q) refl y
+            go old hs (full q c y) = stops (reach-room (length i) (length t) hs l u e (omega (arith, part-long)) false q) refl y
 
         pub slot-filed : (r .count ≡ f .count → ⊥)
-            → ReachesSlot n m t s a heads next f l a′ heads′ next′ (record { on = true; answer = A.Done; fill = r })
+            → ReachesSlot i t s a heads next f l a′ heads′ next′ (record { on = true; answer = A.Done; fill = r })
         slot-filed z old hs w = go (g s old hs (slot-files old hs w))
           where
-            go : Filed n m t s a′ heads′ next′ old f (under u l) hs r
-                → Comes n m t s a′ heads′ next′ old l hs (record { on = true; answer = A.Done; fill = r })
-            go (fits q c y) = goes (file (under u l) hs) (reach-room n m hs l u e (omega (arith, part-long)) true q)
+            go : Filed i t s a′ heads′ next′ old f (under u l) hs r
+                → Comes i t s a′ heads′ next′ old l hs (record { on = true; answer = A.Done; fill = r })
+            go (fits q c y) = goes (file (under u l) hs) (reach-room (length i) (length t) hs l u e (omega (arith, part-long)) true q)
                 refl y
             go (full q c y) = absurd (z c)
 
@@ -106,23 +107,24 @@ runs-line n m s at end l e line el hs c =
     (λ ks. insertLines n m ks (suc c) (linesOf (drop (at + (end + 1)) s)))) (sym el)
 
 -- the loop of `take_lines`: the lines before `at` are filed, and the rest has the whole's answer
-pub record Took (n m : ℕ) (t s : List ℕ) (a : Table) (heads next : List ℕ) (from old : ℕ) (f : Fill) (at count : ℕ)
+pub record Took (i t s : List ℕ) (a : Table) (heads next : List ℕ) (from old : ℕ) (f : Fill) (at count : ℕ)
     (hs : List Held) : Type 0 where
   pub ks : List Held
-  pub slotted : Slotted n m t s a heads next old f ks
-  pub run : (c : ℕ) → insertLines n m hs c (linesOf (drop from s)) ≡ insertLines n m ks (c + count)
+  pub slotted : Slotted i t s a heads next old f ks
+  pub keeps : Good (length i) (length t) hs → Good (length i) (length t) ks
+  pub run : (c : ℕ) → insertLines (length i) (length t) hs c (linesOf (drop from s)) ≡ insertLines (length i) (length t) ks (c + count)
       (linesOf (drop at s))
 
-pub record Taking (n m : ℕ) (t s : List ℕ) (a₀ : Table) (heads₀ next₀ : List ℕ) (from : ℕ) (f₀ : Fill) (a : Table)
+pub record Taking (i t s : List ℕ) (a₀ : Table) (heads₀ next₀ : List ℕ) (from : ℕ) (f₀ : Fill) (a : Table)
     (heads next : List ℕ) (f : Fill) (at count : ℕ) : Type 0 where
   pub within : at ≤ length s + 1
   pub counted : from + count ≤ at
   pub still : at ≡ from → f .count ≡ f₀ .count
-  pub took : (old : ℕ) (hs : List Held) → Slotted n m t s a₀ heads₀ next₀ old f₀ hs
-      → Took n m t s a heads next from old f at count hs
+  pub took : (old : ℕ) (hs : List Held) → Slotted i t s a₀ heads₀ next₀ old f₀ hs
+      → Took i t s a heads next from old f at count hs
 
-module _ (n m : ℕ) (t s : List ℕ) (a₀ : Table) (heads₀ next₀ : List ℕ) (from : ℕ) (f₀ : Fill) where
-  pub take-first : from ≤ length s + 1 → Taking n m t s a₀ heads₀ next₀ from f₀ a₀ heads₀ next₀ f₀ from 0
+module _ (i t s : List ℕ) (a₀ : Table) (heads₀ next₀ : List ℕ) (from : ℕ) (f₀ : Fill) where
+  pub take-first : from ≤ length s + 1 → Taking i t s a₀ heads₀ next₀ from f₀ a₀ heads₀ next₀ f₀ from 0
   take-first l = record {
     within = l;
     counted = omega arith;
@@ -130,14 +132,15 @@ module _ (n m : ℕ) (t s : List ℕ) (a₀ : Table) (heads₀ next₀ : List �
     took = λ old hs w. record {
       ks = hs;
       slotted = w;
+      keeps = λ g. g;
       run = λ c. let z : c ≡ c + 0 = omega arith in
-          ap (λ (k : ℕ). insertLines n m hs k (linesOf (drop from s))) z;
+          ap (λ (k : ℕ). insertLines (length i) (length t) hs k (linesOf (drop from s))) z;
     };
   }
 
   module _ (a : Table) (heads next : List ℕ) (f : Fill) (at count : ℕ)
-      (w : Taking n m t s a₀ heads₀ next₀ from f₀ a heads next f at count) where
-    pub taken : Slotting n m t s a₀ heads₀ next₀ f₀ → Slotting n m t s a heads next f
+      (w : Taking i t s a₀ heads₀ next₀ from f₀ a heads next f at count) where
+    pub taken : Slotting i t s a₀ heads₀ next₀ f₀ → Slotting i t s a heads next f
     taken p = (p .0, (w .took (p .0) (p .1 .0) (p .1 .1) .ks, w .took (p .0) (p .1 .0) (p .1 .1) .slotted))
 
     pub first-at : from ≤ at
@@ -146,46 +149,46 @@ module _ (n m : ℕ) (t s : List ℕ) (a₀ : Table) (heads₀ next₀ : List �
     -- the insert goes on from `at`
     pub take-on : (f₀ .count < slots → from < length s → from < at) → (r : Walked)
         → r ≡ record { on = true; answer = A.Done; at = at; count = count; filled = f .count }
-        → TakesLines n m t s a₀ heads₀ next₀ from f₀ a r × Went s from (f₀ .count) r
+        → TakesLines i t s a₀ heads₀ next₀ from f₀ a r × Went s from (f₀ .count) r
     take-on g r e =
-        subst (λ (v : Walked). TakesLines n m t s a₀ heads₀ next₀ from f₀ a v × Went s from (f₀ .count) v) (sym e) (
+        subst (λ (v : Walked). TakesLines i t s a₀ heads₀ next₀ from f₀ a v × Went s from (f₀ .count) v) (sym e) (
           λ old hs p.
-              let x : Took n m t s a heads next from old f at count hs = w .took old hs p in
-              onward (x .ks) refl (x .run) (x .slotted .tabled),
+              let x : Took i t s a heads next from old f at count hs = w .took old hs p in
+              onward (x .ks) refl (x .run) (x .keeps) (x .slotted .tabled),
           record { within = w .within; counted = w .counted; moved = λ p q o. g p q },
         )
 
     -- one line on
     module _ (l : at < length s) (end : ℕ) (e : end ≡ firstOf lf (drop at s)) (line : List ℕ)
         (el : line ≡ firstLine (drop at s)) (r : Step) (a′ : Table) (heads′ next′ : List ℕ)
-        (g : ReachesSlot n m t s a heads next f line a′ heads′ next′ r) where
+        (g : ReachesSlot i t s a heads next f line a′ heads′ next′ r) where
       stopped-at : r .on ≡ false
-          → TakesLines n m t s a₀ heads₀ next₀ from f₀ a′
+          → TakesLines i t s a₀ heads₀ next₀ from f₀ a′
           (record { on = false; answer = r .answer; at = at; count = count; filled = r .fill .count })
       stopped-at z old hs p = go (w .took old hs p)
         where
-          go : Took n m t s a heads next from old f at count hs
-              → Takes n m s from hs
+          go : Took i t s a heads next from old f at count hs
+              → Takes (length i) (length t) s from hs
               (record { on = false; answer = r .answer; at = at; count = count; filled = r .fill .count })
-              (Tabled n m t s a′ old (r .fill .count))
+              (Tabled i t s a′ old (r .fill .count))
           go x = by (g old (x .ks) (x .slotted))
             where
-              by : Comes n m t s a′ heads′ next′ old line (x .ks) r
-                  → Takes n m s from hs
+              by : Comes i t s a′ heads′ next′ old line (x .ks) r
+                  → Takes (length i) (length t) s from hs
                   (record { on = false; answer = r .answer; at = at; count = count; filled = r .fill .count })
-                  (Tabled n m t s a′ old (r .fill .count))
+                  (Tabled i t s a′ old (r .fill .count))
               by (goes js q o y) =
                   let v : _≡_ {A = Bool} true false = sym o ∙ z in let k : _≡_ {A = ℕ} 0 1 = cc in absurd (omega arith)
               by (stops q o y) = halted (x .ks) refl
-                  (λ c. x .run c ∙ runs-line n m s at end l e line el (x .ks) (c + count)
+                  (λ c. x .run c ∙ runs-line (length i) (length t) s at end l e line el (x .ks) (c + count)
                   ∙ ap (λ (v : Reached). onReached v (λ b. insertTurn (x .ks) b (c + count))
-                  (λ js. insertLines n m js (suc (c + count)) (linesOf (drop (at + (end + 1)) s)))) q) y
+                  (λ js. insertLines (length i) (length t) js (suc (c + count)) (linesOf (drop (at + (end + 1)) s)))) q) (x .keeps) y
 
       pub take-off : r .on ≡ false → (v : Walked)
           → v ≡ record { on = false; answer = r .answer; at = at; count = count; filled = r .fill .count }
-          → TakesLines n m t s a₀ heads₀ next₀ from f₀ a′ v × Went s from (f₀ .count) v
+          → TakesLines i t s a₀ heads₀ next₀ from f₀ a′ v × Went s from (f₀ .count) v
       take-off z v ev =
-          subst (λ (v : Walked). TakesLines n m t s a₀ heads₀ next₀ from f₀ a′ v × Went s from (f₀ .count) v) (sym ev) (
+          subst (λ (v : Walked). TakesLines i t s a₀ heads₀ next₀ from f₀ a′ v × Went s from (f₀ .count) v) (sym ev) (
             stopped-at z,
             record {
               within = w .within;
@@ -195,7 +198,7 @@ module _ (n m : ℕ) (t s : List ℕ) (a₀ : Table) (heads₀ next₀ : List �
           )
 
       pub take-turn : r .on ≡ true → at + end ≤ length s
-          → Taking n m t s a₀ heads₀ next₀ from f₀ a′ heads′ next′ (r .fill) (at + (end + 1)) (count + 1)
+          → Taking i t s a₀ heads₀ next₀ from f₀ a′ heads′ next′ (r .fill) (at + (end + 1)) (count + 1)
       take-turn z b = record {
         within = omega arith;
         counted = omega (arith, w .counted);
@@ -203,55 +206,56 @@ module _ (n m : ℕ) (t s : List ℕ) (a₀ : Table) (heads₀ next₀ : List �
         took = λ old hs p. go old hs (w .took old hs p);
       }
         where
-          go : (old : ℕ) (hs : List Held) → Took n m t s a heads next from old f at count hs
-              → Took n m t s a′ heads′ next′ from old (r .fill) (at + (end + 1)) (count + 1) hs
+          go : (old : ℕ) (hs : List Held) → Took i t s a heads next from old f at count hs
+              → Took i t s a′ heads′ next′ from old (r .fill) (at + (end + 1)) (count + 1) hs
           go old hs x = by (g old (x .ks) (x .slotted))
             where
-              by : Comes n m t s a′ heads′ next′ old line (x .ks) r
-                  → Took n m t s a′ heads′ next′ from old (r .fill) (at + (end + 1)) (count + 1) hs
+              by : Comes i t s a′ heads′ next′ old line (x .ks) r
+                  → Took i t s a′ heads′ next′ from old (r .fill) (at + (end + 1)) (count + 1) hs
               by (stops q o y) =
                   let v : _≡_ {A = Bool} true false = sym z ∙ o in let k : _≡_ {A = ℕ} 0 1 = cc in absurd (omega arith)
               by (goes js q o y) = record {
                 ks = js;
                 slotted = y;
+                keeps = λ b. subst (Kept (length i) (length t)) q (keeps-reach (length i) (length t) (x .ks) (x .keeps b) line);
                 run = λ c.
                     let more : suc (c + count) ≡ c + (count + 1) = omega arith in
-                    x .run c ∙ runs-line n m s at end l e line el (x .ks) (c + count)
+                    x .run c ∙ runs-line (length i) (length t) s at end l e line el (x .ks) (c + count)
                     ∙ ap (λ (v : Reached). onReached v (λ b. insertTurn (x .ks) b (c + count))
-                    (λ ks. insertLines n m ks (suc (c + count)) (linesOf (drop (at + (end + 1)) s)))) q
-                    ∙ ap (λ (k : ℕ). insertLines n m js k (linesOf (drop (at + (end + 1)) s))) more;
+                    (λ ks. insertLines (length i) (length t) ks (suc (c + count)) (linesOf (drop (at + (end + 1)) s)))) q
+                    ∙ ap (λ (k : ℕ). insertLines (length i) (length t) js k (linesOf (drop (at + (end + 1)) s))) more;
               }
 
 -- the end of a batch
 takes-held : {n m from : ℕ} {s : List ℕ} {hs : List Held} {r : Walked} {P : List Held → Type 0}
     → Takes n m s from hs r P → (ks : List Held) × P ks
-takes-held (onward ks o run p) = (ks, p)
-takes-held (halted ks o run p) = (ks, p)
+takes-held (onward ks o run g p) = (ks, p)
+takes-held (halted ks o run g p) = (ks, p)
 
 module _ (i t s : List ℕ) (a : Table) (heads next : List ℕ) (f : Fill) (loaded : Loads i a heads next f) where
-  pub loads-held : known (decode i t) ≡ true → Slotting (length i) (length t) t s a heads next f
+  pub loads-held : known (decode i t) ≡ true → Slotting i t s a heads next f
   loads-held k =
       let q : (hs : List Held) × (decode i t ≡ some hs) = lines-of (decode i t) k in
       (f .count, (q .0, loaded t s (q .0) (q .1)))
 
   module _ (from : ℕ) (b : Table) (r : Walked)
-      (takes : TakesLines (length i) (length t) t s a heads next from f b r) where
-    pub batch-settles : known (decode i t) ≡ true → Settles i t s b (f .count) (r .filled)
+      (takes : TakesLines i t s a heads next from f b r) where
+    pub batch-settles : known (decode i t) ≡ true → Settles i t s b f (r .filled)
     batch-settles k =
         let q : (hs : List Held) × (decode i t ≡ some hs) = lines-of (decode i t) k in
         takes-held (takes (f .count) (q .0) (loaded t s (q .0) (q .1)))
 
-    pub batch-end : (i′ t′ : List ℕ) → Settled i t s b (f .count) (r .filled) i′ t′ → Batches i t s from r i′ t′
+    pub batch-end : (i′ t′ : List ℕ) → Settled i t s b f (r .filled) i′ t′ → Batches i t s from r i′ t′
     batch-end i′ t′ w hs d = go (takes (f .count) hs (loaded t s hs d))
       where
-        held : (ks : List Held) → Tabled (length i) (length t) t s b (f .count) (r .filled) ks
+        held : (ks : List Held) → Tabled i t s b (f .count) (r .filled) ks
             → Encoded (length i) (length t) i′ t′ ks
-        held ks p = record { good = p .good; index = w ks p .0; text = w ks p .1 }
+        held ks p = record { index = w ks p .0; text = w ks p .1 }
 
-        go : Takes (length i) (length t) s from hs r (Tabled (length i) (length t) t s b (f .count) (r .filled))
+        go : Takes (length i) (length t) s from hs r (Tabled i t s b (f .count) (r .filled))
             → Takes (length i) (length t) s from hs r (Encoded (length i) (length t) i′ t′)
-        go (onward ks o run p) = onward ks o run (held ks p)
-        go (halted ks o run p) = halted ks o run (held ks p)
+        go (onward ks o run g p) = onward ks o run g (held ks p)
+        go (halted ks o run g p) = halted ks o run g (held ks p)
 
 pub went-from : (s : List ℕ) (from f : ℕ) (r : Walked) → f < slots → Went s from f r → Went s from 0 r
 went-from s from f r l w =
@@ -270,7 +274,7 @@ empty-long = record {
   lens = length-replicate {A = ℕ} slots 0;
 }
 
-pub index-most : (i t : List ℕ) → Bytes i → known (decode i t) ≡ true → length i ≤ bufferMax
-index-most i t b k =
+pub both-most : (i t : List ℕ) → Bytes i → known (decode i t) ≡ true → (length i ≤ bufferMax) × (length t ≤ bufferMax)
+both-most i t b k =
     let q : (hs : List Held) × (decode i t ≡ some hs) = lines-of (decode i t) k in
-    laid i t (q .0) b (q .1) .index
+    (laid i t (q .0) b (q .1) .index, laid i t (q .0) b (q .1) .text)

@@ -8,7 +8,7 @@ use native.Mathlib.Nat.{le-of-suc-le-suc, add-assoc}
 use native.Mathlib.Numerals.{add-one, add-two}
 use native.Mathlib.Omega.{arith}
 use lib.ListN.{length, set, getD, take, drop, replicate, length-append, length-replicate, length-drop, length-take}
-use lib.ListN.{drop-of-length-le}
+use lib.ListN.{drop-of-length-le, take-append-drop}
 use lib.Seq.{getD-drop, take-all, drop-drop, drop-cons, take-at, length-take-le, drop-append-add}
 use borrow.Author.Tests.{ne-eqb}
 use borrow.Rule.Slice.PartMut.{putMid, midOf}
@@ -75,15 +75,6 @@ gap-turn d p g i v fits e l w =
     ∙ paint-rest i d s le (i + g) (omega arith) ∙ sym (gap-byte d g i) in
     (omega arith, ap (λ (q : List ℕ). set q i v) e ∙ ap (set (take i s ++ drop i d) i) v-is ∙ paint-more i d s le here)
 
--- a part that was lent from a on, its gap closed
-pub tail-gap : (a g : ℕ) (d ys : List ℕ) → ys ≡ drop g (midOf a (length d - a) d) ++ replicate g 0
-    → putMid a (length d - a) d ys ≡ take a d ++ (drop (a + g) d ++ replicate g 0)
-tail-gap a g d ys e =
-    tail-back a d ys
-    ∙ ap (λ (q : List ℕ). take a d ++ q)
-    (e ∙ ap (λ (q : List ℕ). drop g q ++ replicate g 0) (tail-part a d)
-    ∙ ap (λ (q : List ℕ). q ++ replicate g 0) (drop-drop g a d))
-
 set-two : (k : ℕ) (d : List ℕ) (a b : ℕ) → k + 2 ≤ length d
     → set (set d k a) (suc k) b ≡ take k d ++ (a ∷ b ∷ drop (suc (suc k)) d)
 set-two k [] a b l = absurd (omega arith)
@@ -126,6 +117,27 @@ written-next l at v w b e h =
     ∙ ap (λ (m : ℕ). at + m) (sym (length-append v w))))
     ∙ append-assoc (take at l) v (w ++ drop (at + length (v ++ w)) l)
     ∙ ap (λ (x : List ℕ). take at l ++ x) (sym (append-assoc v w (drop (at + length (v ++ w)) l)))
+
+-- a part between two places was lent, and set to 0
+pub between-zero : (l : List ℕ) (from to : ℕ) (ys : List ℕ) → from ≤ to
+    → ys ≡ replicate (length (midOf from (to - from) l)) 0 → to ≤ length l
+    → putMid from (to - from) l ys ≡ written l from (replicate (to - from) 0)
+unfolding written
+between-zero l from to ys h e b =
+    let n : length (midOf from (to - from) l) ≡ to - from
+    = length-take-le (to - from) (drop from l) (rw (length-drop from l) (omega arith)) in
+    let m : drop (to - from) (drop from l) ≡ drop (from + length (replicate {A = ℕ} (to - from) 0)) l
+    = drop-drop (to - from) from l
+    ∙ ap (λ (k : ℕ). drop (from + k) l) (sym (length-replicate {A = ℕ} (to - from) 0)) in
+    ap₂ (λ (x y : List ℕ). take from l ++ (x ++ y)) (e ∙ ap (λ (k : ℕ). replicate {A = ℕ} k 0) n) m
+
+pub between-none : (l : List ℕ) (from to : ℕ) → to ≤ from → l ≡ written l from (replicate (to - from) 0)
+unfolding written
+between-none l from to h =
+    let z : to - from ≡ 0 = omega arith in
+    let n : from ≡ from + 0 = omega arith in
+    sym (ap (λ (k : ℕ). take from l ++ (replicate {A = ℕ} k 0 ++ drop (from + length (replicate {A = ℕ} k 0)) l)) z
+    ∙ ap (λ (k : ℕ). take from l ++ drop k l) (sym n) ∙ take-append-drop from l)
 
 -- what is written at a place, by the part from there on
 pub written-part : (l : List ℕ) (at : ℕ) (v : List ℕ) → written l at v ≡ take at l ++ (v ++ drop (length v) (drop at l))

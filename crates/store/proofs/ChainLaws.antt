@@ -15,7 +15,10 @@ use borrow.Author.Count.{below-more}
 use borrow.Author.Tests.{ltb-true, ltb-false, eqb-true, eqb-false, eq-eqb, ne-eqb}
 use Rattle.store.specs.Held.{Key, sameKey}
 use Rattle.store.specs.Keys.{slots, bucket, AllApart, Twice, NotIn, Kin, Last, Linked, Headed}
-use Rattle.store.specs.Keys.{Chained, Seeks, Sought}
+use Rattle.store.specs.Keys.{Chained, Seeks, Sought, Says, Tells, seekSays, toldOf}
+use Rattle.store.specs.declared.chains.Verdict.{Verdict}
+use Rattle.store.specs.declared.chains.Verdict.the-variants as Vd
+use Rattle.text.specs.Bytes.{pick}
 use Rattle.store.proofs.HeldLaws.{same-refl, same-eq}
 
 pub unlike : (a b : Key) → sameKey a b ≡ false → a ≡ b → ⊥
@@ -59,19 +62,26 @@ chained-none K = record {
   next-long = length-replicate {A = ℕ} slots 0;
 }
 
+-- what the chain says, all numbers below k say
+pub chain-sought : (K : ℕ → Key) (k c : ℕ) → Last K (bucket (K k)) k c → (r : ℕ) → Seeks K k c r → Sought K k r
+chain-sought K k c last r q = record { clear = λ l j a b e. go l j a b e (ltb j c) refl; hit = q .hit }
+  where
+    go : r ≤ k → (j : ℕ) → r ≤ j → j < k → K j ≡ K k → (t : Bool) → ltb j c ≡ t → ⊥
+    go l j a b e true t = q .clear l j a (ltb-true j c t) e
+    go l j a b e false t = last .near j (ltb-false j c t) b (ap bucket e)
+
+pub chain-from : (K : ℕ → Key) (next : List ℕ) (n k c : ℕ) → Linked K next n → k < n → c ≡ getD next k 0
+    → Last K (bucket (K k)) k c
+chain-from K next n k c links l e = subst (Last K (bucket (K k)) k) (sym e) (links k l)
+
 -- number k, of bucket h, is linked to c, the head of its chain
 module _ (K : ℕ → Key) (heads next : List ℕ) (k h c : ℕ) (s : Chained K heads next k) (hh : h ≡ bucket (K k))
     (hl : h < slots) (hc : c ≡ getD heads h 0) (kl : k < slots) where
   pub here : Last K (bucket (K k)) k c
   here = subst (λ (b : ℕ). Last K b k c) hh (subst (Last K h k) (sym hc) (s .ends h hl))
 
-  -- what the chain says, all numbers below k say
   pub sought : (r : ℕ) → Seeks K k c r → Sought K k r
-  sought r q = record { clear = λ l j a b e. go l j a b e (ltb j c) refl; hit = q .hit }
-    where
-      go : r ≤ k → (j : ℕ) → r ≤ j → j < k → K j ≡ K k → (t : Bool) → ltb j c ≡ t → ⊥
-      go l j a b e true t = q .clear l j a (ltb-true j c t) e
-      go l j a b e false t = here .near j (ltb-false j c t) b (ap bucket e)
+  sought r q = chain-sought K k c here r q
 
   module _ (v : ℕ) (hv : v ≡ k + 1) where
     links-turn : Linked K (set next k c) (k + 1)
@@ -131,3 +141,37 @@ same-unless a b n = sym (ap (λ (t : Bool). t && eqb (a .low) (b .low)) (ne-eqb 
 pub same-when : (a b : Key) → a .high ≡ b .high → eqb (a .low) (b .low) ≡ sameKey a b
 unfolding sameKey
 same-when a b e = sym (ap (λ (t : Bool). t && eqb (a .low) (b .low)) (eq-eqb (a .high) (b .high) e))
+
+-- ---- what is told of the first n
+
+pub says-turn : (K : ℕ → Key) (n r : ℕ) (v : Verdict) → Says K n v → Sought K n r → Says K (n + 1) (toldOf v n r)
+says-turn K n r Vd.Unsure s q = tt
+says-turn K n r Vd.Twice s q =
+    record { a = s .a; b = s .b; less = s .less; below = omega (arith, s .below); same = s .same }
+says-turn K n r Vd.Apart s q = go (ltb n r) refl (eqb r 0) refl
+  where
+    go : (b : Bool) → ltb n r ≡ b → (c : Bool) → eqb r 0 ≡ c
+        → Says K (n + 1) (pick b Vd.Unsure (pick c Vd.Apart Vd.Twice))
+    go true p c z = tt
+    go false p true z = let e : r ≡ 0 = eqb-true r 0 z in apart-turn K n r s q (omega arith)
+    go false p false z =
+        let e : r ≡ 0 → ⊥ = eqb-false r 0 z in
+        found-twice K (n + 1) n r (omega arith) q (ltb-false n r p) (omega arith)
+
+-- other keys from n on
+pub says-agree : (K K′ : ℕ → Key) (n : ℕ) (v : Verdict) → ((k : ℕ) → k < n → K k ≡ K′ k) → Says K n v → Says K′ n v
+says-agree K K′ n Vd.Unsure f s = tt
+says-agree K K′ n Vd.Twice f s = record {
+  a = s .a;
+  b = s .b;
+  less = s .less;
+  below = s .below;
+  same = sym (f (s .a) (omega (arith, s .less, s .below))) ∙ s .same ∙ f (s .b) (s .below);
+}
+says-agree K K′ n Vd.Apart f s = λ a b l m e. s a b l m (f a (omega arith) ∙ e ∙ sym (f b m))
+
+pub tells-apart : (K : ℕ → Key) (n : ℕ) → AllApart K n → Tells K n true
+tells-apart K n s = (λ e. s, λ (e : _≡_ {A = Bool} true false). let z : _≡_ {A = ℕ} 0 1 = cc in absurd (omega arith))
+
+pub tells-twice : (K : ℕ → Key) (n : ℕ) → Twice K n → Tells K n false
+tells-twice K n s = (λ (e : _≡_ {A = Bool} false true). let z : _≡_ {A = ℕ} 0 1 = cc in absurd (omega arith), λ e. s)

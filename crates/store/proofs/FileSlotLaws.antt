@@ -16,16 +16,17 @@ use borrow.Author.Tests.{eqb-true, eqb-false, eq-eqb, ne-eqb, ltb-true, ltb-fals
 use Rattle.text.specs.Bytes.{pick}
 use Rattle.store.specs.declared.slots.Fill.{Fill}
 use Rattle.store.specs.Book.{under}
+use Rattle.store.specs.Decode.{decode}
 use Rattle.store.specs.Held.{Key, Held, sameKey, strike, file, bufferMax}
-use Rattle.store.specs.Inner.{Good, room, Sized, sizeOf, sizes}
+use Rattle.store.specs.Inner.{room, Sized, sizeOf, sizes}
 use Rattle.store.specs.Keys.{slots, keyAt, Chained, Sought}
-use Rattle.store.specs.Layout.{Shape, recordBytes, texts}
+use Rattle.store.specs.Layout.{recordBytes, texts}
 use Rattle.store.specs.Slots.{living, Table, more, sourceOf, heldAt, slotAt, Long, Tabled, Slotted, lenBefore}
-use Rattle.store.specs.Slots.{struckBefore, Ends, Files′, Filed, fits, full}
-use Rattle.store.proofs.BookLaws.{keeps-file}
+use Rattle.store.specs.Slots.{Begins, struckBefore, Ends, Files′, Filed, fits, full}
 use Rattle.store.proofs.FilingLaws.{Counts, index-full, text-full, both-fit, new-size, new-text}
 use Rattle.store.proofs.HeldLaws.{same-refl, same-eq}
 use Rattle.store.proofs.RecordLaws.{size-move}
+use Rattle.store.proofs.RoomLaws.{room-index, room-text}
 use Rattle.store.proofs.RowLaws.{sizes-append, sizes-move, sizes-cons}
 use Rattle.store.proofs.RowLaws.{sizes-none, texts-sum, texts-cons, texts-none}
 use Rattle.store.proofs.SlotLaws.{key-other, key-same, living-same, strike-living, living-less, living-most}
@@ -51,7 +52,7 @@ strike-gone u h true e = refl
 strike-gone u h false e = ap (λ (c : Bool). pick c [] (h ∷ [])) e
 
 module _ (i t s : List ℕ) (a : Table) (heads next : List ℕ) (old : ℕ) (f : Fill) (u : Key) (start len : ℕ)
-    (hs : List Held) (w : Files′ (length i) (length t) t s a heads next old f u start len hs) (cl : f .count < slots)
+    (hs : List Held) (w : Files′ i t s a heads next old f u start len hs) (cl : f .count < slots)
   where
     abbrev c : ℕ
     c = f .count
@@ -68,7 +69,7 @@ module _ (i t s : List ℕ) (a : Table) (heads next : List ℕ) (old : ℕ) (f :
     abbrev S : ℕ → List Held
     S k = slotAt t s a old k
 
-    x : Slotted (length i) (length t) t s a heads next old f hs
+    x : Slotted i t s a heads next old f hs
     x = w .slotted
 
     key-before : (k : ℕ) → k < f .count → K′ k ≡ K k
@@ -88,7 +89,7 @@ module _ (i t s : List ℕ) (a : Table) (heads next : List ℕ) (old : ℕ) (f :
     slot-before k l = slot-other t s a old (f .count) u start len k (λ z. omega arith)
 
     -- without room: one number more is written down, and not counted
-    pub tabled-more : Tabled (length i) (length t) t s a′ old (f .count) hs
+    pub tabled-more : Tabled i t s a′ old (f .count) hs
     tabled-more = record {
       is = x .tabled .is ∙ living-same S (slotAt t s a′ old) (f .count) (λ k l. sym (slot-before k l));
       inside = λ k l. omega (arith, x .tabled .inside k l, len-other k l, start-other k l);
@@ -99,6 +100,9 @@ module _ (i t s : List ℕ) (a : Table) (heads next : List ℕ) (old : ℕ) (f :
         ap (λ (q : List Held). length (texts q)) (living-same (slotAt t s a′ old) S k
             (λ j p. slot-before j (omega (arith, x .tabled .olds)))),
       );
+      stands = λ k l z. subst (λ (v : List Held). Begins (decode i t) v)
+          (living-same S (slotAt t s a′ old) k (λ j p. sym (slot-before j (omega (arith, x .tabled .olds)))))
+          (x .tabled .stands k l (λ j p e. z j p (len-other j (omega (arith, x .tabled .olds)) ∙ e)));
       olds = x .tabled .olds;
       most = x .tabled .most;
       long = more-long t s a old (f .count) u start len (x .tabled .long);
@@ -393,7 +397,7 @@ module _ (i t s : List ℕ) (a : Table) (heads next : List ℕ) (old : ℕ) (f :
                 (λ c z. y .once j c (sym (key-before j c) ∙ z ∙ key-new)) k v l o
 
             pub slotted-more : (heads′ next′ : List ℕ) → Chained K′ heads′ next′ (f .count + 1)
-                → Slotted (length i) (length t) t s a″ heads′ next′ old
+                → Slotted i t s a″ heads′ next′ old
                 (record { count = f .count + 1; end = e; used = f .used - had + len }) (file h hs)
             slotted-more heads′ next′ ch = record {
               tabled = record {
@@ -415,6 +419,10 @@ module _ (i t s : List ℕ) (a : Table) (heads next : List ℕ) (old : ℕ) (f :
                   start-other k (omega (arith, x .tabled .olds)),
                   living-most S S″ k (λ j z. slot-least j (omega (arith, x .tabled .olds))),
                 );
+                stands = λ k l z. subst (λ (v : List Held). Begins (decode i t) v)
+                    (living-same S S″ k (λ j p. sym (intact-slot j (omega (arith, x .tabled .olds)) (z j p))))
+                    (x .tabled .stands k l
+                    (λ j p e. z j p (intact j (omega (arith, x .tabled .olds)) (z j p) ∙ e)));
                 olds = omega (arith, x .tabled .olds);
                 most = omega arith;
                 long = record {
@@ -423,7 +431,10 @@ module _ (i t s : List ℕ) (a : Table) (heads next : List ℕ) (old : ℕ) (f :
                   starts = more-long t s a old (f .count) u start len (x .tabled .long) .starts;
                   lens = y .long;
                 };
-                good = keeps-file (length i) (length t) h hs (x .tabled .good) (w .shape) has-room;
+                good = record {
+                  index = room-index (length i) (length t) h hs has-room;
+                  text = room-text (length i) (length t) h hs has-room;
+                };
               };
               older = older′;
               chained = ch;
@@ -432,6 +443,13 @@ module _ (i t s : List ℕ) (a : Table) (heads next : List ℕ) (old : ℕ) (f :
               limits = x .limits;
             }
               where
+                -- a number that is not struck out gives what it gave
+                intact : (j : ℕ) → j < f .count → (getD lens j 0 ≡ 0 → ⊥) → getD lens j 0 ≡ getD (a .lens) j 0
+                intact j l n = ⊎-elim (λ e. absurd (n e)) (λ e. e) (y .either j l)
+
+                intact-slot : (j : ℕ) → j < f .count → (getD lens j 0 ≡ 0 → ⊥) → S″ j ≡ S j
+                intact-slot j l n = slot-lens t s a′ old lens j (intact j l n ∙ sym (len-other j l)) ∙ slot-before j l
+
                 shorter : (k : ℕ) → k < f .count → getD lens k 0 ≤ getD (a .lens) k 0
                 shorter k l = ⊎-elim (λ g. omega (arith, g)) (λ g. omega (arith, g)) (y .either k l)
 
@@ -453,29 +471,29 @@ module _ (i t s : List ℕ) (a : Table) (heads next : List ℕ) (old : ℕ) (f :
 
       module _ (e : ℕ) (ee : Ends (f .end) had u e) (heads′ next′ : List ℕ) where
         no-room : room (length i) (length t) (under u (take len (drop start s))) hs ≡ false
-            → Filed (length i) (length t) t s b heads′ next′ old f (under u (take len (drop start s))) hs f
-        no-room z = full z refl (subst (λ (v : Table). Tabled (length i) (length t) t s v old (f .count) hs) (sym eb)
+            → Filed i t s b heads′ next′ old f (under u (take len (drop start s))) hs f
+        no-room z = full z refl (subst (λ (v : Table). Tabled i t s v old (f .count) hs) (sym eb)
             tabled-more)
 
         pub files-index : length i < e
-            → Filed (length i) (length t) t s b heads′ next′ old f (under u (take len (drop start s))) hs f
+            → Filed i t s b heads′ next′ old f (under u (take len (drop start s))) hs f
         files-index l = no-room (full-index had _ (goes-out _ refl) e ee l)
 
         pub files-text : length t < f .used - had + len
-            → Filed (length i) (length t) t s b heads′ next′ old f (under u (take len (drop start s))) hs f
+            → Filed i t s b heads′ next′ old f (under u (take len (drop start s))) hs f
         files-text l = no-room (full-text had _ (goes-out _ refl) e ee l)
 
         pub files-fit : e ≤ length i → f .used - had + len ≤ length t
             → Chained (keyAt (b .highs) (b .lows)) heads′ next′ (f .count + 1)
             → (lens : List ℕ) → lens ≡ struckBefore (b .lens) r
-            → Filed (length i) (length t) t s
+            → Filed i t s
             (record { highs = b .highs; lows = b .lows; starts = b .starts; lens = lens }) heads′ next′ old f
             (under u (take len (drop start s))) hs
             (record { count = f .count + 1; end = e; used = f .used - had + len })
         files-fit p q ch lens el =
             let y : Struck had lens = goes-out lens el in
             fits (has-room had lens y e ee p q) refl
-            (subst (λ (v : Table). Slotted (length i) (length t) t s
+            (subst (λ (v : Table). Slotted i t s
             (record { highs = v .highs; lows = v .lows; starts = v .starts; lens = lens }) heads′ next′ old
             (record { count = f .count + 1; end = e; used = f .used - had + len })
             (file (under u (take len (drop start s))) hs)) (sym eb)

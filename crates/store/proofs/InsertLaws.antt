@@ -172,9 +172,9 @@ module _ (i₀ t₀ s i t : List ℕ) (at count : ℕ) (w : Inserting i₀ t₀ 
         go : (hs₀ : List Held) → decode i₀ t₀ ≡ some hs₀ → (x : Inserts i₀ t₀ s i t at count hs₀) → By (x .hs)
             → record { answer = record { answer = r .answer; count = count + r .count }; index = i′; text = t′ }
             ≡ storeInsert i₀ t₀ s
-        go hs₀ d x (onward ks o run p) =
+        go hs₀ d x (onward ks o run g p) =
             let v : _≡_ {A = Bool} true false = sym o ∙ n in let k : _≡_ {A = ℕ} 0 1 = cc in absurd (omega arith)
-        go hs₀ d x (halted ks o run p) =
+        go hs₀ d x (halted ks o run g p) =
             insert-done i₀ t₀ s hs₀ d u (insertTurn ks (r .answer) (count + r .count)) (x .run ∙ run count) i′ t′
             (p .index) (p .text)
 
@@ -197,7 +197,7 @@ module _ (i₀ t₀ s i t : List ℕ) (at count : ℕ) (w : Inserting i₀ t₀ 
         next hs₀ x = go (batch hs₀ x)
           where
             go : By (x .hs) → Inserts i₀ t₀ s i′ t′ (r .at) (count + r .count) hs₀
-            go (halted ks o run p) =
+            go (halted ks o run g p) =
                 let v : _≡_ {A = Bool} true false = sym n ∙ o in let k : _≡_ {A = ℕ} 0 1 = cc in absurd (omega arith)
-            go (onward ks o run p) =
-                record { hs = ks; good = p .good; index = p .index; text = p .text; run = x .run ∙ run count }
+            go (onward ks o run g p) =
+                record { hs = ks; good = g (x .good); index = p .index; text = p .text; run = x .run ∙ run count }

@@ -1,4 +1,4 @@
--- The lines of a sound store by number, as `load` writes them down one behind the other.
+-- The lines of a sound store by number, as `survey` writes them down one behind the other.
 -- Assumes nothing.
 use mathlib.Core.Bool.{Bool, true, false}
 use mathlib.Core.List.{List, [], _∷_, _++_, append-assoc, append-nil}
@@ -21,7 +21,7 @@ use Rattle.store.specs.Held.{Key, Held, distinct, bufferMax}
 use Rattle.store.specs.Inner.{Bytes, Lies, sizeOf, sizes}
 use Rattle.store.specs.Keys.{slots, keyAt, Chained}
 use Rattle.store.specs.Layout.{Shapes, texts}
-use Rattle.store.specs.Slots.{living, Table, more, sourceOf, slotAt, Long, Tabled, Slotted, Loads}
+use Rattle.store.specs.Slots.{living, Table, more, sourceOf, slotAt, Long, Tabled, Extends, Slotted, Loads}
 use Rattle.store.proofs.DecodeLaws.{Laid, laid, good}
 use Rattle.store.proofs.HeldLaws.{texts-append}
 use Rattle.store.proofs.OnceLaws.{Listing, list-first, list-end, list-turn, twice-once}
@@ -29,6 +29,7 @@ use Rattle.store.proofs.RecordLaws.{head-least, size-move}
 use Rattle.store.proofs.RowLaws.{Rest, first, Onward, ended, stands, onward, size-not, next-within}
 use Rattle.store.proofs.RowLaws.{sizes-append, sizes-cons, sizes-none}
 use Rattle.store.proofs.RowLaws.{texts-sum, texts-cons, texts-none, texts-first}
+use Rattle.store.proofs.LivingLaws.{living-front}
 use Rattle.store.proofs.SlotLaws.{living-same, slot-other, slot-new, more-long}
 
 -- the first n lines are written down, and the rest of the lines lies from `at` on
@@ -51,6 +52,9 @@ pub record Loading (i : List ℕ) (at : ℕ) (a : Table) (heads next : List ℕ)
   pub chained : Chained (keyAt (a .highs) (a .lows)) heads next n
   pub listing : Listing i at (a .highs) (a .lows) n
   pub loaded : (hs : List Held) → Lies 0 hs i → Loaded i at a n used hs
+
+pub loads-extend : (i t : List ℕ) (a : Table) (heads next : List ℕ) (f : Fill) → Loads i a heads next f → Extends i t f
+loads-extend i t a heads next f w hs d = (w t [] hs d .end, w t [] hs d .used)
 
 pub load-first : (i : List ℕ) (a : Table) (heads next : List ℕ) → length i ≤ bufferMax → Long a
     → Chained (keyAt (a .highs) (a .lows)) heads next 0 → Loading i 0 a heads next 0 0
@@ -98,7 +102,7 @@ module _ (i : List ℕ) (at : ℕ) (a : Table) (heads next : List ℕ) (n used :
               absurd (omega arith)
 
           go : (x : Loaded i at a n used hs) → Onward i at head e (x .rest)
-              → Slotted (length i) (length t) t s a heads next n (record { count = n; end = at; used = used }) hs
+              → Slotted i t s a heads next n (record { count = n; end = at; used = used }) hs
           go x (stands h ks q y r) = absurd (size-not i at head e (x .rest .off) h y z)
           go x (ended q y) =
               let f : hs ≡ x .front = x .is ∙ ap (λ (r : List Held). x .front ++ r) q ∙ append-nil (x .front) in
@@ -109,10 +113,16 @@ module _ (i : List ℕ) (at : ℕ) (a : Table) (heads next : List ℕ) (n used :
                       (sym (lt-ltb k n p))
                       (omega (arith, x .inside k p, ap (λ (r : List Held). length (texts r)) f, good i t hs l .text));
                   ahead = x .ahead t s _ n (omega arith) (l .rows .text);
+                  stands = λ k p u.
+                      let r = living-front (slotAt t s a n) k (n - k) n (omega arith) in (
+                        r .0,
+                        d ∙ ap (λ (v : List Held). some v)
+                            (f ∙ sym (x .lives t s _ n (omega arith) (l .rows .text)) ∙ r .1),
+                      );
                   olds = omega arith;
                   most = omega (arith, load-less);
                   long = w .long;
-                  good = good i t hs l;
+                  good = record { index = good i t hs l .index; text = good i t hs l .text };
                 };
                 older = apart;
                 chained = w .chained;

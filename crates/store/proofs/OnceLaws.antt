@@ -13,7 +13,7 @@ use Rattle.store.specs.declared.records.Head.{Head}
 use Rattle.store.specs.Decode.{headAt}
 use Rattle.store.specs.Held.{Key, Held, sameKey, holds, distinct}
 use Rattle.store.specs.Inner.{headOf, Lies, Once}
-use Rattle.store.specs.Keys.{slots, keyAt, keyOf, Lists, AllApart, Twice}
+use Rattle.store.specs.Keys.{slots, keyAt, keyOf, Lists, AllApart, Twice, Tells}
 use Rattle.store.proofs.BoolLaws.{and-both, and-false-left, and-false-right, or-false}
 use Rattle.store.proofs.HeldLaws.{same-refl, same-eq}
 use Rattle.store.proofs.RowLaws.{Rest, first, Onward, ended, stands, onward, size-not, next-within}
@@ -72,7 +72,11 @@ module _ (i : List ℕ) (K : ℕ → Key) (n : ℕ) (w : Lists i K n) where
       sym (twice-distinct hs (t .a) (t .b) (t .less) (omega (arith, t .below))
       (sym (w off hs l .1 (t .a) x) ∙ t .same ∙ w off hs l .1 (t .b) (t .below)))
 
--- ---- the keys that `walk_records` writes down
+  pub tells-once : (r : Bool) → Tells K n r → Once i r
+  tells-once true t = apart-once (t .0 refl)
+  tells-once false t = twice-once (t .1 refl)
+
+-- ---- the keys that `survey` writes down
 
 -- the keys of the first n lines are written down; the rest of the lines lies from `at` on
 pub record Lists′ (i : List ℕ) (at : ℕ) (K : ℕ → Key) (n : ℕ) (hs : List Held) : Type 0 where

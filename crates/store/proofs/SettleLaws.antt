@@ -1,28 +1,26 @@
 -- Writing out the lines that are still held: one line moved down or copied, a number's turn, and the end.
 -- Assumes nothing.
 use mathlib.Core.Bool.{Bool, true, false}
-use mathlib.Core.List.{List, [], _∷_, _++_, append-assoc, append-nil}
+use mathlib.Core.List.{List, [], _∷_, _++_, append-assoc}
 use mathlib.Core.Path.{_≡_, refl, sym, ap, ap₂, _∙_, subst}
 use Prim.Native.Nat.{ℕ, zero, suc, _+_, _-_, _≤_, _<_}
-use native.Mathlib.Nat.{zero-add}
-use native.Mathlib.Numerals.{add-one}
 use native.Mathlib.Omega.{arith}
-use lib.Dec.{eqb, ltb}
+use lib.Dec.{ltb}
 use lib.ListN.{length, getD, take, drop, replicate, length-append, length-replicate, length-drop, take-append-drop}
 use lib.Seq.{take-at, drop-at, drop-drop, take-add, drop-append-le, length-take-le}
-use borrow.Author.Tests.{eq-eqb, ne-eqb, ltb-true}
+use borrow.Author.Tests.{ltb-true}
 use borrow.Rule.Slice.PartMut.{putMid, midOf}
 use Rattle.text.specs.Bytes.{pick, written, writeBuffer}
 use Rattle.text.proofs.BytesLaws.{buffer-fits, written-length}
-use Rattle.text.proofs.LentLaws.{tail-length, tail-back}
 use Rattle.store.specs.Held.{Key, Held}
 use Rattle.store.specs.Inner.{sizes, Sized}
 use Rattle.store.specs.Keys.{keyAt}
 use Rattle.store.specs.Layout.{recordBytes, recordOf, records, texts, padded, encodeIndex, encodeText}
-use Rattle.store.specs.Slots.{living, Table, heldAt, slotAt, Tabled, Settles, Settled}
-use Rattle.store.proofs.BufferLaws.{written-part, tail-written}
-use Rattle.store.proofs.HeldLaws.{texts-append}
-use Rattle.store.proofs.RowLaws.{records-append, records-first, sizes-append, texts-sum, padded-is}
+use Rattle.store.specs.Slots.{living, Table, heldAt, slotAt, Tabled}
+use Rattle.store.proofs.BufferLaws.{written-part}
+use Rattle.store.proofs.LivingLaws.{sizes-within, texts-within, skipped, line-long, records-more, texts-more}
+use Rattle.store.proofs.LivingLaws.{used-more}
+use Rattle.store.proofs.RowLaws.{padded-is, zeros-append, drop-zeros}
 
 -- ---- one line
 
@@ -93,109 +91,44 @@ module _ (l : List ℕ) (at : ℕ) (v : List ℕ) (fits : at + length v ≤ leng
   pub written-rest : drop (at + length v) (written l at v) ≡ drop (at + length v) l
   written-rest = ap (drop (at + length v)) split ∙ drop-at (take at l ++ v) (drop (at + length v) l) _ front
 
--- ---- living
+-- what is behind it is as it was
+rest-more : (l l′ l″ : List ℕ) (at to : ℕ) (v : List ℕ) → to ≡ at + length v → l″ ≡ written l′ at v
+    → at + length v ≤ length l′ → drop at l′ ≡ drop at l → drop to l″ ≡ drop to l
+rest-more l l′ l″ at to v e q f g =
+    ap₂ (λ (m : ℕ) (x : List ℕ). drop m x) e q ∙ written-rest l′ at v f
+    ∙ sym (drop-drop (length v) at l′) ∙ ap (drop (length v)) g
+    ∙ drop-drop (length v) at l ∙ ap (λ (m : ℕ). drop m l) (sym e)
 
-pub living-next : (S : ℕ → List Held) (k : ℕ) → living S (k + 1) ≡ living S k ++ S k
-unfolding living
-living-next S k = rw (add-one k) refl
-
--- the lines of the first k numbers are a front part of those of c numbers
-pub living-front : (S : ℕ → List Held) (k d c : ℕ) → c ≡ k + d
-    → (bs : List Held) × (living S c ≡ living S k ++ bs)
-unfolding living
-living-front S k zero c e =
-    let z : c ≡ k = omega arith in
-    ([], ap (living S) z ∙ sym (append-nil (living S k)))
-living-front S k (suc d) zero e = absurd (omega arith)
-living-front S k (suc d) (suc c) e =
-    let r : (bs : List Held) × (living S c ≡ living S k ++ bs) = living-front S k d c (omega arith) in (
-      r .0 ++ S c,
-      ap (λ (x : List Held). x ++ S c) (r .1) ∙ append-assoc (living S k) (r .0) (S c),
-    )
-
-pub living-sizes : (S : ℕ → List Held) (k c : ℕ) → k ≤ c → sizes 0 (living S k) ≤ sizes 0 (living S c)
-living-sizes S k c l =
-    let r : (bs : List Held) × (living S c ≡ living S k ++ bs) = living-front S k (c - k) c (omega arith) in
-    omega (arith, ap (sizes 0) (r .1), sizes-append (living S k) (r .0) 0)
-
-pub living-texts : (S : ℕ → List Held) (k c : ℕ) → k ≤ c
-    → length (texts (living S k)) ≤ length (texts (living S c))
-living-texts S k c l =
-    let r : (bs : List Held) × (living S c ≡ living S k ++ bs) = living-front S k (c - k) c (omega arith) in
-    omega (arith, ap (λ (x : List Held). length (texts x)) (r .1), texts-sum (living S k) (r .0))
-
-pub slot-none : (t s : List ℕ) (a : Table) (old k : ℕ) → getD (a .lens) k 0 ≡ 0 → slotAt t s a old k ≡ []
-unfolding slotAt
-slot-none t s a old k e = ap (λ (b : Bool). pick b [] (heldAt t s a old k ∷ [])) (eq-eqb _ _ e)
-
-pub slot-some : (t s : List ℕ) (a : Table) (old k : ℕ) → (getD (a .lens) k 0 ≡ 0 → ⊥)
-    → slotAt t s a old k ≡ heldAt t s a old k ∷ []
-unfolding slotAt
-slot-some t s a old k n = ap (λ (b : Bool). pick b [] (heldAt t s a old k ∷ [])) (ne-eqb _ _ n)
-
--- ---- `settle`: the lines of the first k numbers are written out, the text behind them is as it was
+-- ---- the lines of the first k numbers are written out; index and text behind them are as they were
 
 pub record Settling (i t s : List ℕ) (a : Table) (old c : ℕ) (i′ t′ : List ℕ) (at off k : ℕ) : Type 0 where
   pub hs : List Held
-  pub tabled : Tabled (length i) (length t) t s a old c hs
+  pub tabled : Tabled i t s a old c hs
   pub most : k ≤ c
   pub place : at ≡ sizes 0 (living (slotAt t s a old) k)
   pub used : off ≡ length (texts (living (slotAt t s a old) k))
   pub index : take at i′ ≡ records 0 (living (slotAt t s a old) k)
   pub text : take off t′ ≡ texts (living (slotAt t s a old) k)
-  pub rest : drop off t′ ≡ drop off t
+  pub index-rest : drop at i′ ≡ drop at i
+  pub text-rest : drop off t′ ≡ drop off t
   pub index-long : length i′ ≡ length i
   pub text-long : length t′ ≡ length t
-
-pub settle-first : (i t s : List ℕ) (a : Table) (old c : ℕ) → Settles i t s a old c → Settling i t s a old c i t 0 0 0
-unfolding living records texts
-settle-first i t s a old c p = record {
-  hs = p .0;
-  tabled = p .1;
-  most = omega arith;
-  place = refl;
-  used = refl;
-  index = refl;
-  text = refl;
-  rest = refl;
-  index-long = refl;
-  text-long = refl;
-}
 
 module _ {i t s : List ℕ} {a : Table} {old c : ℕ} {i′ t′ : List ℕ} {at off k : ℕ}
     (w : Settling i t s a old c i′ t′ at off k) where
   abbrev S : ℕ → List Held
   S = slotAt t s a old
 
-  index-room : (m : ℕ) → m ≤ c → sizes 0 (living S m) ≤ length i′
-  index-room m l = omega (
-    arith,
-    w .index-long,
-    living-sizes S m c l,
-    ap (sizes 0) (w .tabled .is),
-    w .tabled .good .index,
-  )
-
-  text-room : (m : ℕ) → m ≤ c → length (texts (living S m)) ≤ length t′
-  text-room m l = omega (
-    arith,
-    w .text-long,
-    living-texts S m c l,
-    ap (λ (x : List Held). length (texts x)) (w .tabled .is),
-    w .tabled .good .text,
-  )
-
   pub at-within : at ≤ length i′
-  at-within = omega (arith, w .place, index-room k (w .most))
+  at-within = omega (arith, w .index-long, w .place, sizes-within (w .tabled) k (w .most))
 
   pub off-within : off ≤ length t′
-  off-within = omega (arith, w .used, text-room k (w .most))
+  off-within = omega (arith, w .text-long, w .used, texts-within (w .tabled) k (w .most))
 
   -- a number with no line
   pub settle-skip : k < c → getD (a .lens) k 0 ≡ 0 → Settling i t s a old c i′ t′ at off (k + 1)
   settle-skip l e =
-      let same : living S (k + 1) ≡ living S k = living-next S k
-      ∙ ap (λ (x : List Held). living S k ++ x) (slot-none t s a old k e) ∙ append-nil (living S k) in record {
+      let same : living S (k + 1) ≡ living S k = skipped (w .tabled) k e in record {
         hs = w .hs;
         tabled = w .tabled;
         most = omega arith;
@@ -203,7 +136,8 @@ module _ {i t s : List ℕ} {a : Table} {old c : ℕ} {i′ t′ : List ℕ} {at
         used = w .used ∙ ap (λ (x : List Held). length (texts x)) (sym same);
         index = w .index ∙ ap (records 0) (sym same);
         text = w .text ∙ ap texts (sym same);
-        rest = w .rest;
+        index-rest = w .index-rest;
+        text-rest = w .text-rest;
         index-long = w .index-long;
         text-long = w .text-long;
       }
@@ -222,53 +156,34 @@ module _ {i t s : List ℕ} {a : Table} {old c : ℕ} {i′ t′ : List ℕ} {at
     abbrev h : Held
     h = heldAt t s a old k
 
-    line-long : length (h .line) ≡ len
-    line-long = length-take-le len (drop start (pick (ltb k old) t s))
-        (rw (length-drop start (pick (ltb k old) t s)) (omega (arith, w .tabled .inside k l)))
-
-    next : living S (k + 1) ≡ living S k ++ (h ∷ [])
-    next = living-next S k ∙ ap (λ (x : List Held). living S k ++ x) (slot-some t s a old k n)
-
     records-next : records 0 (living S (k + 1)) ≡ records 0 (living S k) ++ new
-    records-next =
-        ap (records 0) next ∙ records-append (living S k) (h ∷ []) 0
-        ∙ ap (λ (x : List ℕ). records 0 (living S k) ++ x)
-        (records-first (0 + length (texts (living S k))) h [] ∙ unfold records in (append-nil _)
-        ∙ ap₂ (λ (x m : ℕ). recordBytes (h .key) x m) (zero-add _ ∙ sym (w .used)) line-long)
-
-    texts-next : texts (living S (k + 1)) ≡ texts (living S k) ++ h .line
-    texts-next =
-        ap texts next ∙ texts-append (living S k) (h ∷ [])
-        ∙ ap (λ (x : List ℕ). texts (living S k) ++ x) (unfold texts in (append-nil (h .line)))
+    records-next = records-more (w .tabled) k l n
+        ∙ ap (λ (m : ℕ). records 0 (living S k) ++ recordBytes (keyAt (a .highs) (a .lows) k) m len) (sym (w .used))
 
     place-next : at + length new ≡ sizes 0 (living S (k + 1))
     place-next = ap (λ (m : ℕ). m + length new) (w .place)
         ∙ sym (ap length records-next ∙ length-append (records 0 (living S k)) new)
 
     used-next : off + len ≡ length (texts (living S (k + 1)))
-    used-next = ap₂ (λ (x m : ℕ). x + m) (w .used) (sym line-long)
-        ∙ sym (ap length texts-next ∙ length-append (texts (living S k)) (h .line))
+    used-next = ap (λ (x : ℕ). x + len) (w .used) ∙ used-more (w .tabled) k l n
 
-    fits-index : at + length new ≤ length i′
-    fits-index = omega (arith, place-next, index-room (k + 1) (omega arith))
+    pub fits-index : at + length (recordBytes (keyAt (a .highs) (a .lows) k) off (getD (a .lens) k 0)) ≤ length i′
+    fits-index = omega (arith, place-next, w .index-long, sizes-within (w .tabled) (k + 1) (omega arith))
 
     pub fits-size : (size : ℕ) → Sized (keyAt (a .highs) (a .lows) k) size → at + size ≤ length i′
     fits-size size z = omega (arith, fits-index, z off len)
 
-    pub fits-part : length new ≤ length (midOf at (length i′ - at) i′)
-    fits-part = omega (arith, fits-index, tail-length at i′)
+    pub fits-text : off + getD (a .lens) k 0 ≤ length t′
+    fits-text = omega (arith, used-next, w .text-long, texts-within (w .tabled) (k + 1) (omega arith))
 
-    pub fits-text : off + len ≤ length t′
-    fits-text = omega (arith, used-next, text-room (k + 1) (omega arith))
-
-    pub fits-source : start + len ≤ length (pick (ltb k old) t′ s)
+    pub fits-source : getD (a .starts) k 0 + getD (a .lens) k 0 ≤ length (pick (ltb k old) t′ s)
     fits-source = go (ltb k old) (w .tabled .inside k l)
       where
         go : (b : Bool) → start + len ≤ length (pick b t s) → start + len ≤ length (pick b t′ s)
         go true f = omega (arith, w .text-long)
         go false f = f
 
-    pub stands-ahead : ltb k old ≡ true → off ≤ start
+    pub stands-ahead : ltb k old ≡ true → off ≤ getD (a .starts) k 0
     stands-ahead e = omega (arith, w .used, w .tabled .ahead k (ltb-true k old e))
 
     line-is : take len (drop start (pick (ltb k old) t′ s)) ≡ h .line
@@ -280,18 +195,17 @@ module _ {i t s : List ℕ} {a : Table} {old c : ℕ} {i′ t′ : List ℕ} {at
             let d : off + (start - off) ≡ start = omega (arith, stands-ahead e) in
             let f : (x : List ℕ) → drop start x ≡ drop (start - off) (drop off x) =
             λ x. sym (drop-drop (start - off) off x ∙ ap (λ (m : ℕ). drop m x) d) in
-            ap (take len) (f t′ ∙ ap (drop (start - off)) (w .rest) ∙ sym (f t))
+            ap (take len) (f t′ ∙ ap (drop (start - off)) (w .text-rest) ∙ sym (f t))
 
-    pub settle-turn : (size : ℕ) → Sized (keyAt (a .highs) (a .lows) k) size → (ys t″ : List ℕ)
-        → ys ≡ new ++ drop (length new) (midOf at (length i′ - at) i′)
-        → t″ ≡ written t′ off (take len (drop start (pick (ltb k old) t′ s)))
-        → Settling i t s a old c (putMid at (length i′ - at) i′ ys) t″ (at + size) (off + len) (k + 1)
-    settle-turn size z ys t″ ey et =
+    pub settle-turn : (size : ℕ) → Sized (keyAt (a .highs) (a .lows) k) size → (i″ t″ : List ℕ)
+        → i″ ≡ written i′ at (recordBytes (keyAt (a .highs) (a .lows) k) off (getD (a .lens) k 0))
+        → t″ ≡ written t′ off (take (getD (a .lens) k 0) (drop (getD (a .starts) k 0) (pick (ltb k old) t′ s)))
+        → Settling i t s a old c i″ t″ (at + size) (off + getD (a .lens) k 0) (k + 1)
+    settle-turn size z i″ t″ ei et =
         let line : List ℕ = h .line in
-        let ei : putMid at (length i′ - at) i′ ys ≡ written i′ at new = tail-written at i′ new ys ey in
         let e : t″ ≡ written t′ off line = et ∙ ap (written t′ off) line-is in
-        let f : off + length line ≤ length t′ = omega (arith, fits-text, line-long) in
-        let o : off + len ≡ off + length line = omega (arith, line-long) in
+        let f : off + length line ≤ length t′ = omega (arith, fits-text, line-long (w .tabled) k l n) in
+        let o : off + len ≡ off + length line = omega (arith, line-long (w .tabled) k l n) in
         let p : at + size ≡ at + length new = ap (λ (m : ℕ). at + m) (z off len) in record {
           hs = w .hs;
           tabled = w .tabled;
@@ -301,39 +215,53 @@ module _ {i t s : List ℕ} {a : Table} {old c : ℕ} {i′ t′ : List ℕ} {at
           index = ap₂ (λ (m : ℕ) (x : List ℕ). take m x) p ei ∙ written-front i′ at new fits-index
               ∙ ap (λ (x : List ℕ). x ++ new) (w .index) ∙ sym records-next;
           text = ap₂ (λ (m : ℕ) (x : List ℕ). take m x) o e ∙ written-front t′ off line f
-              ∙ ap (λ (x : List ℕ). x ++ line) (w .text) ∙ sym texts-next;
-          rest = ap₂ (λ (m : ℕ) (x : List ℕ). drop m x) o e ∙ written-rest t′ off line f
-              ∙ sym (drop-drop (length line) off t′) ∙ ap (drop (length line)) (w .rest)
-              ∙ drop-drop (length line) off t ∙ ap (λ (m : ℕ). drop m t) (sym o);
+              ∙ ap (λ (x : List ℕ). x ++ line) (w .text) ∙ sym (texts-more (w .tabled) k l n);
+          index-rest = rest-more i i′ i″ at (at + size) new p ei fits-index (w .index-rest);
+          text-rest = rest-more t t′ t″ off (off + len) line o e f (w .text-rest);
           index-long = ap length ei ∙ written-length i′ at new fits-index ∙ w .index-long;
           text-long = ap length e ∙ written-length t′ off line f ∙ w .text-long;
         }
 
--- a buffer set to 0 behind `at`
-zeroed : (p r : List ℕ) (at m : ℕ) (ys : List ℕ) → length p ≡ m → at ≤ length p → take at p ≡ r
-    → ys ≡ replicate (length (midOf at (length p - at) p)) 0 → putMid at (length p - at) p ys ≡ padded m r
-zeroed p r at m ys z l f e =
-    let q : putMid at (length p - at) p ys ≡ r ++ replicate (length (midOf at (length p - at) p)) 0
-    = tail-back at p ys ∙ ap₂ (λ (x y : List ℕ). x ++ y) f e in
-    padded-is m (putMid at (length p - at) p ys) r (length (midOf at (length p - at) p)) q
-    (ap length q ∙ length-append r (replicate (length (midOf at (length p - at) p)) 0)
+-- a buffer in which all from `end` on was 0, and what is behind `at` set to 0 up to there
+zeroed : (l p r : List ℕ) (at end : ℕ) (q : List ℕ) → length p ≡ length l → at ≤ length p → end ≤ length l
+    → take at p ≡ r → drop at p ≡ drop at l → drop end l ≡ replicate (length l - end) 0
+    → q ≡ written p at (replicate (end - at) 0) → q ≡ padded (length l) r
+unfolding written
+zeroed l p r at end q z w b f g e y =
+    let n : at + length (replicate {A = ℕ} (end - at) 0) ≡ at + (end - at)
+    = ap (λ (m : ℕ). at + m) (length-replicate {A = ℕ} (end - at) 0) in
+    let later : end + (at + (end - at) - end) ≡ at + (end - at) = omega arith in
+    let back : drop (at + (end - at)) p ≡ replicate (length l - end - (at + (end - at) - end)) 0
+    = sym (drop-drop (end - at) at p) ∙ ap (drop (end - at)) g ∙ drop-drop (end - at) at l
+    ∙ ap (λ (m : ℕ). drop m l) (sym later)
+    ∙ sym (drop-drop (at + (end - at) - end) end l) ∙ ap (drop (at + (end - at) - end)) e
+    ∙ drop-zeros (at + (end - at) - end) (length l - end) in
+    let is : q ≡ r ++ replicate (end - at + (length l - end - (at + (end - at) - end))) 0
+    = y ∙ ap₂ (λ (x : List ℕ) (m : ℕ). x ++ (replicate (end - at) 0 ++ drop m p)) f n
+    ∙ ap (λ (x : List ℕ). r ++ (replicate (end - at) 0 ++ x)) back
+    ∙ ap (λ (x : List ℕ). r ++ x) (zeros-append (end - at) (length l - end - (at + (end - at) - end))) in
+    padded-is (length l) q r (end - at + (length l - end - (at + (end - at) - end))) is
+    (ap length is ∙ length-append r (replicate (end - at + (length l - end - (at + (end - at) - end))) 0)
     ∙ omega (
       arith,
-      length-replicate {A = ℕ} (length (midOf at (length p - at) p)) 0,
-      tail-length at p,
+      length-replicate {A = ℕ} (end - at + (length l - end - (at + (end - at) - end))) 0,
       ap length f,
-      length-take-le at p l,
+      length-take-le at p w,
     ))
 
-pub settle-end : {i t s : List ℕ} {a : Table} {old c : ℕ} {i′ t′ : List ℕ} {at off k : ℕ}
-    → (w : Settling i t s a old c i′ t′ at off k) → c ≤ k → (u v : List ℕ)
-    → u ≡ replicate (length (midOf at (length i′ - at) i′)) 0
-    → v ≡ replicate (length (midOf off (length t′ - off) t′)) 0
-    → Settled i t s a old c (putMid at (length i′ - at) i′ u) (putMid off (length t′ - off) t′ v)
-unfolding encodeIndex encodeText
-settle-end {i} {t} {s} {a} {old} {c} {i′} {t′} {at} {off} {k} w l u v eu ev hs T =
-    let e : k ≡ c = omega (arith, w .most) in
-    let q : living (slotAt t s a old) k ≡ hs = ap (living (slotAt t s a old)) e ∙ sym (T .is) in (
-      zeroed i′ (records 0 hs) at (length i) u (w .index-long) (at-within w) (w .index ∙ ap (records 0) q) eu,
-      zeroed t′ (texts hs) off (length t) v (w .text-long) (off-within w) (w .text ∙ ap texts q) ev,
-    )
+module _ {i t s : List ℕ} {a : Table} {old c : ℕ} {i′ t′ : List ℕ} {at off k : ℕ}
+    (w : Settling i t s a old c i′ t′ at off k) (l : c ≤ k) (hs : List Held) (T : Tabled i t s a old c hs) where
+  all : living (slotAt t s a old) k ≡ hs
+  all = let e : k ≡ c = omega (arith, w .most) in ap (living (slotAt t s a old)) e ∙ sym (T .is)
+
+  pub settled-index : (end : ℕ) → end ≤ length i → drop end i ≡ replicate (length i - end) 0 → (q : List ℕ)
+      → q ≡ written i′ at (replicate (end - at) 0) → q ≡ encodeIndex (length i) hs
+  unfolding encodeIndex
+  settled-index end b f q e = zeroed i i′ (records 0 hs) at end q (w .index-long) (at-within w) b
+      (w .index ∙ ap (records 0) all) (w .index-rest) f e
+
+  pub settled-text : (end : ℕ) → end ≤ length t → drop end t ≡ replicate (length t - end) 0 → (q : List ℕ)
+      → q ≡ written t′ off (replicate (end - off) 0) → q ≡ encodeText (length t) hs
+  unfolding encodeText
+  settled-text end b f q e = zeroed t t′ (texts hs) off end q (w .text-long) (off-within w) b
+      (w .text ∙ ap texts all) (w .text-rest) f e

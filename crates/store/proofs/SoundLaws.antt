@@ -1,4 +1,4 @@
--- The soundness check: the loop of `walk_records` goes as `walk` does, and the tests of `check_store` as `decode`.
+-- The soundness check: the loop of `survey` goes as `walk` does, and the tests of `take_stock` as `decode`.
 -- Assumes nothing.
 use mathlib.Core.Bool.{Bool, true, false, _&&_}
 use mathlib.Core.List.{List, []}
@@ -20,7 +20,7 @@ use Rattle.store.proofs.BoolLaws.{and-both, and-false-left, and-false-r
 use Rattle.store.proofs.DecodeLaws.{walk-end, walk-on, walk-rows}
 use Rattle.store.proofs.RecordLaws.{head-within, Fits, fits-of}
 
--- the loop of `walk_records`: the answer r, from `at` and `off` on
+-- the loop of `survey`: the answer r, from `at` and `off` on
 pub record Walking (i t : List ℕ) (r : Bool) (at off : ℕ) : Type 0 where
   pub index : at ≤ length i
   pub text : off ≤ length t
@@ -104,7 +104,7 @@ module _ (i t : List ℕ) (r : Bool) (at off : ℕ) (w : Walking i t r at off) (
             less : length i < f + (at + head .size)
             less = omega (arith, more)
 
--- the tests of `check_store`
+-- the tests of `take_stock`
 module _ (i t : List ℕ) where
   oversized : leb (length i) bufferMax && leb (length t) bufferMax ≡ false → known (decode i t) ≡ false
   unfolding decode

@@ -10,9 +10,6 @@ use lib.ListN.{length, drop, take, replicate, getD, set}
 use Rattle.text.specs.Bytes.{pick, firstOf}
 use Rattle.text.specs.declared.uuid.Uuid.{Uuid}
 use Rattle.store.specs.declared.records.Head.{Head}
-use Rattle.store.specs.declared.records.Spot.{Spot}
-use Rattle.store.specs.declared.records.Extent.{Extent}
-use Rattle.store.specs.declared.soundness.Survey.{Survey}
 use Rattle.line.specs.declared.mapping.Mapping.{Mapping}
 use Rattle.store.specs.declared.calls.Answer.{Answer}
 use Rattle.store.specs.declared.calls.Answer.the-variants as A
@@ -81,25 +78,12 @@ Sized k r = (off len : ℕ) → r ≡ length (recordBytes k off len)
 abbrev pub HasRecord : List ℕ → Type 0
 HasRecord i = (recordSize ≤ length i) × (getD i 0 0 ≡ 1)
 
--- `put_offset`: the record at the front is of a line at that offset
-unfoldable pub moveTo : ℕ → List ℕ → List ℕ
-moveTo off i = recordBytes (headAt i .key) off (headAt i .len) ++ drop recordSize i
-
--- `other_key`: a record of another key
-unfoldable pub ofAnother : Key → Head → Bool
-ofAnother k h = pick (eqb (h .size) 0) false (not (sameKey k (h .key)))
-
 -- ---- lines that lie in an index
 
 -- the store is sound
 abbrev pub known : {A : Type 0} → Option A → Bool
 known none = false
 known (some a) = true
-
--- the lines before the first one of that key
-unfoldable pub upTo : Key → List Held → List Held
-upTo k [] = []
-upTo k (h ∷ hs) = pick (sameKey k (h .key)) [] (h ∷ upTo k hs)
 
 -- those lines' records lie in s from its front on, their first line at that offset, and then only 0
 pub record Lies (off : ℕ) (hs : List Held) (s : List ℕ) : Type 0 where
@@ -115,58 +99,16 @@ pub record Good (n m : ℕ) (hs : List Held) : Type 0 where
   pub index : sizes 0 hs ≤ n
   pub text : length (texts hs) ≤ m
 
--- `find`: the place of the record of that key, or of the records' end, and what stands there
-pub record Finds (i : List ℕ) (k : Key) (r : Spot) : Type 0 where
-  pub within : r .at ≤ length i
-  pub stands : r .head ≡ headAt (drop (r .at) i)
-  pub place : (off : ℕ) (hs : List Held) → Lies off hs i → r .at ≡ sizes off (upTo k hs)
+-- lines whose records and texts two buffers of n and m bytes can hold
+pub record Fitted (n m : ℕ) (hs : List Held) : Type 0 where
+  pub index : sizes 0 hs ≤ n
+  pub text : length (texts hs) ≤ m
 
--- where the records and the lines end
-abbrev pub Measures : List ℕ → Extent → Type 0
-Measures i r = (hs : List Held) → Lies 0 hs i → (r .end ≡ sizes 0 hs) × (r .used ≡ length (texts hs))
-
--- `check_store`: whether the store is sound, and where the records and the lines of a sound one end
-pub record Sounds (i t : List ℕ) (r : Survey) : Type 0 where
-  pub is : r .sound ≡ known (decode i t)
-  pub ends : r .sound ≡ true → Measures i (r .all)
-
--- `has_key`, `each_once`
-abbrev pub Holds : List ℕ → Key → Bool → Type 0
-Holds i k r = (off : ℕ) (hs : List Held) → Lies off hs i → r ≡ holds k hs
-
+-- the lines that lie in an index are distinct, or not
 abbrev pub Once : List ℕ → Bool → Type 0
 Once i r = (off : ℕ) (hs : List Held) → Lies off hs i → r ≡ distinct hs
 
 -- ---- filing
-
--- some lines lie in s, and they may be laid out from `start` on
-pub record Moves (start : ℕ) (s : List ℕ) : Type 0 where
-  pub off : ℕ
-  pub hs : List Held
-  pub lies : Lies off hs s
-  pub fits : start + length (texts hs) ≤ bufferMax
-
--- `renumber`: the lines lie from `start` on
-abbrev pub Renumbers : ℕ → List ℕ → List ℕ → Type 0
-Renumbers start s s′ =
-    (off : ℕ) (hs : List Held) → Lies off hs s → start + length (texts hs) ≤ bufferMax
-    → s′ ≡ padded (length s) (records start hs)
-
--- in the store of those lines, `at` is the place of the record of that key, or of the records' end, and `head`
--- stands there
-pub record Spotted (i t : List ℕ) (at : ℕ) (head : Head) (k : Key) (hs : List Held) : Type 0 where
-  pub decoded : decode i t ≡ some hs
-  pub place : at ≡ sizes 0 (upTo k hs)
-  pub stands : head ≡ headAt (drop at i)
-
--- `make_room`: the line of that key is struck out
-abbrev pub Strikeable : List ℕ → List ℕ → ℕ → Head → Type 0
-Strikeable i t at head = (k : Key) × ((hs : List Held) × Spotted i t at head k hs)
-
-abbrev pub Strikes : List ℕ → List ℕ → ℕ → Head → List ℕ → List ℕ → Type 0
-Strikes i t at head i′ t′ =
-    (k : Key) (hs : List Held) → Spotted i t at head k hs
-    → (i′ ≡ encodeIndex (length i) (strike k hs)) × (t′ ≡ encodeText (length t) (strike k hs))
 
 -- there is room for the line
 abbrev pub room : ℕ → ℕ → Held → List Held → Bool

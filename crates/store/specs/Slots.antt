@@ -3,22 +3,28 @@
 -- No public contract rests on these: a reader may leave them out.
 use mathlib.Core.Path.{_≡_}
 use mathlib.Core.Bool.{true, false}
-use mathlib.Core.Option.{some}
+use mathlib.Core.Option.{Option, some}
 use mathlib.Core.List.{List, [], _∷_, _++_}
 use Prim.Native.Nat.{ℕ, zero, suc, _+_, _-_, _≤_, _<_}
 use lib.Dec.{eqb, ltb}
-use lib.ListN.{length, getD, set, take, drop}
+use lib.ListN.{length, getD, set, take, drop, replicate}
 use Rattle.text.specs.Bytes.{pick}
 use Rattle.store.specs.declared.slots.Fill.{Fill}
+use Rattle.store.specs.declared.settle.Kept.{Kept}
+use Rattle.store.specs.declared.soundness.Surveyed.{Surveyed}
+use Rattle.store.specs.declared.soundness.Stock.{Stock}
+use Rattle.store.specs.declared.look.Seen.{Seen}
 use Rattle.store.specs.declared.batch.Step.{Step}
 use Rattle.store.specs.declared.batch.Walked.{Walked}
 use Rattle.store.specs.Held.{Key, Held, file, bufferMax}
-use Rattle.store.specs.Decode.{decode}
+use Rattle.store.specs.Decode.{walk, decode}
 use Rattle.store.specs.Book.{under, after, stopped, reach, insertTurn, insertLines}
 use Rattle.store.specs.Lines.{linesOf}
-use Rattle.store.specs.Layout.{Shape, recordBytes, texts, encodeIndex, encodeText}
-use Rattle.store.specs.Keys.{slots, keyAt, Chained}
-use Rattle.store.specs.Inner.{Good, room, sizes}
+use Rattle.store.specs.Layout.{recordBytes, records, texts, encodeIndex, encodeText}
+use Rattle.store.specs.Keys.{slots, keyAt, Says, Lists, Chained}
+use Rattle.store.specs.Inner.{known, Good, Fitted, room, sizes}
+use Rattle.store.specs.Store.{lookUp, saysOf, lineOf}
+use Rattle.map.specs.Bounds.{lineMax}
 
 -- the lines of the first n numbers, each of which gives one line or none
 unfoldable pub living : (ℕ → List Held) → ℕ → List Held
@@ -61,42 +67,124 @@ pub record Long (a : Table) : Type 0 where
   pub starts : length (a .starts) ≡ slots
   pub lens : length (a .lens) ≡ slots
 
--- the first c numbers give the lines hs, for an index of n bytes and a text t of m bytes; each old line starts behind
--- the old lines before it that are still held
-pub record Tabled (n m : ℕ) (t s : List ℕ) (a : Table) (old c : ℕ) (hs : List Held) : Type 0 where
+-- none of the first k numbers is struck out
+abbrev pub Whole : List ℕ → ℕ → Type 0
+Whole lens k = (j : ℕ) → j < k → getD lens j 0 ≡ 0 → ⊥
+
+-- a store holds those lines, and others behind them
+abbrev pub Begins : Option (List Held) → List Held → Type 0
+Begins o fs = (bs : List Held) × (o ≡ some (fs ++ bs))
+
+-- the first c numbers give the lines hs, for an index i and a text t; each old line starts behind the old lines before
+-- it that are still held, and before the first one that is struck out they stand as in the store
+pub record Tabled (i t s : List ℕ) (a : Table) (old c : ℕ) (hs : List Held) : Type 0 where
   pub is : hs ≡ living (slotAt t s a old) c
   pub inside : (k : ℕ) → k < c → getD (a .starts) k 0 + getD (a .lens) k 0 ≤ length (sourceOf t s old k)
   pub ahead : (k : ℕ) → k < old → length (texts (living (slotAt t s a old) k)) ≤ getD (a .starts) k 0
+  pub stands : (k : ℕ) → k ≤ old → Whole (a .lens) k → Begins (decode i t) (living (slotAt t s a old) k)
   pub olds : old ≤ c
   pub most : c ≤ slots
   pub long : Long a
-  pub good : Good n m hs
+  pub good : Fitted (length i) (length t) hs
+
+-- `kept_rows`: the numbers before the first one that is struck out, and how much the lines of those take
+pub record Keepable (a : Table) (old : ℕ) : Type 0 where
+  pub i : List ℕ
+  pub t : List ℕ
+  pub s : List ℕ
+  pub c : ℕ
+  pub hs : List Held
+  pub tabled : Tabled i t s a old c hs
+  pub index : length i ≤ bufferMax
+  pub text : length t ≤ bufferMax
+
+abbrev pub Takes-up : List Held → ℕ → ℕ → Type 0
+Takes-up hs end used = (end ≡ sizes 0 hs) × (used ≡ length (texts hs))
+
+pub record Keeps (a : Table) (old : ℕ) (r : Kept) : Type 0 where
+  pub rows : r .rows ≤ old
+  pub whole : Whole (a .lens) (r .rows)
+  pub takes : (i t s : List ℕ) (c : ℕ) (hs : List Held) → Tabled i t s a old c hs
+      → Takes-up (living (slotAt t s a old) (r .rows)) (r .at) (r .off)
+
+-- where the records and the lines of a store end
+abbrev pub Extends : List ℕ → List ℕ → Fill → Type 0
+Extends i t f = (hs : List Held) → decode i t ≡ some hs → Takes-up hs (f .end) (f .used)
+
+-- the lines of the numbers that are kept, and the index with a part of it behind their records
+abbrev pub keptLines : List ℕ → List ℕ → Table → Kept → Fill → List Held
+keptLines t s a kept was = living (slotAt t s a (was .count)) (kept .rows)
+
+abbrev pub behindKept : List ℕ → List ℕ → Table → Kept → Fill → List ℕ → List ℕ
+behindKept t s a kept was part = records 0 (keptLines t s a kept was) ++ part
+
+-- `close_up`: the part of the index behind the records that are kept, and the store that it is of
+pub record Lent (part t s : List ℕ) (a : Table) (kept : Kept) (was : Fill) (c : ℕ) (hs : List Held) : Type 0 where
+  pub tabled : Tabled (behindKept t s a kept was part) t s a (was .count) c hs
+  pub rows : kept .rows ≤ c
+  pub takes : Takes-up (keptLines t s a kept was) (kept .at) (kept .off)
+  pub text : take (kept .off) t ≡ texts (keptLines t s a kept was)
+  pub later : kept .at ≤ was .end
+  pub index-within : was .end ≤ length (behindKept t s a kept was part)
+  pub index-free : drop (was .end) (behindKept t s a kept was part)
+      ≡ replicate (length (behindKept t s a kept was part) - was .end) 0
+  pub text-within : was .used ≤ length t
+  pub text-free : drop (was .used) t ≡ replicate (length t - was .used) 0
+
+abbrev pub Closes : List ℕ → List ℕ → List ℕ → Table → Kept → Fill → ℕ → Type 0
+Closes part t s a kept was c = (hs : List Held) × Lent part t s a kept was c hs
+
+abbrev pub Closed : List ℕ → List ℕ → List ℕ → Table → Kept → Fill → ℕ → List ℕ → List ℕ → Type 0
+Closed part t s a kept was c part′ t′ =
+    (hs : List Held) → Lent part t s a kept was c hs
+    → (behindKept t s a kept was part′ ≡ encodeIndex (length (behindKept t s a kept was part)) hs)
+    × (t′ ≡ encodeText (length t) hs)
 
 -- `settle`: the lines that are still held, written out
-abbrev pub Settles : List ℕ → List ℕ → List ℕ → Table → ℕ → ℕ → Type 0
-Settles i t s a old c = (hs : List Held) × Tabled (length i) (length t) t s a old c hs
+abbrev pub Settles : List ℕ → List ℕ → List ℕ → Table → Fill → ℕ → Type 0
+Settles i t s a was c = (hs : List Held) × Tabled i t s a (was .count) c hs
 
-abbrev pub Settled : List ℕ → List ℕ → List ℕ → Table → ℕ → ℕ → List ℕ → List ℕ → Type 0
-Settled i t s a old c i′ t′ =
-    (hs : List Held) → Tabled (length i) (length t) t s a old c hs
+abbrev pub Settled : List ℕ → List ℕ → List ℕ → Table → Fill → ℕ → List ℕ → List ℕ → Type 0
+Settled i t s a was c i′ t′ =
+    (hs : List Held) → Tabled i t s a (was .count) c hs
     → (i′ ≡ encodeIndex (length i) hs) × (t′ ≡ encodeText (length t) hs)
 
 -- such numbers, in chains by their keys; of two with one key the first is struck out; and how much is in use
-pub record Slotted (n m : ℕ) (t s : List ℕ) (a : Table) (heads next : List ℕ) (old : ℕ) (f : Fill) (hs : List Held)
+pub record Slotted (i t s : List ℕ) (a : Table) (heads next : List ℕ) (old : ℕ) (f : Fill) (hs : List Held)
     : Type 0 where
-  pub tabled : Tabled n m t s a old (f .count) hs
+  pub tabled : Tabled i t s a old (f .count) hs
   pub older : (j k : ℕ) → j < k → k < f .count → keyAt (a .highs) (a .lows) j ≡ keyAt (a .highs) (a .lows) k
       → getD (a .lens) j 0 ≡ 0
   pub chained : Chained (keyAt (a .highs) (a .lows)) heads next (f .count)
   pub end : f .end ≡ sizes 0 hs
   pub used : f .used ≡ length (texts hs)
-  pub limits : (n ≤ bufferMax) × (m ≤ bufferMax)
+  pub limits : (length i ≤ bufferMax) × (length t ≤ bufferMax)
 
--- `load`: the lines of a sound store, all of them old
+-- the lines of a sound store are written down, all of them old
 abbrev pub Loads : List ℕ → Table → List ℕ → List ℕ → Fill → Type 0
 Loads i a heads next f =
     (t s : List ℕ) (hs : List Held) → decode i t ≡ some hs
-    → Slotted (length i) (length t) t s a heads next (f .count) f hs
+    → Slotted i t s a heads next (f .count) f hs
+
+-- `survey`: the store is sound but for keys that stand twice; what is told of those
+pub record Surveys (i t : List ℕ) (a : Table) (heads next : List ℕ) (r : Surveyed) : Type 0 where
+  pub is : r .whole ≡ known (walk (suc (length i)) 0 i t)
+  pub most : r .fill .count < slots
+  pub says : Says (keyAt (a .highs) (a .lows)) (r .fill .count) (r .verdict)
+  pub chained : Chained (keyAt (a .highs) (a .lows)) heads next (r .fill .count)
+  pub lists : r .whole ≡ true → Lists i (keyAt (a .highs) (a .lows)) (r .fill .count)
+  pub loads : r .whole ≡ true → Loads i a heads next (r .fill)
+
+-- `take_stock`: the store is sound
+pub record Stocks (i t : List ℕ) (a : Table) (heads next : List ℕ) (r : Stock) : Type 0 where
+  pub is : r .sound ≡ known (decode i t)
+  pub loads : r .sound ≡ true → Loads i a heads next (r .fill) × (r .fill .count < slots)
+
+-- `look`: what a look-up says, and where the line lies
+pub record Sees (i t : List ℕ) (k : Key) (r : Seen) : Type 0 where
+  pub how : r .how ≡ saysOf (lookUp k i t)
+  pub within : r .start + r .len ≤ length t
+  pub line : take (r .len) (drop (r .start) t) ≡ lineOf (lookUp k i t)
 
 -- `len_before`, `strike_slot`: of the number before r; none where r is 0
 abbrev pub lenBefore : List ℕ → ℕ → ℕ
@@ -109,46 +197,51 @@ struckBefore lens r = pick (eqb r 0) lens (set lens (r - 1) 0)
 abbrev pub Ends : ℕ → ℕ → Key → ℕ → Type 0
 Ends end had u r = (off len : ℕ) → r ≡ pick (eqb had 0) (end + length (recordBytes u off len)) end
 
--- `file_slot`: a line of those that are inserted, for lines that are so written down
-pub record Files′ (n m : ℕ) (t s : List ℕ) (a : Table) (heads next : List ℕ) (old : ℕ) (f : Fill) (u : Key)
-    (start len : ℕ) (hs : List Held) : Type 0 where
-  pub slotted : Slotted n m t s a heads next old f hs
-  pub inside : start + len ≤ length s
-  pub shape : Shape (under u (take len (drop start s)))
+-- "each length from 1 to 4096"
+pub record Short (l : List ℕ) : Type 0 where
+  pub some : 1 ≤ length l
+  pub most : length l ≤ lineMax
 
-abbrev pub Fileable : ℕ → ℕ → List ℕ → Table → List ℕ → List ℕ → Fill → Key → ℕ → ℕ → Type 0
-Fileable n m t a heads next f u start len =
-    (s : List ℕ) × ((old : ℕ) × ((hs : List Held) × Files′ n m t s a heads next old f u start len hs))
+-- `file_slot`: a line of those that are inserted, for lines that are so written down
+pub record Files′ (i t s : List ℕ) (a : Table) (heads next : List ℕ) (old : ℕ) (f : Fill) (u : Key)
+    (start len : ℕ) (hs : List Held) : Type 0 where
+  pub slotted : Slotted i t s a heads next old f hs
+  pub inside : start + len ≤ length s
+  pub shape : Short (take len (drop start s))
+
+abbrev pub Fileable : List ℕ → List ℕ → Table → List ℕ → List ℕ → Fill → Key → ℕ → ℕ → Type 0
+Fileable i t a heads next f u start len =
+    (s : List ℕ) × ((old : ℕ) × ((hs : List Held) × Files′ i t s a heads next old f u start len hs))
 
 -- it is filed, or there is no room and the lines are as before
-pub data Filed (n m : ℕ) (t s : List ℕ) (a : Table) (heads next : List ℕ) (old : ℕ) (f : Fill) (h : Held)
+pub data Filed (i t s : List ℕ) (a : Table) (heads next : List ℕ) (old : ℕ) (f : Fill) (h : Held)
     (hs : List Held) (r : Fill) : Type 0 where
-  fits : room n m h hs ≡ true → r .count ≡ f .count + 1 → Slotted n m t s a heads next old r (file h hs)
-      → Filed n m t s a heads next old f h hs r
-  full : room n m h hs ≡ false → r .count ≡ f .count → Tabled n m t s a old (f .count) hs
-      → Filed n m t s a heads next old f h hs r
+  fits : room (length i) (length t) h hs ≡ true → r .count ≡ f .count + 1 → Slotted i t s a heads next old r (file h hs)
+      → Filed i t s a heads next old f h hs r
+  full : room (length i) (length t) h hs ≡ false → r .count ≡ f .count → Tabled i t s a old (f .count) hs
+      → Filed i t s a heads next old f h hs r
 
-abbrev pub FilesSlot : ℕ → ℕ → List ℕ → Table → List ℕ → List ℕ → Fill → Key → ℕ → ℕ → Table → List ℕ → List ℕ
+abbrev pub FilesSlot : List ℕ → List ℕ → Table → List ℕ → List ℕ → Fill → Key → ℕ → ℕ → Table → List ℕ → List ℕ
     → Fill → Type 0
-FilesSlot n m t a heads next f u start len a′ heads′ next′ r =
-    (s : List ℕ) (old : ℕ) (hs : List Held) → Files′ n m t s a heads next old f u start len hs
-    → Filed n m t s a′ heads′ next′ old f (under u (take len (drop start s))) hs r
+FilesSlot i t a heads next f u start len a′ heads′ next′ r =
+    (s : List ℕ) (old : ℕ) (hs : List Held) → Files′ i t s a heads next old f u start len hs
+    → Filed i t s a′ heads′ next′ old f (under u (take len (drop start s))) hs r
 
-abbrev pub Slotting : ℕ → ℕ → List ℕ → List ℕ → Table → List ℕ → List ℕ → Fill → Type 0
-Slotting n m t s a heads next f = (old : ℕ) × ((hs : List Held) × Slotted n m t s a heads next old f hs)
+abbrev pub Slotting : List ℕ → List ℕ → List ℕ → Table → List ℕ → List ℕ → Fill → Type 0
+Slotting i t s a heads next f = (old : ℕ) × ((hs : List Held) × Slotted i t s a heads next old f hs)
 
 -- `reach_slot`: what one line of an insert does
-pub data Comes (n m : ℕ) (t s : List ℕ) (a : Table) (heads next : List ℕ) (old : ℕ) (l : List ℕ) (hs : List Held)
+pub data Comes (i t s : List ℕ) (a : Table) (heads next : List ℕ) (old : ℕ) (l : List ℕ) (hs : List Held)
     (r : Step) : Type 0 where
-  goes : (ks : List Held) → reach n m hs l ≡ after ks → r .on ≡ true → Slotted n m t s a heads next old (r .fill) ks
-      → Comes n m t s a heads next old l hs r
-  stops : reach n m hs l ≡ stopped (r .answer) → r .on ≡ false → Tabled n m t s a old (r .fill .count) hs
-      → Comes n m t s a heads next old l hs r
+  goes : (ks : List Held) → reach (length i) (length t) hs l ≡ after ks → r .on ≡ true → Slotted i t s a heads next old (r .fill) ks
+      → Comes i t s a heads next old l hs r
+  stops : reach (length i) (length t) hs l ≡ stopped (r .answer) → r .on ≡ false → Tabled i t s a old (r .fill .count) hs
+      → Comes i t s a heads next old l hs r
 
-abbrev pub ReachesSlot : ℕ → ℕ → List ℕ → List ℕ → Table → List ℕ → List ℕ → Fill → List ℕ → Table → List ℕ → List ℕ
+abbrev pub ReachesSlot : List ℕ → List ℕ → List ℕ → Table → List ℕ → List ℕ → Fill → List ℕ → Table → List ℕ → List ℕ
     → Step → Type 0
-ReachesSlot n m t s a heads next f l a′ heads′ next′ r =
-    (old : ℕ) (hs : List Held) → Slotted n m t s a heads next old f hs → Comes n m t s a′ heads′ next′ old l hs r
+ReachesSlot i t s a heads next f l a′ heads′ next′ r =
+    (old : ℕ) (hs : List Held) → Slotted i t s a heads next old f hs → Comes i t s a′ heads′ next′ old l hs r
 
 -- `take_lines`, `insert_batch`: the lines from `from` on are walked, to the end, to one that stops the insert, or to a
 -- place from which it goes on; P holds of the lines that are held then
@@ -156,10 +249,10 @@ pub data Takes (n m : ℕ) (s : List ℕ) (from : ℕ) (hs : List Held) (r : Wal
   onward : (ks : List Held) → r .on ≡ true
       → ((c : ℕ) → insertLines n m hs c (linesOf (drop from s))
       ≡ insertLines n m ks (c + r .count) (linesOf (drop (r .at) s)))
-      → P ks → Takes n m s from hs r P
+      → (Good n m hs → Good n m ks) → P ks → Takes n m s from hs r P
   halted : (ks : List Held) → r .on ≡ false
       → ((c : ℕ) → insertLines n m hs c (linesOf (drop from s)) ≡ insertTurn ks (r .answer) (c + r .count))
-      → P ks → Takes n m s from hs r P
+      → (Good n m hs → Good n m ks) → P ks → Takes n m s from hs r P
 
 -- how far it went; f numbers were taken before
 pub record Went (s : List ℕ) (from f : ℕ) (r : Walked) : Type 0 where
@@ -167,14 +260,13 @@ pub record Went (s : List ℕ) (from f : ℕ) (r : Walked) : Type 0 where
   pub counted : from + r .count ≤ r .at
   pub moved : f < slots → from < length s → r .on ≡ true → from < r .at
 
-abbrev pub TakesLines : ℕ → ℕ → List ℕ → List ℕ → Table → List ℕ → List ℕ → ℕ → Fill → Table → Walked → Type 0
-TakesLines n m t s a heads next from f a′ r =
-    (old : ℕ) (hs : List Held) → Slotted n m t s a heads next old f hs
-    → Takes n m s from hs r (Tabled n m t s a′ old (r .filled))
+abbrev pub TakesLines : List ℕ → List ℕ → List ℕ → Table → List ℕ → List ℕ → ℕ → Fill → Table → Walked → Type 0
+TakesLines i t s a heads next from f a′ r =
+    (old : ℕ) (hs : List Held) → Slotted i t s a heads next old f hs
+    → Takes (length i) (length t) s from hs r (Tabled i t s a′ old (r .filled))
 
 -- the buffers encode those lines
 pub record Encoded (n m : ℕ) (i t : List ℕ) (hs : List Held) : Type 0 where
-  pub good : Good n m hs
   pub index : i ≡ encodeIndex n hs
   pub text : t ≡ encodeText m hs
 

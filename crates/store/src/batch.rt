@@ -7,8 +7,8 @@ use crate::search::find_far;
 use crate::settle::settle;
 use crate::slots::Fill;
 use crate::slots::file_slot;
-use crate::slots::load;
 use crate::soundness::LINE_MAX;
+use crate::soundness::survey;
 use text::uuid::UuidParse;
 ghost use mathlib.Core.Path.{_≡_};
 ghost use mathlib.Core.Bool.{true, false};
@@ -64,11 +64,11 @@ fn reach_slot(
 ) -> Step
     requires { ⌜ (fill .count < slots) × (at + len ≤ length (now lines)) ⌝ }
     requires { ⌜
-        Slotting (length (now index)) (length (now text)) (now text) (now lines)
+        Slotting (now index) (now text) (now lines)
         (record { highs = now highs; lows = now lows; starts = now starts; lens = now lens }) (now heads) (now next)
         fill ⌝ }
     ensures { λ r. ⌜
-        ReachesSlot (length (now (index .entry))) (length (now (text .entry))) (now (text .entry))
+        ReachesSlot (now (index .entry)) (now (text .entry))
         (now (lines .entry))
         (record {
           highs = now (highs .entry);
@@ -147,11 +147,11 @@ fn take_lines(
 ) -> Walked
     requires { ⌜ from ≤ length (now lines) + 1 ⌝ }
     requires { ⌜
-        Slotting (length (now index)) (length (now text)) (now text) (now lines)
+        Slotting (now index) (now text) (now lines)
         (record { highs = now highs; lows = now lows; starts = now starts; lens = now lens }) (now heads) (now next)
         first ⌝ }
     ensures { λ r. ⌜
-        TakesLines (length (now (index .entry))) (length (now (text .entry))) (now (text .entry))
+        TakesLines (now (index .entry)) (now (text .entry))
         (now (lines .entry))
         (record {
           highs = now (highs .entry);
@@ -214,8 +214,9 @@ pub fn insert_batch(index: &mut [u8], text: &mut [u8], lines: &[u8], from: usize
     let mut lens = [0usize; SLOTS];
     let mut heads = [0u16; SLOTS];
     let mut next = [0u16; SLOTS];
-    let fill = load(
+    let seen = survey(
         index,
+        text,
         &mut highs,
         &mut lows,
         &mut starts,
@@ -223,6 +224,7 @@ pub fn insert_batch(index: &mut [u8], text: &mut [u8], lines: &[u8], from: usize
         &mut heads,
         &mut next,
     );
+    let fill = seen.fill;
     let part = take_lines(
         index,
         text,
@@ -236,7 +238,6 @@ pub fn insert_batch(index: &mut [u8], text: &mut [u8], lines: &[u8], from: usize
         fill,
         from,
     );
-    let old = fill.count;
     let count = part.filled;
     settle(
         index,
@@ -246,7 +247,7 @@ pub fn insert_batch(index: &mut [u8], text: &mut [u8], lines: &[u8], from: usize
         &lows,
         &starts,
         &lens,
-        old,
+        fill,
         count,
     );
     part

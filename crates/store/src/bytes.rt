@@ -7,16 +7,6 @@ ghost use Rattle.text.specs.Bytes.{written};
 ghost use Rattle.store.specs.Decode.{zeroes, word, word8};
 ghost use Rattle.store.specs.Inner.{eight, be2, be4, be8};
 
-// The byte at k, and 0 past the end.
-fn byte_at(s: &[u8], k: usize) -> u8
-    ensures { λ r. ⌜ r ≡ getD (now (s .entry)) k 0 ⌝ }
-{
-    if k < s.len() {
-        return s[k];
-    }
-    0
-}
-
 // Copies the eight bytes at j to i. All are read first: then they make one load and one store.
 fn move_eight(part: &mut [u8], i: usize, j: usize)
     requires { ⌜ (i ≤ j) × (j + 8 ≤ length (now part)) ⌝ }
@@ -54,27 +44,6 @@ fn close_front(part: &mut [u8], gap: usize) -> usize
         i += 8;
     }
     i
-}
-
-// Closes a gap byte by byte: what `close_front` leaves.
-fn close_end(part: &mut [u8], gap: usize)
-    requires { ⌜ gap ≤ length (now part) ⌝ }
-    ensures { λ r. ⌜ now (part .exit) ≡ drop gap (now (part .entry)) ++ replicate gap 0 ⌝ }
-{
-    let mut i = 0;
-    while i < part.len() {
-        part[i] = byte_at(part, i + gap);
-        i += 1;
-    }
-}
-
-// Closes a gap of that many bytes at the front, and zeroes the tail: what a part that is lent onward goes through.
-pub fn close_gap(part: &mut [u8], gap: usize)
-    requires { ⌜ gap ≤ length (now part) ⌝ }
-    ensures { λ r. ⌜ now (part .exit) ≡ drop gap (now (part .entry)) ++ replicate gap 0 ⌝ }
-{
-    let from = close_front(part, gap);
-    close_end(&mut part[from..], gap);
 }
 
 // Moves all bytes but the first `gap` down to the front; the last `gap` stay as they are.
@@ -131,6 +100,16 @@ pub fn zero_all(s: &mut [u8])
     while i < s.len() {
         s[i] = 0;
         i += 1;
+    }
+}
+
+// Sets the bytes from one place up to another to 0; none where the other is not behind it.
+pub fn zero_between(s: &mut [u8], from: usize, to: usize)
+    requires { ⌜ (from ≤ length (now s)) × (to ≤ length (now s)) ⌝ }
+    ensures { λ r. ⌜ now (s .exit) ≡ written (now (s .entry)) from (replicate (to - from) 0) ⌝ }
+{
+    if from < to {
+        zero_all(&mut s[from..to]);
     }
 }
 

@@ -1,7 +1,7 @@
 // The public calls of a store. Each takes any buffers and arguments; specs/Answers gives document 01's numbers.
 use crate::batch::insert_batch;
 use crate::bytes::zero_all;
-use crate::records::find;
+use crate::look::look;
 use crate::saving::file_built;
 use crate::saving::refused_save;
 use crate::saving::saved_as;
@@ -63,29 +63,17 @@ pub enum Look {
 pub fn found(index: &[u8], text: &[u8], uuid: Uuid) -> Look
     ensures { λ r. ⌜ r ≡ saysOf (lookUp uuid (now (index .entry)) (now (text .entry))) ⌝ }
 {
-    if !sound(index, text) {
-        return Look::Unsound;
-    }
-    let spot = find(index, uuid);
-    if spot.head.size == 0 {
-        return Look::Missing;
-    }
-    Look::Found
+    let seen = look(index, text, uuid);
+    seen.how
 }
 
 // The line held under a UUID, as a part of the text; an empty part where none is held, or the store is not sound.
 pub fn get<'a>(index: &[u8], text: &'a [u8], uuid: Uuid) -> &'a [u8]
     ensures { λ r. ⌜ now r ≡ lineOf (lookUp uuid (now (index .entry)) (now (text .entry))) ⌝ }
 {
-    if !sound(index, text) {
-        return &text[0..0];
-    }
-    let spot = find(index, uuid);
-    if spot.head.size == 0 {
-        return &text[0..0];
-    }
-    let offset = spot.head.off;
-    let length = spot.head.len;
+    let seen = look(index, text, uuid);
+    let offset = seen.start;
+    let length = seen.len;
     &text[offset..offset + length]
 }
 

@@ -4,7 +4,8 @@ ghost use mathlib.Core.Path.{_≡_};
 ghost use mathlib.Core.Bool.{true, false};
 ghost use Prim.Native.Nat.{ℕ, suc, _+_, _-_, _≤_, _<_};
 ghost use Rattle.store.specs.Held.{sameKey};
-ghost use Rattle.store.specs.Keys.{keyAt, slots, bucket, Linked, Kin, Chained, Seeks, Sought, Says};
+ghost use Rattle.store.specs.Keys.{keyAt, slots, bucket, Linked, Kin, Chained, Seeks, Sought};
+ghost use Rattle.store.specs.Keys.{seekSays, toldOf, Tells};
 
 // The most keys that are compared at once: more than an index of 65535 bytes has records.
 pub const SLOTS: usize = 4096;
@@ -101,23 +102,52 @@ pub fn link(
     r
 }
 
-// Whether a key stands twice among the first n, by chains.
-pub fn chain_all(highs: &[u64; SLOTS], lows: &[u64; SLOTS], n: usize) -> Verdict
-    requires { ⌜ n ≤ slots ⌝ }
-    ensures { λ r. ⌜ Says (keyAt (now (highs .entry)) (now (lows .entry))) n r ⌝ }
+// What `seek` shows of the key of number n: it stands before, it does not, or the chain was too long.
+fn shown(n: usize, r: usize) -> Verdict
+    ensures { λ v. ⌜ v ≡ seekSays n r ⌝ }
 {
-    let mut heads = [0u16; SLOTS];
-    let mut next = [0u16; SLOTS];
+    if n < r {
+        return Verdict::Unsure;
+    }
+    if r == 0 {
+        return Verdict::Apart;
+    }
+    Verdict::Twice
+}
+
+// What is known of the first n + 1 numbers, by what is of the first n and what `seek` answers for number n.
+pub fn told(known: Verdict, n: usize, r: usize) -> Verdict
+    ensures { λ v. ⌜ v ≡ toldOf known n r ⌝ }
+{
+    match known {
+        Verdict::Apart => shown(n, r),
+        Verdict::Twice => Verdict::Twice,
+        Verdict::Unsure => Verdict::Unsure,
+    }
+}
+
+// How many steps are worth while: none where nothing more is told.
+pub fn steps(known: Verdict) -> usize {
+    match known {
+        Verdict::Apart => CHAIN_MAX,
+        Verdict::Twice => 0,
+        Verdict::Unsure => 0,
+    }
+}
+
+// Whether no key stands twice among the first n, each sought in its chain to the end.
+pub fn seek_all(highs: &[u64; SLOTS], lows: &[u64; SLOTS], next: &[u16; SLOTS], n: usize) -> bool
+    requires { ⌜ n ≤ slots ⌝ }
+    requires { ⌜ Linked (keyAt (now highs) (now lows)) (now next) n ⌝ }
+    ensures { λ r. ⌜ Tells (keyAt (now (highs .entry)) (now (lows .entry))) n r ⌝ }
+{
     let mut k = 0;
     while k < n {
-        let r = link(highs, lows, &mut heads, &mut next, k, CHAIN_MAX);
-        if k < r {
-            return Verdict::Unsure;
-        }
+        let r = seek(highs, lows, next, number(next[k]), k, SLOTS);
         if 0 < r {
-            return Verdict::Twice;
+            return false;
         }
         k += 1;
     }
-    Verdict::Apart
+    true
 }

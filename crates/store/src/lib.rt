@@ -5,6 +5,7 @@ pub mod calls;
 mod chains;
 mod filing;
 mod lines;
+mod look;
 mod order;
 mod records;
 mod saving;

@@ -2,9 +2,10 @@
 use crate::calls::Answer;
 use crate::calls::SaveAnswer;
 use crate::calls::Saved;
+use crate::chains::SLOTS;
 use crate::filing::file_line;
 use crate::search::find_text;
-use crate::soundness::check_store;
+use crate::soundness::take_stock;
 use line::mapping::Mapping;
 use text::bytes::find_byte;
 use text::uuid::Uuid;
@@ -23,12 +24,39 @@ pub fn file_built(index: &mut [u8], text: &mut [u8], uuid: Uuid, line: &[u8]) ->
         record { answer = r; index = now (index .exit); text = now (text .exit) }
         ≡ storeFile (now (index .entry)) (now (text .entry)) (under uuid (now (line .entry))) ⌝ }
 {
-    let shown = check_store(index, text);
-    if !shown.sound {
+    let mut highs = [0u64; SLOTS];
+    let mut lows = [0u64; SLOTS];
+    let mut starts = [0usize; SLOTS];
+    let mut lens = [0usize; SLOTS];
+    let mut heads = [0u16; SLOTS];
+    let mut next = [0u16; SLOTS];
+    let stock = take_stock(
+        index,
+        text,
+        &mut highs,
+        &mut lows,
+        &mut starts,
+        &mut lens,
+        &mut heads,
+        &mut next,
+    );
+    if !stock.sound {
         return Answer::Unsound;
     }
-    let all = shown.all;
-    if !file_line(index, text, all, uuid, line) {
+    let fill = stock.fill;
+    if !file_line(
+        index,
+        text,
+        &mut highs,
+        &mut lows,
+        &mut starts,
+        &mut lens,
+        &mut heads,
+        &mut next,
+        fill,
+        uuid,
+        line,
+    ) {
         return Answer::NoRoom;
     }
     Answer::Done

@@ -1,8 +1,7 @@
-// Lines by number while an insert files them: keys, starts and lengths in arrays, and chains by the keys. A line that
+// Lines by number: keys, starts and lengths in arrays, and chains by the keys. A line that
 // is struck out keeps its number, with length 0.
 use crate::chains::SLOTS;
 use crate::chains::link;
-use crate::records::read_head;
 use crate::records::record_size;
 use text::uuid::Uuid;
 ghost use mathlib.Core.Path.{_≡_};
@@ -11,7 +10,7 @@ ghost use Prim.Native.Nat.{ℕ, suc, _+_, _-_, _≤_, _<_};
 ghost use lib.ListN.{length, take, drop};
 ghost use Rattle.store.specs.Held.{bufferMax};
 ghost use Rattle.store.specs.Keys.{slots, keyAt, Chained, Sought};
-ghost use Rattle.store.specs.Slots.{Long, more, Loads, lenBefore, struckBefore, Ends, Fileable, FilesSlot};
+ghost use Rattle.store.specs.Slots.{more, lenBefore, struckBefore, Ends, Fileable, FilesSlot};
 
 // How many numbers are taken, and how many bytes of the index and of the text the lines that are held take.
 pub struct Fill {
@@ -20,8 +19,9 @@ pub struct Fill {
     pub used: usize,
 }
 
-// Writes a line down under number n. Returns one more than the last number before it with the same key, or 0.
-fn put_slot(
+// Writes a line down under number n, and answers as `seek` does: one more than the last number before it with the same
+// key, 0 where none has it, or n + 1 where the chain has more than `most` steps.
+pub fn put_slot(
     highs: &mut [u64; SLOTS],
     lows: &mut [u64; SLOTS],
     starts: &mut [usize; SLOTS],
@@ -32,6 +32,7 @@ fn put_slot(
     key: Uuid,
     start: usize,
     len: usize,
+    most: usize,
 ) -> usize
     requires { ⌜ n < slots ⌝ }
     requires { ⌜ Chained (keyAt (now highs) (now lows)) (now heads) (now next) n ⌝ }
@@ -48,7 +49,7 @@ fn put_slot(
           starts = now (starts .entry);
           lens = now (lens .entry);
         }) n key start len ⌝ }
-    ensures { λ r. ⌜ Sought (keyAt (now (highs .exit)) (now (lows .exit))) n r × (r ≤ n) ⌝ }
+    ensures { λ r. ⌜ Sought (keyAt (now (highs .exit)) (now (lows .exit))) n r × (slots ≤ most → r ≤ n) ⌝ }
     ensures { λ r. ⌜
         Chained (keyAt (now (highs .exit)) (now (lows .exit))) (now (heads .exit)) (now (next .exit)) (n + 1) ⌝ }
 {
@@ -56,65 +57,11 @@ fn put_slot(
     lows[n] = key.low;
     starts[n] = start;
     lens[n] = len;
-    link(highs, lows, heads, next, n, SLOTS)
-}
-
-// Writes the lines of a sound store down, and measures them.
-pub fn load(
-    index: &[u8],
-    highs: &mut [u64; SLOTS],
-    lows: &mut [u64; SLOTS],
-    starts: &mut [usize; SLOTS],
-    lens: &mut [usize; SLOTS],
-    heads: &mut [u16; SLOTS],
-    next: &mut [u16; SLOTS],
-) -> Fill
-    requires { ⌜ length (now index) ≤ bufferMax ⌝ }
-    requires { ⌜ Chained (keyAt (now highs) (now lows)) (now heads) (now next) 0 ⌝ }
-    requires { ⌜ Long (record { highs = now highs; lows = now lows; starts = now starts; lens = now lens }) ⌝ }
-    ensures { λ r. ⌜
-        Loads (now (index .entry))
-        (record {
-          highs = now (highs .exit);
-          lows = now (lows .exit);
-          starts = now (starts .exit);
-          lens = now (lens .exit);
-        }) (now (heads .exit)) (now (next .exit)) r ⌝ }
-    ensures { λ r. ⌜ r .count < slots ⌝ }
-{
-    let mut at = 0;
-    let mut used = 0;
-    let mut n = 0;
-    loop {
-        let head = read_head(&index[at..]);
-        let size = head.size;
-        if size == 0 {
-            return Fill {
-                count: n,
-                end: at,
-                used: used,
-            };
-        }
-        put_slot(
-            highs,
-            lows,
-            starts,
-            lens,
-            heads,
-            next,
-            n,
-            head.key,
-            head.off,
-            head.len,
-        );
-        at += size;
-        used = head.off + head.len;
-        n += 1;
-    }
+    link(highs, lows, heads, next, n, most)
 }
 
 // The length of the line of the number before r, and 0 where r is 0.
-fn len_before(lens: &[usize; SLOTS], r: usize) -> usize
+pub fn len_before(lens: &[usize; SLOTS], r: usize) -> usize
     requires { ⌜ r ≤ slots ⌝ }
     ensures { λ v. ⌜ v ≡ lenBefore (now (lens .entry)) r ⌝ }
 {
@@ -164,11 +111,11 @@ pub fn file_slot(
 ) -> Fill
     requires { ⌜ fill .count < slots ⌝ }
     requires { ⌜
-        Fileable (length (now index)) (length (now text)) (now text)
+        Fileable (now index) (now text)
         (record { highs = now highs; lows = now lows; starts = now starts; lens = now lens }) (now heads) (now next)
         fill key start len ⌝ }
     ensures { λ r. ⌜
-        FilesSlot (length (now (index .entry))) (length (now (text .entry))) (now (text .entry))
+        FilesSlot (now (index .entry)) (now (text .entry))
         (record {
           highs = now (highs .entry);
           lows = now (lows .entry);
@@ -183,7 +130,19 @@ pub fn file_slot(
         }) (now (heads .exit)) (now (next .exit)) r ⌝ }
 {
     let n = fill.count;
-    let r = put_slot(highs, lows, starts, lens, heads, next, n, key, start, len);
+    let r = put_slot(
+        highs,
+        lows,
+        starts,
+        lens,
+        heads,
+        next,
+        n,
+        key,
+        start,
+        len,
+        SLOTS,
+    );
     let had = len_before(lens, r);
     let used = fill.used - had + len;
     let end = end_with(fill.end, had, key);

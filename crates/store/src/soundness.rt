@@ -1,35 +1,43 @@
-// Whether two buffers are a sound store.
+// Whether two buffers are a sound store: one walk over the records checks them and writes the lines down.
 use crate::bytes::all_zero;
 use crate::chains::SLOTS;
 use crate::chains::Verdict;
-use crate::order::check_keys;
-use crate::records::Extent;
+use crate::chains::steps;
+use crate::chains::told;
+use crate::order::each_once;
 use crate::records::Head;
-use crate::records::find;
-use crate::records::read_head;
 use crate::records::stands;
 use crate::records::whole_head;
-use text::uuid::Uuid;
+use crate::slots::Fill;
+use crate::slots::put_slot;
 ghost use mathlib.Core.Path.{_≡_};
-ghost use mathlib.Core.Bool.{_&&_};
+ghost use mathlib.Core.Bool.{_&&_, false};
 ghost use mathlib.Core.List.{List, _∷_, _++_};
 ghost use Prim.Native.Nat.{ℕ, suc, _+_, _-_, _≤_, _<_};
 ghost use lib.ListN.{length, take, drop};
 ghost use Rattle.store.specs.Decode.{headFits, zeroes, decode};
 ghost use Rattle.store.specs.Held.{bufferMax};
-ghost use Rattle.store.specs.Inner.{known, Sounds, Holds, Once};
-ghost use Rattle.store.specs.Keys.{slots, keyAt, Lists, Surveys};
+ghost use Rattle.store.specs.Inner.{known};
+ghost use Rattle.store.specs.Keys.{keyAt, Chained};
+ghost use Rattle.store.specs.Slots.{Long, Surveys, Stocks};
 
 // The most bytes of a line, and of a buffer.
 pub const LINE_MAX: usize = 4096;
 
 pub const BUFFER_MAX: usize = 65535;
 
-// What a walk over a store shows: whether it is sound, how many records it has, and where records and lines end.
-pub struct Survey {
+// What a walk over a store shows: whether records and lines are those of some list, in which a key may stand twice;
+// whether one does, as far as chains told; and how much is in use.
+pub struct Surveyed {
+    pub whole: bool,
+    pub verdict: Verdict,
+    pub fill: Fill,
+}
+
+// Whether a store is sound, and how much of it is in use.
+pub struct Stock {
     pub sound: bool,
-    pub count: usize,
-    pub all: Extent,
+    pub fill: Fill,
 }
 
 // Whether a record is of a line at that offset, which fits in that many bytes of text.
@@ -59,120 +67,146 @@ fn zero_behind(index: &[u8], text: &[u8], at: usize, off: usize) -> bool
     all_zero(&text[off..])
 }
 
-// Whether the records and the lines are those of some list, where a key may stand twice. Writes down the keys.
-fn walk_records(
+// Walks over the records, checks them, and writes each line down in its chain.
+pub fn survey(
     index: &[u8],
     text: &[u8],
     highs: &mut [u64; SLOTS],
     lows: &mut [u64; SLOTS],
-) -> Survey
+    starts: &mut [usize; SLOTS],
+    lens: &mut [usize; SLOTS],
+    heads: &mut [u16; SLOTS],
+    next: &mut [u16; SLOTS],
+) -> Surveyed
     requires { ⌜ (length (now index) ≤ bufferMax) × (length (now text) ≤ bufferMax) ⌝ }
-    requires { ⌜ (length (now highs) ≡ slots) × (length (now lows) ≡ slots) ⌝ }
+    requires { ⌜ Chained (keyAt (now highs) (now lows)) (now heads) (now next) 0 ⌝ }
+    requires { ⌜ Long (record { highs = now highs; lows = now lows; starts = now starts; lens = now lens }) ⌝ }
     ensures { λ r. ⌜
-        Surveys (now (index .entry)) (now (text .entry)) (keyAt (now (highs .exit)) (now (lows .exit))) r ⌝ }
+        Surveys (now (index .entry)) (now (text .entry))
+        (record {
+          highs = now (highs .exit);
+          lows = now (lows .exit);
+          starts = now (starts .exit);
+          lens = now (lens .exit);
+        }) (now (heads .exit)) (now (next .exit)) r ⌝ }
 {
     let mut at = 0;
-    let mut off = 0;
+    let mut used = 0;
     let mut n = 0;
+    let mut verdict = Verdict::Apart;
     while stands(&index[at..]) {
         let head = whole_head(&index[at..]);
-        if !head_fits(off, head, text.len() - off) {
-            return Survey {
-                sound: false,
-                count: 0,
-                all: Extent { end: 0, used: 0 },
+        if !head_fits(used, head, text.len() - used) {
+            return Surveyed {
+                whole: false,
+                verdict,
+                fill: Fill {
+                    count: n,
+                    end: at,
+                    used: used,
+                },
             };
         }
-        let key = head.key;
-        highs[n] = key.high;
-        lows[n] = key.low;
+        let r = put_slot(
+            highs,
+            lows,
+            starts,
+            lens,
+            heads,
+            next,
+            n,
+            head.key,
+            head.off,
+            head.len,
+            steps(verdict),
+        );
+        verdict = told(verdict, n, r);
         at += head.size;
-        off += head.len;
+        used += head.len;
         n += 1;
     }
-    Survey {
-        sound: zero_behind(index, text, at, off),
-        count: n,
-        all: Extent { end: at, used: off },
+    Surveyed {
+        whole: zero_behind(index, text, at, used),
+        verdict,
+        fill: Fill {
+            count: n,
+            end: at,
+            used: used,
+        },
     }
 }
 
-// Whether a record of that key stands in the index.
-fn has_key(index: &[u8], key: Uuid) -> bool
-    ensures { λ r. ⌜ Holds (now (index .entry)) key r ⌝ }
+// A store that is not sound.
+fn unsound() -> Stock
+    ensures { λ r. ⌜ r .sound ≡ false ⌝ }
 {
-    let spot = find(index, key);
-    spot.head.size != 0
-}
-
-// Whether no key stands in two records: each is compared with every later one.
-fn compare_all(index: &[u8]) -> bool
-    ensures { λ r. ⌜ Once (now (index .entry)) r ⌝ }
-{
-    let mut at = 0;
-    loop {
-        let head = read_head(&index[at..]);
-        let size = head.size;
-        if size == 0 {
-            return true;
-        }
-        at += size;
-        let key = head.key;
-        if has_key(&index[at..], key) {
-            return false;
-        }
+    Stock {
+        sound: false,
+        fill: Fill {
+            count: 0,
+            end: 0,
+            used: 0,
+        },
     }
 }
 
-// Whether no key stands in two records, the keys being those n. Chains show it, or else an order; `compare_all` says
-// what is asked.
-fn each_once(index: &[u8], highs: &[u64; SLOTS], lows: &[u64; SLOTS], n: usize) -> bool
-    requires { ⌜ n ≤ slots ⌝ }
-    requires { ⌜ Lists (now index) (keyAt (now highs) (now lows)) n ⌝ }
-    ensures { λ r. ⌜ Once (now (index .entry)) r ⌝ }
-{
-    let verdict = check_keys(highs, lows, n);
-    match verdict {
-        Verdict::Apart => true,
-        Verdict::Twice => false,
-        Verdict::Unsure => compare_all(index),
-    }
-}
-
-// Whether the store is sound, and where the records and the lines of a sound one end.
-pub fn check_store(index: &[u8], text: &[u8]) -> Survey
-    ensures { λ r. ⌜ Sounds (now (index .entry)) (now (text .entry)) r ⌝ }
+// Whether the store is sound. Writes its lines down.
+pub fn take_stock(
+    index: &[u8],
+    text: &[u8],
+    highs: &mut [u64; SLOTS],
+    lows: &mut [u64; SLOTS],
+    starts: &mut [usize; SLOTS],
+    lens: &mut [usize; SLOTS],
+    heads: &mut [u16; SLOTS],
+    next: &mut [u16; SLOTS],
+) -> Stock
+    requires { ⌜ Chained (keyAt (now highs) (now lows)) (now heads) (now next) 0 ⌝ }
+    requires { ⌜ Long (record { highs = now highs; lows = now lows; starts = now starts; lens = now lens }) ⌝ }
+    ensures { λ r. ⌜
+        Stocks (now (index .entry)) (now (text .entry))
+        (record {
+          highs = now (highs .exit);
+          lows = now (lows .exit);
+          starts = now (starts .exit);
+          lens = now (lens .exit);
+        }) (now (heads .exit)) (now (next .exit)) r ⌝ }
 {
     if BUFFER_MAX < index.len() {
-        return Survey {
-            sound: false,
-            count: 0,
-            all: Extent { end: 0, used: 0 },
-        };
+        return unsound();
     }
     if BUFFER_MAX < text.len() {
-        return Survey {
-            sound: false,
-            count: 0,
-            all: Extent { end: 0, used: 0 },
-        };
+        return unsound();
     }
-    let mut highs = [0u64; SLOTS];
-    let mut lows = [0u64; SLOTS];
-    let walked = walk_records(index, text, &mut highs, &mut lows);
-    if !walked.sound {
-        return walked;
+    let seen = survey(index, text, highs, lows, starts, lens, heads, next);
+    if !seen.whole {
+        return unsound();
     }
-    let count = walked.count;
-    let all = walked.all;
-    let sound = each_once(index, &highs, &lows, count);
-    Survey { sound, count, all }
+    let fill = seen.fill;
+    let verdict = seen.verdict;
+    let sound = each_once(highs, lows, next, fill.count, verdict);
+    Stock { sound, fill }
 }
 
 // Whether the store is sound.
 pub fn sound(index: &[u8], text: &[u8]) -> bool
     ensures { λ r. ⌜ r ≡ known (decode (now (index .entry)) (now (text .entry))) ⌝ }
 {
-    let shown = check_store(index, text);
-    shown.sound
+    let mut highs = [0u64; SLOTS];
+    let mut lows = [0u64; SLOTS];
+    let mut starts = [0usize; SLOTS];
+    let mut lens = [0usize; SLOTS];
+    let mut heads = [0u16; SLOTS];
+    let mut next = [0u16; SLOTS];
+    let stock = take_stock(
+        index,
+        text,
+        &mut highs,
+        &mut lows,
+        &mut starts,
+        &mut lens,
+        &mut heads,
+        &mut next,
+    );
+    stock.sound
 }

@@ -31,7 +31,7 @@ returns c =
     let back5 = c .before .before .before .before .before in
     let args = back5 .before .before .args in
     let pre = back5 .before .before .pre in
-    slot-not (length (args .index .now)) (length (args .text .now)) (args .text .now) (args .lines .now) _
+    slot-not (args .index .now) (args .text .now) (args .lines .now) _
     (args .heads .now) (args .next .now) (args .fill) (args .at) (args .len) (pre .0 .1)
     (wanted-part (args .lines .now) (args .at) (args .len) _ _ (c .before .before .wanted .ensures)
     (c .enum-told .given .1))
@@ -45,7 +45,7 @@ returns-2 c =
     let back10 = back5 .before .before .before .before .before in
     let args = back10 .args in
     let pre = back10 .pre in
-    slot-long (length (args .index .now)) (length (args .text .now)) (args .text .now) (args .lines .now) _
+    slot-long (args .index .now) (args .text .now) (args .lines .now) _
     (args .heads .now) (args .next .now) (args .fill) (args .at) (args .len) (pre .0 .1)
     _ (wanted-part (args .lines .now) (args .at) (args .len) _ _
     (c .before .before .before .before .before .wanted .ensures) (c .before .before .before .uuid .given .1))
@@ -65,7 +65,7 @@ file-slot-requires c κs =
           pre .1 .0,
           (
             pre .1 .1 .0,
-            slot-files (length (args .index .now)) (length (args .text .now)) (args .text .now) (args .lines .now) _
+            slot-files (args .index .now) (args .text .now) (args .lines .now) _
                 (args .heads .now) (args .next .now) (args .fill) (args .at) (args .len) (pre .0 .1)
                 _ (wanted-part (args .lines .now) (args .at) (args .len) _ _ (back10 .wanted .ensures)
                 (back5 .before .before .before .uuid .given .1))
@@ -86,7 +86,7 @@ returns-3 c =
     let back20 = back15 .before .before .before .before .before in
     let args = back20 .args in
     let pre = back20 .pre in
-    slot-full (length (args .index .now)) (length (args .text .now)) (args .text .now) (args .lines .now) _
+    slot-full (args .index .now) (args .text .now) (args .lines .now) _
     (args .heads .now) (args .next .now) (args .fill) (args .at) (args .len) (pre .0 .1)
     _ (wanted-part (args .lines .now) (args .at) (args .len) _ _ (back15 .wanted .ensures)
     (back10 .before .before .before .uuid .given .1))
@@ -101,7 +101,7 @@ returns-4 c =
     let back15 = back10 .before .before .before .before .before in
     let args = back15 .before .before .before .before .args in
     let pre = back15 .before .before .before .before .pre in
-    slot-filed (length (args .index .now)) (length (args .text .now)) (args .text .now) (args .lines .now) _
+    slot-filed (args .index .now) (args .text .now) (args .lines .now) _
     (args .heads .now) (args .next .now) (args .fill) (args .at) (args .len) (pre .0 .1)
     _ (wanted-part (args .lines .now) (args .at) (args .len) _ _
     (back10 .before .before .before .before .wanted .ensures) (back10 .before .before .uuid .given .1))

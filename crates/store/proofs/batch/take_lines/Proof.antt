@@ -20,7 +20,7 @@ use Rattle.store.proofs.batch.take_lines.Tie as tie
 abbrev Inv-loop : tie.InvT-loop
 Inv-loop index text lines highs₀ lows₀ starts₀ lens₀ heads₀ next₀ from at₀ count₀ fill₀ highs lows starts lens heads
     next at count fill =
-    Taking (length index) (length text) text lines
+    Taking index text lines
     (record { highs = highs₀; lows = lows₀; starts = starts₀; lens = lens₀ }) heads₀ next₀ from fill₀
     (record { highs = highs; lows = lows; starts = starts; lens = lens }) heads next fill at count
 
@@ -32,7 +32,7 @@ abbrev μ-loop : tie.MeasureT-loop
 loop-holds : tie.Need-loop-holds Inv-loop μ-loop
 loop-holds c =
     let args = c .before .before .before .args in
-    take-first (length (args .index .now)) (length (args .text .now)) (args .text .now) (args .lines .now)
+    take-first (args .index .now) (args .text .now) (args .lines .now)
     (record { highs = args .highs .now; lows = args .lows .now; starts = args .starts .now; lens = args .lens .now })
     (args .heads .now) (args .next .now) (args .from) (args .first) (c .before .before .before .pre .0)
 
@@ -68,7 +68,7 @@ reach-slot-requires c κs =
     let args = back15 .before .before .args in
     let loop = back10 .before .before .before .loop in
     let cut = back5 .before .line-length in
-    let now = taken (length (args .index .now)) (length (args .text .now)) (args .text .now) (args .lines .now)
+    let now = taken (args .index .now) (args .text .now) (args .lines .now)
     (record { highs = args .highs .now; lows = args .lows .now; starts = args .starts .now; lens = args .lens .now })
     (args .heads .now) (args .next .now) (args .from) (args .first)
     (record { highs = loop .highs; lows = loop .lows; starts = loop .starts; lens = loop .lens })
@@ -92,7 +92,7 @@ returns c =
     let back20 = back15 .before .before .before .before .before in
     let args = back20 .before .before .args in
     let loop = back15 .before .before .before .loop in
-    take-off (length (args .index .now)) (length (args .text .now)) (args .text .now) (args .lines .now)
+    take-off (args .index .now) (args .text .now) (args .lines .now)
     (record { highs = args .highs .now; lows = args .lows .now; starts = args .starts .now; lens = args .lens .now })
     (args .heads .now) (args .next .now) (args .from) (args .first)
     (record { highs = loop .highs; lows = loop .lows; starts = loop .starts; lens = loop .lens })
@@ -183,7 +183,7 @@ loop-again c =
       first-le lf (take (length (args .lines .now) - loop .at) (drop (loop .at) (args .lines .now))),
       tail-length (loop .at) (args .lines .now),
     ) in
-    take-turn (length (args .index .now)) (length (args .text .now)) (args .text .now) (args .lines .now)
+    take-turn (args .index .now) (args .text .now) (args .lines .now)
     (record { highs = args .highs .now; lows = args .lows .now; starts = args .starts .now; lens = args .lens .now })
     (args .heads .now) (args .next .now) (args .from) (args .first)
     (record { highs = loop .highs; lows = loop .lows; starts = loop .starts; lens = loop .lens })
@@ -202,7 +202,7 @@ returns-2 c =
     let back5 = c .before .before .before .before .before in
     let args = back5 .before .args in
     let loop = c .before .before .loop in
-    take-on (length (args .index .now)) (length (args .text .now)) (args .text .now) (args .lines .now)
+    take-on (args .index .now) (args .text .now) (args .lines .now)
     (record { highs = args .highs .now; lows = args .lows .now; starts = args .starts .now; lens = args .lens .now })
     (args .heads .now) (args .next .now) (args .from) (args .first)
     (record { highs = loop .highs; lows = loop .lows; starts = loop .starts; lens = loop .lens })
@@ -210,7 +210,7 @@ returns-2 c =
     (λ p q. ⊎-elim
     (λ x. ⊎-elim (λ e. absurd (omega
     (arith, loop .inv .still (sym e), ltb-false (loop .fill .count) slots (x .2 .left)))) (λ l. l)
-    (eq-or-lt-of-le (first-at (length (args .index .now)) (length (args .text .now)) (args .text .now)
+    (eq-or-lt-of-le (first-at (args .index .now) (args .text .now)
     (args .lines .now)
     (record { highs = args .highs .now; lows = args .lows .now; starts = args .starts .now; lens = args .lens .now })
     (args .heads .now) (args .next .now) (args .from) (args .first)

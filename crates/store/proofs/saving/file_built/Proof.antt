@@ -3,12 +3,14 @@ use mathlib.Core.Path.{sym, _∙_}
 use borrow.Author.Needs.{needs}
 use borrow.Author.Tests.{not-true, not-false}
 use Rattle.store.specs.Book.{under}
+use Rattle.store.proofs.BatchLaws.{empty-long}
+use Rattle.store.proofs.ChainLaws.{chained-none}
 use Rattle.store.proofs.SaveLaws.{file-unsound, file-done, file-full}
 use Rattle.store.proofs.saving.file_built.Statement.{statement}
 use Rattle.store.proofs.saving.file_built.Tie as tie
 
-check-store-requires : tie.Need-check-store-requires
-check-store-requires c κs = search needs
+take-stock-requires : tie.Need-take-stock-requires
+take-stock-requires c κs = (chained-none _, empty-long)
 
 same-length : tie.Need-same-length
 same-length c = search needs
@@ -18,24 +20,15 @@ same-length-2 c = search needs
 
 returns : tie.Need-returns
 returns c =
-    let args = c .before .before .before .before .before .before .before .before .args in
-    let check-store = c .before .before .check-store in
-    let if1 = c .if1 in
-    file-unsound (args .index .now) (args .text .now) (under (args .uuid) (args .line .now)) (sym (check-store
-    .ensures .is) ∙ not-true _ (if1 .taken))
+    let args = c .before .before .before .before .before .before .before .before .before .before .before .before .before .before .args in
+    file-unsound (args .index .now) (args .text .now) (under (args .uuid) (args .line .now)) (sym (c .before .before .take-stock .ensures .is) ∙ not-true _ (c .if1 .taken))
 
 file-line-requires : tie.Need-file-line-requires
 file-line-requires c κs =
-    let pre = c .before .before .before .before .before .before .before .before .before .before .before .pre in
-    let check-store = c .before .before .before .before .before .check-store in
-    let if1 = c .before .before .before .if1 in (
-      check-store .ensures .ends (not-false _ (if1 .left)),
-      (
-        (sym (check-store .ensures .is) ∙ not-false _ (if1
-            .left)),
-        pre,
-      ),
-    )
+    let pre = c .before .before .before .before .before .before .before .before .before .before .before .before .before .before .before .before .before .before .before .before .before .before .before .pre in
+    let stock = c .before .before .before .before .before .before .before .before .before .before .before .take-stock in
+    let e = not-false _ (c .before .before .before .before .before .before .before .before .before .if1 .left) in
+    (sym (stock .ensures .is) ∙ e, (pre, stock .ensures .loads e))
 
 same-length-3 : tie.Need-same-length-3
 same-length-3 c = search needs
@@ -45,15 +38,11 @@ same-length-4 c = search needs
 
 returns-2 : tie.Need-returns-2
 returns-2 c =
-    let args = c .before .before .before .before .before .before .before .before .before .before .before .before
-    .before .before .before .before .before .args in
-    let check-store = c .before .before .before .before .before .before .before .before .before .before .before
-    .check-store in
-    let if1 = c .before .before .before .before .before .before .before .before .before .if1 in
-    let file-line = c .before .before .before .before .before .file-line in
-    let if2 = c .if2 in
-    file-full (args .index .now) (args .text .now) (under (args .uuid) (args .line .now)) (sym (check-store .ensures
-    .is) ∙ not-false _ (if1 .left)) (file-line .result) _ _ (file-line .ensures) (not-true _ (if2 .taken))
+    let args = c .before .before .before .before .before .before .before .before .before .before .before .before .before .before .before .before .before .before .before .before .before .before .before .before .before .before .before .before .before .args in
+    let stock = c .before .before .before .before .before .before .before .before .before .before .before .before .before .before .before .before .before .take-stock in
+    let filed = c .before .before .before .before .before .file-line in
+    file-full (args .index .now) (args .text .now) (under (args .uuid) (args .line .now)) (sym (stock .ensures .is) ∙ not-false _ (c .before .before .before .before .before .before .before .before .before .before .before .before .before .before .before .if1 .left)) (filed .result) _ _ (filed .ensures)
+    (not-true _ (c .if2 .taken))
 
 same-length-5 : tie.Need-same-length-5
 same-length-5 c = search needs
@@ -63,21 +52,17 @@ same-length-6 c = search needs
 
 returns-3 : tie.Need-returns-3
 returns-3 c =
-    let args = c .before .before .before .before .before .before .before .before .before .before .before .before
-    .before .before .before .before .before .args in
-    let check-store = c .before .before .before .before .before .before .before .before .before .before .before
-    .check-store in
-    let if1 = c .before .before .before .before .before .before .before .before .before .if1 in
-    let file-line = c .before .before .before .before .before .file-line in
-    let if2 = c .if2 in
-    file-done (args .index .now) (args .text .now) (under (args .uuid) (args .line .now)) (sym (check-store .ensures
-    .is) ∙ not-false _ (if1 .left)) (file-line .result) _ _ (file-line .ensures) (not-false _ (if2 .left))
+    let args = c .before .before .before .before .before .before .before .before .before .before .before .before .before .before .before .before .before .before .before .before .before .before .before .before .before .before .before .before .before .args in
+    let stock = c .before .before .before .before .before .before .before .before .before .before .before .before .before .before .before .before .before .take-stock in
+    let filed = c .before .before .before .before .before .file-line in
+    file-done (args .index .now) (args .text .now) (under (args .uuid) (args .line .now)) (sym (stock .ensures .is) ∙ not-false _ (c .before .before .before .before .before .before .before .before .before .before .before .before .before .before .before .if1 .left)) (filed .result) _ _ (filed .ensures)
+    (not-false _ (c .if2 .left))
 
 pub file-built-spec : {M : Type 1} → statement M
 file-built-spec =
     tie.close
     (tie.spec
-    check-store-requires
+    take-stock-requires
     same-length
     same-length-2
     returns

@@ -11,7 +11,7 @@ put-slot-requires : tie.Need-put-slot-requires
 put-slot-requires c κs = search needs
 
 len-before-requires : tie.Need-len-before-requires
-len-before-requires c κs = search needs
+len-before-requires c κs = omega (arith, c .before .put-slot .ensures .1 .0 .1 (omega arith))
 
 sub-used : tie.Need-sub-used
 sub-used c =
@@ -24,7 +24,7 @@ sub-used c =
     let w = pre .1 .1 .1 .1 in
     had-less (args .index .now) (args .text .now) (pre .1 .0) _ (args .heads .now) (args .next .now) (pre .1 .1 .0)
     (args .fill) (args .key) (args .start) (args .len) (pre .1 .1 .1 .0) w (pre .0) _ (put .ensures .0) (put .result)
-    (put .ensures .1 .0 .0) (put .ensures .1 .0 .1) (had .result) (had .ensures)
+    (put .ensures .1 .0 .0) (put .ensures .1 .0 .1 (omega arith)) (had .result) (had .ensures)
 
 add-used : tie.Need-add-used
 add-used c =
@@ -62,7 +62,7 @@ returns c = λ s old hs w.
     files-index (args .index .now) (args .text .now) s _ (args .heads .now) (args .next .now) old (args .fill)
     (args .key)
     (args .start) (args .len) hs w (pre .0) _ (put .ensures .0) (put .result) (put .ensures .1 .0 .0)
-    (put .ensures .1 .0 .1) (had .result) (had .ensures)
+    (put .ensures .1 .0 .1 (omega arith)) (had .result) (had .ensures)
     (ends .result) (ends .ensures) _ _ (c .if1 .taken)
 
 returns-2 : tie.Need-returns-2
@@ -78,11 +78,12 @@ returns-2 c = λ s old hs w.
     files-text (args .index .now) (args .text .now) s _ (args .heads .now) (args .next .now) old (args .fill)
     (args .key)
     (args .start) (args .len) hs w (pre .0) _ (put .ensures .0) (put .result) (put .ensures .1 .0 .0)
-    (put .ensures .1 .0 .1) (had .result) (had .ensures)
+    (put .ensures .1 .0 .1 (omega arith)) (had .result) (had .ensures)
     (ends .result) (ends .ensures) _ _ (c .if2 .taken)
 
 strike-slot-requires : tie.Need-strike-slot-requires
-strike-slot-requires c κs = search needs
+strike-slot-requires c κs =
+    omega (arith, c .before .before .before .before .before .before .before .put-slot .ensures .1 .0 .1 (omega arith))
 
 add-t25 : tie.Need-add-t25
 add-t25 c = search needs
@@ -99,7 +100,7 @@ returns-3 c = λ s old hs w.
     let ends = c .before .before .before .before .end-with in
     files-fit (args .index .now) (args .text .now) s _ (args .heads .now) (args .next .now) old (args .fill) (args .key)
     (args .start) (args .len) hs w (pre .0) _ (put .ensures .0) (put .result) (put .ensures .1 .0 .0)
-    (put .ensures .1 .0 .1) (had .result) (had .ensures)
+    (put .ensures .1 .0 .1 (omega arith)) (had .result) (had .ensures)
     (ends .result) (ends .ensures) _ _ (omega (arith, c .before .before .before .if1 .left))
     (omega (arith, c .before .before .if2 .left))
     (put .ensures .1 .1) _ (c .strike-slot .ensures)

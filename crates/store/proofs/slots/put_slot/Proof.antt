@@ -41,7 +41,7 @@ link-requires c κs =
     )
 
 returns : tie.Need-returns
-returns c = (refl, ((c .link .ensures .0, c .link .ensures .1 .1 (omega arith)), c .link .ensures .1 .0))
+returns c = (refl, ((c .link .ensures .0, c .link .ensures .1 .1), c .link .ensures .1 .0))
 
 pub put-slot-spec : {M : Type 1} → statement M
 put-slot-spec =

@@ -1,13 +1,18 @@
--- As `check_store` says.
-use borrow.Author.Needs.{needs}
+-- As `take_stock` says.
+use Rattle.store.proofs.BatchLaws.{empty-long}
+use Rattle.store.proofs.ChainLaws.{chained-none}
 use Rattle.store.proofs.soundness.sound.Statement.{statement}
 use Rattle.store.proofs.soundness.sound.Tie as tie
 
-check-store-requires : tie.Need-check-store-requires
-check-store-requires c κs = search needs
+take-stock-requires : tie.Need-take-stock-requires
+take-stock-requires c κs = (chained-none _, empty-long)
 
 returns : tie.Need-returns
-returns c = c .check-store .ensures .is
+returns c = c .take-stock .ensures .is
 
 pub sound-spec : {M : Type 1} → statement M
-sound-spec = tie.close (tie.spec check-store-requires returns)
+sound-spec =
+    tie.close
+    (tie.spec
+    take-stock-requires
+    returns)

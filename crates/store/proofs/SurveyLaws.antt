@@ -1,0 +1,114 @@
+-- The loop of `survey`: it goes as `walk` does, writes the lines down, and tells whether a key stands twice.
+-- Assumes nothing.
+use mathlib.Core.Bool.{Bool, true, false, _&&_}
+use mathlib.Core.List.{List}
+use mathlib.Core.Path.{_≡_, refl, sym, ap, _∙_, subst}
+use Prim.Native.Nat.{ℕ, zero, suc, _+_, _-_, _≤_, _<_}
+use native.Mathlib.Omega.{arith}
+use lib.ListN.{length, drop}
+use Rattle.store.specs.declared.chains.Verdict.{Verdict}
+use Rattle.store.specs.declared.chains.Verdict.the-variants as Vd
+use Rattle.store.specs.declared.records.Head.{Head}
+use Rattle.store.specs.declared.slots.Fill.{Fill}
+use Rattle.store.specs.declared.soundness.Stock.{Stock}
+use Rattle.store.specs.Decode.{noHead, headAt, headFits, walk, decode, zeroes}
+use Rattle.store.specs.Held.{Key, bufferMax, recordSize}
+use Rattle.store.specs.Inner.{Bytes, known}
+use Rattle.store.specs.Keys.{slots, keyAt, Says, toldOf, Chained, Sought}
+use Rattle.store.specs.Slots.{Table, more, Long, Surveys, Stocks}
+use Rattle.store.proofs.BoolLaws.{true-false}
+use Rattle.store.proofs.ChainLaws.{says-turn, says-agree}
+use Rattle.store.proofs.DecodeLaws.{laid, lines-of}
+use Rattle.store.proofs.LoadLaws.{Loading, load-first, load-less, load-end, load-turn}
+use Rattle.store.proofs.OnceLaws.{list-end}
+use Rattle.store.proofs.RecordLaws.{Fits, fits-of}
+use Rattle.store.proofs.SlotLaws.{key-other}
+use Rattle.store.proofs.SoundLaws.{Walking, walking, walking-end, walking-bad, walking-turn, sound-walk}
+
+-- n records lie before `at`, and their lines before `used`
+pub record Surveying (i t : List ℕ) (at : ℕ) (a : Table) (heads next : List ℕ) (n used : ℕ) (v : Verdict) : Type 0 where
+  pub walks : Walking i t (known (walk (suc (length i)) 0 i t)) at used
+  pub loading : Loading i at a heads next n used
+  pub says : Says (keyAt (a .highs) (a .lows)) n v
+
+pub survey-first : (i t : List ℕ) (a : Table) (heads next : List ℕ) → length i ≤ bufferMax → Long a
+    → Chained (keyAt (a .highs) (a .lows)) heads next 0 → Surveying i t 0 a heads next 0 0 Vd.Apart
+survey-first i t a heads next m l c = record {
+  walks = walking i t;
+  loading = load-first i a heads next m l c;
+  says = λ x y p q e. omega arith;
+}
+
+module _ (i t : List ℕ) (at : ℕ) (a : Table) (heads next : List ℕ) (n used : ℕ) (v : Verdict)
+    (w : Surveying i t at a heads next n used v) where
+  pub survey-less : n < slots
+  survey-less = load-less i at a heads next n used (w .loading)
+
+  pub survey-end : noHead ≡ headAt (drop at i) → Bytes i → (b : Bool)
+      → b ≡ zeroes (drop at i) && zeroes (drop used t)
+      → Surveys i t a heads next
+      (record { whole = b; verdict = v; fill = record { count = n; end = at; used = used } })
+  survey-end e y b q = record {
+    is = q ∙ sym (walking-end i t _ at used (w .walks) noHead e refl);
+    most = survey-less;
+    says = w .says;
+    chained = w .loading .chained;
+    lists = λ z. list-end i at (a .highs) (a .lows) n (w .loading .listing) noHead e refl;
+    loads = λ z. load-end i at a heads next n used (w .loading) noHead e refl y;
+  }
+
+  module _ (head : Head) (e : head ≡ headAt (drop at i)) (s : head .size ≡ recordSize) (b : Bool)
+      (fit : b ≡ headFits used head (length t - used)) where
+    some-size : head .size ≡ 0 → ⊥
+    some-size z = omega (arith, s)
+
+    pub survey-bad : b ≡ false
+        → Surveys i t a heads next
+        (record { whole = false; verdict = v; fill = record { count = n; end = at; used = used } })
+    survey-bad q = record {
+      is = walking-bad i t _ at used (w .walks) head e some-size b fit q;
+      most = survey-less;
+      says = w .says;
+      chained = w .loading .chained;
+      lists = λ z. absurd (true-false (sym z));
+      loads = λ z. absurd (true-false (sym z));
+    }
+
+    pub survey-on : b ≡ true → Walking i t (known (walk (suc (length i)) 0 i t)) (at + head .size) (used + head .len)
+    survey-on q = walking-turn i t _ at used (w .walks) head e some-size b fit q
+
+    pub survey-turn : b ≡ true → (c : Table) → c ≡ more a n (head .key) (head .off) (head .len)
+        → (heads′ next′ : List ℕ) → Chained (keyAt (c .highs) (c .lows)) heads′ next′ (n + 1)
+        → (r : ℕ) → Sought (keyAt (c .highs) (c .lows)) n r → (u : Verdict) → u ≡ toldOf v n r
+        → Surveying i t (at + head .size) c heads′ next′ (n + 1) (used + head .len) u
+    survey-turn q c ec heads′ next′ ch r so u eu =
+        let fits : Fits used head (length t - used) = fits-of used head (length t - used) (sym fit ∙ q) in
+        record {
+          walks = survey-on q;
+          loading = subst (λ (x : ℕ). Loading i (at + head .size) c heads′ next′ (n + 1) (x + head .len))
+              (fits .offset)
+              (load-turn i at a heads next n used (w .loading) head e some-size c ec heads′ next′ ch);
+          says = subst (λ (x : Verdict). Says (keyAt (c .highs) (c .lows)) (n + 1) x) (sym eu)
+              (says-turn (keyAt (c .highs) (c .lows)) n r v
+              (says-agree (keyAt (a .highs) (a .lows)) (keyAt (c .highs) (c .lows)) n v same (w .says)) so);
+        }
+      where
+        same : (k : ℕ) → k < n → keyAt (a .highs) (a .lows) k ≡ keyAt (c .highs) (c .lows) k
+        same k l = sym (ap (λ (x : Table). keyAt (x .highs) (x .lows) k) ec
+            ∙ key-other (a .highs) (a .lows) n (head .key .high) (head .key .low) k (λ z. omega arith))
+
+-- `take_stock`
+pub no-stock : (i t : List ℕ) (a : Table) (heads next : List ℕ) (r : Stock) → r .sound ≡ false
+    → known (decode i t) ≡ false → Stocks i t a heads next r
+no-stock i t a heads next r p q = record { is = p ∙ sym q; loads = λ e. absurd (true-false (sym e ∙ p)) }
+
+-- the records of a sound store are whole
+pub walk-of : (i t : List ℕ) → Bytes i → known (decode i t) ≡ true → known (walk (suc (length i)) 0 i t) ≡ true
+walk-of i t b e = go (known (walk (suc (length i)) 0 i t)) refl
+  where
+    go : (c : Bool) → known (walk (suc (length i)) 0 i t) ≡ c → c ≡ true
+    go true q = refl
+    go false q =
+        let hs = lines-of (decode i t) e in
+        let l = laid i t (hs .0) b (hs .1) in
+        absurd (true-false (sym e ∙ sound-walk i t (l .index) (l .text) q))
