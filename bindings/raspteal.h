@@ -35,6 +35,8 @@ extern "C" {
 #define RASPTEAL_BUTTONS 20       /* slots for buttons */
 #define RASPTEAL_AXES 9           /* slots for axes */
 #define RASPTEAL_IDENT_MAX 13     /* bytes of a key name */
+#define RASPTEAL_KEYS 512         /* key codes in the table of buttons */
+#define RASPTEAL_KEY_FIRST 0x10100 /* the first of them */
 
 /* ---- What crosses ---------------------------------------------------------------------------------------------- */
 
@@ -145,6 +147,11 @@ typedef struct {
     raspteal_refusal refusal;
     raspteal_mapping map;
 } raspteal_answer;
+
+/* The button number of each key code: that of code RASPTEAL_KEY_FIRST + i stands at i, 0 where it has no button. */
+typedef struct {
+    uint8_t buttons[RASPTEAL_KEYS];
+} raspteal_keys;
 
 /* What a pair of a line says: from is the index, or the hat's number. input and output: 0 the lower half of an axis,
  * 1 the upper half, 2 all of it. */
@@ -380,6 +387,13 @@ raspteal_changed raspteal_data_remove_axis(raspteal_data data, uint16_t axis);
 raspteal_built raspteal_from_data(raspteal_data data, const uint32_t *buttons, size_t buttons_len,
                                   const uint32_t *axes, size_t axes_len, const uint8_t *name, size_t name_len,
                                   raspteal_uuid id, uint8_t *out, size_t out_len);
+
+/* The button number of a key code, by the table that the default map goes by; 0 where it has none, and outside the
+ * table. */
+uint16_t raspteal_key_button(uint32_t code);
+
+/* The table as data. */
+raspteal_keys raspteal_key_table(void);
 
 /* The default map of a pad with these lists: of the 31 usual codes those that stand in their list, a button's among the
  * buttons and an axis's among the axes. Refusal: 12. */

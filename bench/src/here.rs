@@ -98,6 +98,23 @@ impl Work for Build {
     }
 }
 
+/// The default maps of pads, in turn.
+pub struct Default {
+    pub pads: Vec<Pad>,
+}
+
+impl Work for Default {
+    fn calls(&self) -> usize {
+        self.pads.len()
+    }
+    fn go(&mut self) {
+        for pad in &self.pads {
+            let (b, a) = (black_box(&pad.buttons), black_box(&pad.axes));
+            black_box(unsafe { ffi::raspteal_default(b.as_ptr(), b.len(), a.as_ptr(), a.len()) });
+        }
+    }
+}
+
 /// Insert of a text into a store that is put back before each call.
 pub struct Insert {
     pub before: Store,

@@ -40,9 +40,10 @@ const ORDINARY: Goal = Goal::AtMost(1.5, Side::Sum);
 const WORST: Goal = Goal::AtMost(15.0, Side::Sum);
 const LINEAR: Goal = Goal::Growth(2.2);
 
-pub const ROWS: [Row; 19] = [
+pub const ROWS: [Row; 20] = [
     row("read", "`parse_sdl_mapping`, 32 buttons and 16 axes", HALF, read),
     row("build", "`from_data`, 25 slots", HALF, build),
+    row("default", "`default`", Goal::Stated, default),
     row("insert", "`insert` of a list into a fresh store", Goal::AtMost(1.5, Side::Gilrs), insert),
     row("insert-held", "`insert` of 64 lines, 56 of them held", LINEAR, insert_held),
     row("insert-again", "`insert` of the whole list again, 1 in 16 new", LINEAR, insert_again),
@@ -117,6 +118,25 @@ fn build(lists: &[List]) -> Vec<Case> {
     let (mut port, gilrs) = (here::Build::of(&forms, &pad()), rust::Build::of(&forms, &pad()));
     assert_eq!(port.line(), gilrs.line(), "both build the same line");
     vec![case(format!("{} pads in turn", forms.len()), port, gilrs)]
+}
+
+/// Pads with no codes, with the codes of a usual pad, with all 31, and with 1024 of each kind and none of those.
+fn default(_: &[List]) -> Vec<Case> {
+    let pad = |buttons: Vec<u32>, axes: Vec<u32>| Pad { buttons, axes };
+    let (sticks, hats) = (0x30000..0x30006, 0x30010..0x30012);
+    let (front, cross) = (0x10130..0x1013f, 0x10220..0x10224);
+    let pads = [
+        ("no codes", pad(vec![], vec![])),
+        ("11 buttons, 8 axes", pad((0x10130..0x1013b).collect(), sticks.clone().chain(hats).collect())),
+        ("all 31 codes", pad(front.chain(cross).collect(), sticks.chain(0x30010..0x30016).collect())),
+        ("1024 other codes of each kind", pad((1..1025).collect(), (1..1025).collect())),
+    ];
+    let one = |(name, pad): &(&str, Pad)| {
+        let pads = vec![pad.clone(); 16];
+        let gilrs = rust::Default::of(&pads);
+        case(name.to_string(), here::Default { pads }, gilrs)
+    };
+    pads.iter().map(one).collect()
 }
 
 fn insert(lists: &[List]) -> Vec<Case> {

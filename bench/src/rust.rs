@@ -1,7 +1,7 @@
 //! gilrs's side: its own functions, called directly. Warnings are off, as in a program that sets no logger.
 use crate::here::{Form, Pad};
 use crate::measure::Work;
-use gilrs_core::EvCode;
+use gilrs_core::{EvCode, Gamepad};
 use harness::plain::Uuid as Bytes;
 use oracle::mapping::{Mapping, MappingData, MappingDb};
 use std::hint::black_box;
@@ -71,6 +71,29 @@ impl Work for Build {
     fn go(&mut self) {
         for k in 0..self.forms.len() {
             black_box(self.one(k));
+        }
+    }
+}
+
+/// The default maps of pads, in turn.
+pub struct Default {
+    pads: Vec<Gamepad>,
+}
+
+impl Default {
+    pub fn of(pads: &[Pad]) -> Self {
+        let one = |p: &Pad| Gamepad { buttons: codes(&p.buttons), axes: codes(&p.axes) };
+        Default { pads: pads.iter().map(one).collect() }
+    }
+}
+
+impl Work for Default {
+    fn calls(&self) -> usize {
+        self.pads.len()
+    }
+    fn go(&mut self) {
+        for pad in &self.pads {
+            black_box(Mapping::default(black_box(pad)));
         }
     }
 }

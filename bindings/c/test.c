@@ -190,6 +190,11 @@ static void builds(void) {
     CHECK(c.former.found && c.former.code == 5 && !raspteal_data_axis(c.slots, 8).found);
     c = raspteal_data_remove_button(c.slots, 20);
     CHECK(!c.former.found && raspteal_data_button(c.slots, 1).found);
+    raspteal_keys keys = raspteal_key_table();
+    CHECK(keys.buttons[0x30] == 1 && keys.buttons[0x3e] == 15 && keys.buttons[0x120] == 16 && keys.buttons[0x123] == 19);
+    CHECK(keys.buttons[0] == 0 && keys.buttons[0x3f] == 0 && keys.buttons[RASPTEAL_KEYS - 1] == 0);
+    CHECK(raspteal_key_button(0x10131) == 2 && raspteal_key_button(0x10223) == 19 && raspteal_key_button(0x10224) == 0);
+    CHECK(raspteal_key_button(RASPTEAL_KEY_FIRST - 1) == 0 && raspteal_key_button(RASPTEAL_KEY_FIRST + RASPTEAL_KEYS) == 0);
     raspteal_answer d = raspteal_default(LIST(buttons), LIST(axes));
     CHECK(d.refusal.number == 0 && d.map.is_default && d.map.count == 3);
     d = raspteal_default(buttons, 1, LIST(axes));

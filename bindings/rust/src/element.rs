@@ -97,6 +97,23 @@ impl Button {
         Code::found(safe::button_to_nec(self.number()))
     }
 
+    /// The button of a key code, by the table that the default map goes by; Unknown where it has none.
+    ///
+    /// ```
+    /// use raspteal::{Button, Code};
+    ///
+    /// assert_eq!(Button::of_key(Code(0x10131)), Button::East);
+    /// assert_eq!(Button::of_key(Code(0x10120)), Button::Unknown);
+    /// ```
+    pub fn of_key(code: Code) -> Button {
+        Button::from_number(safe::key_button(code.0)).unwrap_or(Button::Unknown)
+    }
+
+    /// The table as data: the button number of each key code from [`KEY_FIRST`](crate::KEY_FIRST) on, 0 for none.
+    pub fn key_table() -> [u8; ffi::KEYS] {
+        safe::key_table().buttons
+    }
+
     /// Whether it is a stick's, pressed.
     pub fn is_stick(self) -> bool {
         safe::button_is_stick(self.number())

@@ -8,6 +8,7 @@ pub const CODES_MAX: usize = 256;
 pub const BUTTONS: usize = 20;
 pub const AXES: usize = 9;
 pub const IDENT_MAX: usize = 13;
+pub const KEYS: usize = 512;
 pub const LIST_MAX: usize = 1024;
 pub const NAME_MAX: usize = 2048;
 pub const LINE_MAX: usize = 4096;
@@ -137,6 +138,13 @@ pub struct Mapping {
     pub name_len: usize,
     pub is_default: bool,
     pub hats_mapped: u8,
+}
+
+/// The button number of each key code.
+#[repr(C)]
+#[derive(Clone, Copy, Debug, PartialEq, Eq)]
+pub struct Keys {
+    pub buttons: [u8; KEYS],
 }
 
 /// The answer of a put, a reading, a default and a save: on a refusal the map is empty (a put's as it was).
@@ -301,6 +309,8 @@ extern "C" {
         out: *mut u8,
         out_len: usize,
     ) -> Built;
+    pub fn raspteal_key_button(code: u32) -> u16;
+    pub fn raspteal_key_table() -> Keys;
     pub fn raspteal_default(buttons: *const u32, buttons_len: usize, axes: *const u32, axes_len: usize) -> Answer;
 
     pub fn raspteal_store_clear(index: *mut u8, index_len: usize, text: *mut u8, text_len: usize) -> Refusal;

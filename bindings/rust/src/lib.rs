@@ -60,5 +60,9 @@ pub const NAME_MAX: usize = ffi::NAME_MAX;
 pub const LINE_MAX: usize = ffi::LINE_MAX;
 /// The bytes that an index or a text may have.
 pub const BUFFER_MAX: usize = ffi::BUFFER_MAX;
+/// The key codes in the table of buttons.
+pub const KEYS: usize = ffi::KEYS;
+/// The first key code of the table.
+pub const KEY_FIRST: Code = Code(0x10100);
 /// The bytes of the index that a line takes.
 pub const RECORD_LEN: usize = 21;

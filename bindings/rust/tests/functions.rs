@@ -1,6 +1,6 @@
 //! Every function at its edges: elements, maps, slots, texts, and document 01's sample lines.
 use raspteal::ffi::{self, safe};
-use raspteal::{text, Axis, AxisOrBtn, AxisRange, Button, Code, Entry, Error, Mapping, MappingData, Uuid};
+use raspteal::{text, Axis, AxisOrBtn, AxisRange, Button, Code, Entry, Error, Mapping, MappingData, Uuid, KEYS, KEY_FIRST};
 
 const U: &str = "00000000000000000000000000000000";
 
@@ -141,6 +141,25 @@ fn maps() {
     let east = Mapping::default_of(&[Code(0x10131)], &[]).unwrap();
     assert_eq!(east.iter().collect::<Vec<_>>(), [(Code(0x10131), Button::East.into())]);
     assert!(format!("{map:?}").starts_with("Mapping { entries: [(Code(65840), Btn(South))"));
+}
+
+#[test]
+fn keys() {
+    let table = Button::key_table();
+    for (i, &n) in table.iter().enumerate() {
+        let code = Code(KEY_FIRST.0 + i as u32);
+        assert_eq!(Button::of_key(code).number(), u16::from(n));
+        assert!(n == 0 || Button::of_key(code).to_nec() == Some(code));
+    }
+    for button in &Button::ALL[1..] {
+        assert_eq!(table.iter().filter(|&&n| u16::from(n) == button.number()).count(), 1);
+        assert_eq!(Button::of_key(button.to_nec().unwrap()), *button);
+    }
+    for code in [0, 0x100ff, 0x10300, 0x30000, u32::MAX] {
+        assert_eq!(Button::of_key(Code(code)), Button::Unknown);
+    }
+    let all: Vec<Code> = (0..KEYS as u32).map(|i| Code(KEY_FIRST.0 + i)).collect();
+    assert_eq!(Mapping::default_of(&all, &[]).unwrap().len(), 19);
 }
 
 #[test]

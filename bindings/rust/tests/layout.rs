@@ -56,6 +56,7 @@ fn rows() -> Vec<Row> {
         row!(Value, "raspteal_value", safe::entry_value(built.map.entries[0], 0, 0), found, value),
         row!(Emitted, "raspteal_emitted", safe::mapping_event(built.map, 0, 0, 0), found, element, value),
         row!(Mapping, "raspteal_mapping", built.map, count, entries, name_start, name_len, is_default, hats_mapped),
+        row!(Keys, "raspteal_keys", safe::key_table(), buttons),
         row!(Answer, "raspteal_answer", safe::default(&[], &[]), refusal, map),
         row!(Pair, "raspteal_pair", step.token.pair, from, direction, to, input, output, inverted),
         row!(Token, "raspteal_token", step.token, kind, refusal, id, start, len, pair),

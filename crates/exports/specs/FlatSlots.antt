@@ -13,6 +13,7 @@ use Rattle.map.specs.declared.mapping_data.Changed.{Changed}
 use Rattle.map.specs.declared.error.MappingAnswer.{MappingAnswer}
 use Rattle.map.specs.declared.default.DefaultMap.{DefaultMap}
 use Rattle.map.specs.declared.from_data.Built.{Built}
+use Rattle.map.specs.declared.keys.KeyTable.{KeyTable}
 use Rattle.map.specs.Refusals.{mappingOutcome}
 use Rattle.exports.specs.declared.flat.FlatRefusal.{FlatRefusal}
 use Rattle.exports.specs.declared.flat_data.FlatSlot.{FlatSlot}
@@ -21,6 +22,7 @@ use Rattle.exports.specs.declared.line_calls.FlatCode.{FlatCode}
 use Rattle.exports.specs.declared.data_calls.FlatChanged.{FlatChanged}
 use Rattle.exports.specs.declared.build_calls.FlatDefault.{FlatDefault}
 use Rattle.exports.specs.declared.build_calls.FlatBuilt.{FlatBuilt}
+use Rattle.exports.specs.declared.build_calls.FlatKeys.{FlatKeys}
 use Rattle.exports.specs.Flat.{flatOutcome}
 use Rattle.exports.specs.FlatMaps.{flatMapping}
 
@@ -56,3 +58,7 @@ flatDefault d = record { refusal = flatAnswer (d .answer); map = flatMapping (d 
 
 abbrev pub flatBuilt : Built → FlatBuilt
 flatBuilt b = record { refusal = flatAnswer (b .answer); map = flatMapping (b .map); len = b .len }
+
+-- ---- the table of key codes
+abbrev pub flatKeys : KeyTable → FlatKeys
+flatKeys t = record { buttons = t .buttons }

@@ -1,4 +1,4 @@
-// The calls of the map layer that make a map: the default, and build.
+// The calls of the map layer that make a map: the default, and build; and the table of key codes.
 use crate::flat::FlatRefusal;
 use crate::flat::FlatUuid;
 use crate::flat::flat_no_refusal;
@@ -10,24 +10,36 @@ use crate::flat_data::data_of;
 use crate::flat_mapping::FlatMapping;
 use crate::flat_mapping::flat_made;
 use crate::flat_mapping::flat_mapping;
+use line::ev::Code;
 use map::error::MappingAnswer;
 use map::error::MappingError;
 use map::from_data::Built;
+use map::keys::KEYS;
+use map::keys::key_button;
+use map::keys::key_table;
 ghost use mathlib.Core.Path.{_≡_};
+ghost use Rattle.line.specs.Elements.{codeOf};
 ghost use Rattle.map.specs.Default.{defaultOf};
+ghost use Rattle.map.specs.Keys.{keyButton, keyTable};
 ghost use Rattle.line.specs.Refusals.{Refuses};
 ghost use Rattle.map.specs.Build.{buildOf, outputOf};
 ghost use Rattle.map.specs.Refusals.{mappingRefusal};
 ghost use lib.ListN.{length};
 ghost use Rattle.exports.specs.Flat.{flatOutcome, uuidIn};
 ghost use Rattle.exports.specs.FlatMaps.{Unused};
-ghost use Rattle.exports.specs.FlatSlots.{dataIn, flatAnswer, flatDefault, flatBuilt};
+ghost use Rattle.exports.specs.FlatSlots.{dataIn, flatAnswer, flatDefault, flatBuilt, flatKeys};
 
 // A refused one has the empty map.
 #[repr(C)]
 pub struct FlatDefault {
     pub refusal: FlatRefusal,
     pub map: FlatMapping,
+}
+
+// The table of key codes, as numbers.
+#[repr(C)]
+pub struct FlatKeys {
+    pub buttons: [u8; KEYS],
 }
 
 // A refused build has the empty map and length 0.
@@ -66,6 +78,22 @@ fn flat_mapping_answer(a: MappingAnswer) -> FlatRefusal
         MappingAnswer::Accepted => flat_no_refusal(),
         MappingAnswer::Refused(e) => flat_mapping_error(e),
     }
+}
+
+#[no_mangle]
+pub extern "C" fn raspteal_key_button(code: u32) -> u16
+    ensures { λ r. ⌜ r ≡ keyButton (codeOf code) .0 ⌝ }
+{
+    key_button(Code(code)).0
+}
+
+#[no_mangle]
+pub extern "C" fn raspteal_key_table() -> FlatKeys
+    ensures { λ r. ⌜ r ≡ flatKeys keyTable ⌝ }
+{
+    let t = key_table();
+    let buttons = t.buttons;
+    FlatKeys { buttons }
 }
 
 #[no_mangle]

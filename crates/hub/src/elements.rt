@@ -1,9 +1,13 @@
 // Elements by name: the SDL idents, which the library's tables hold, and the source's names.
 use crate::fields::after_part;
 use crate::fields::first;
+use crate::fields::less;
 use crate::fields::nth_part;
 use crate::fields::part_at;
+use crate::say::OUT;
 use crate::say::put;
+use crate::say::say;
+use crate::shown::put_space;
 use crate::suggest::Near;
 use crate::suggest::nothing_near;
 use crate::suggest::put_suggestion;
@@ -171,6 +175,13 @@ fn put_name(fd: i32, e: AxisOrBtn) {
             put(fd, nth_part(&AXIS_NAMES, a.0 as usize, b'\n'));
         }
     }
+}
+
+// A button's name, with space up to that width.
+pub fn say_button(b: Button, width: usize) {
+    let name = nth_part(&BUTTON_NAMES, b.0 as usize, b'\n');
+    say(name);
+    put_space(OUT, less(width, name.len()));
 }
 
 // `South (a)`

@@ -28,7 +28,7 @@ pub fn help() -> u8 {
   hub clear STORE                empties the store
   hub undo STORE                 takes the last change of the store back
   hub lint FILE                  reads every line of a list, and shows the refused ones
-  hub default ..                 prints the default map of a pad
+  hub default ..                 prints the default map of a pad, or the layout of its buttons
   hub demo                       shows the main job on a small list
   hub help COMMAND               says more about a command
 

@@ -12,6 +12,7 @@ mod filing;
 mod help;
 mod holding;
 mod inserting;
+mod layout;
 mod lint;
 mod manual;
 mod mappings;
@@ -121,6 +122,11 @@ fn run_command(held: Held, command: &[u8], at: usize, given: usize, a: &[u8], b:
     }
     if is(command, b"lint", given, 1, 1) {
         return lint::lint_list(a);
+    }
+    if is(command, b"default", given, 1, 2) {
+        if same_bytes(a, b"layout") {
+            return layout::default_layout(b);
+        }
     }
     if is(command, b"default", given, 0, MANY) {
         return mappings::default_mapping(nth(at, 1));

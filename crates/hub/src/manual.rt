@@ -142,6 +142,9 @@ pub fn put_mappings(fd: i32, command: &[u8]) -> bool {
             fd,
             b"hub default buttons=CODES axes=CODES
   Prints the map that a pad with these codes gets where no line is held for it.
+hub default layout [--csv]
+  Prints the default layout of the buttons for the hall's wall: key code, button and SDL
+  name, in a table; with --csv with commas between, for a label printer.
 ",
         );
         return true;

@@ -1,3 +1,4 @@
+pub mod KeyLaws
 pub mod DefaultLaws
 pub mod FilledLaws
 mod MissingLaws

@@ -21,7 +21,7 @@ use Rattle.map.specs.declared.mapping_data.MappingData.{MappingData}
 use Rattle.map.specs.Slots.{noSlots, buttonOf, axisOf, insertBtnOf}
 use Rattle.map.specs.Build.{filledFrom, missingOf, axisChecks, slotChecks, checksOf, ended, pairTexts, builtLine}
 use Rattle.map.specs.Build.{builtMap, answerOf, buildOf, outputOf}
-use Rattle.map.specs.Default.{rows, buttonRow, inItsList, putKept, flaggedMap, defaultOf}
+use Rattle.map.specs.Default.{buttonRows, axisRows, buttonRow, inItsList, putKept, flaggedMap, defaultOf}
 
 -- ---- a sample: a line that is read, or slots and a name of which a line is built
 pub data Example : Type 0 where
@@ -74,17 +74,17 @@ all-shown = followed-shown samples (sampleL ∷ []) samples-hold l-shown
 -- ---- the default map
 -- two empty lists: an empty map with the default flag on
 pub none-listed : defaultOf [] [] ≡ record { answer = Accepted; map = toMap (flaggedMap []) }
-unfolding defaultOf rows putKept inItsList firstOf
+unfolding defaultOf buttonRows axisRows putKept inItsList firstOf
 none-listed = refl
 
 -- 10131 among the axes is no button's code
 pub east-among-axes : defaultOf [] (0x10131 ∷ []) ≡ record { answer = Accepted; map = toMap (flaggedMap []) }
-unfolding defaultOf rows putKept inItsList firstOf
+unfolding defaultOf buttonRows axisRows putKept inItsList firstOf
 east-among-axes = refl
 
 pub east-listed : defaultOf (0x10131 ∷ []) []
     ≡ record { answer = Accepted; map = toMap (flaggedMap (buttonRow 2 ∷ [])) }
-unfolding defaultOf rows putKept inItsList firstOf putEntry
+unfolding defaultOf buttonRows axisRows putKept inItsList firstOf putEntry
 east-listed = refl
 
 -- South and AXIS_DPADY listed
@@ -93,5 +93,5 @@ pub two-listed : defaultOf (0x10130 ∷ []) (0x30011 ∷ [])
       answer = Accepted;
       map = toMap (flaggedMap (buttonRow 1 ∷ entryOf AXIS_DPADY (asAxis 8) ∷ []));
     }
-unfolding defaultOf rows putKept inItsList firstOf putEntry
+unfolding defaultOf buttonRows axisRows putKept inItsList firstOf putEntry
 two-listed = refl

@@ -20,10 +20,7 @@ use Rattle.map.specs.declared.error.MappingAnswer.the-variants.{Accepted
 use Rattle.map.specs.declared.default.DefaultMap.{DefaultMap}
 use Rattle.map.specs.Lists.{inList}
 
--- ---- "the 31 codes above"
-abbrev pub rowCount : ℕ
-rowCount = 31
-
+-- ---- "the 31 codes above": those of the buttons, and those of the axes
 -- n rows from number k on
 abbrev pub numbered : (ℕ → Entry) → ℕ → ℕ → List Entry
 numbered f zero k = []
@@ -36,18 +33,26 @@ buttonRow k = entryOf (buttonCode k) (asButton k)
 abbrev pub axisRow : ℕ → Entry
 axisRow k = entryOf (axisCode k) (asAxis k)
 
+unfoldable pub buttonRows : List Entry
+buttonRows = numbered buttonRow BUTTON_LAST 1
+
 -- "(AXIS_DPADX to axis 7, AXIS_DPADY to axis 8), AXIS_LT, AXIS_RT, AXIS_LT2, AXIS_RT2 to buttons 7, 8, 9, 10"
-unfoldable pub rows : List Entry
-rows =
-    numbered buttonRow BUTTON_LAST 1
-    ++ (numbered axisRow 6 1
+abbrev pub axisRowCount : ℕ
+axisRowCount = 12
+
+unfoldable pub axisRows : List Entry
+axisRows =
+    numbered axisRow 6 1
     ++ (entryOf AXIS_DPADX (Axis A.DPadX)
     ∷ entryOf AXIS_DPADY (Axis A.DPadY)
     ∷ entryOf AXIS_LT (Btn B.LeftTrigger)
     ∷ entryOf AXIS_RT (Btn B.RightTrigger)
     ∷ entryOf AXIS_LT2 (Btn B.LeftTrigger2)
     ∷ entryOf AXIS_RT2 (Btn B.RightTrigger2)
-    ∷ []))
+    ∷ [])
+
+abbrev pub rows : List Entry
+rows = buttonRows ++ axisRows
 
 -- ---- "those in their list": an axis's code, the first of which is that of axis 1, among the axes
 unfoldable pub inItsList : List ℕ → List ℕ → Code → Bool

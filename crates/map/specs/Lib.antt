@@ -2,6 +2,7 @@
 pub mod Slots
 pub mod Lists
 pub mod Build
+pub mod Keys
 pub mod Default
 pub mod Refusals
 -- what the store's definitions cite

@@ -1,6 +1,9 @@
 // The default map of a pad: those of its codes that have a usual meaning.
 use crate::error::MappingAnswer;
 use crate::error::MappingError;
+use crate::keys::KEY_FIRST;
+use crate::keys::KEYS;
+use crate::keys::key_table;
 use crate::lists::in_list;
 use crate::lists::lists_fit;
 use line::ev::Axis;
@@ -11,34 +14,20 @@ use line::mapping::Entry;
 use line::mapping::Mapping;
 use line::parser::Ranges;
 ghost use mathlib.Core.Path.{_≡_};
-ghost use Prim.Native.Nat.{_<_};
+ghost use mathlib.Core.List.{[]};
+ghost use Prim.Native.Nat.{_+_, _<_};
 ghost use lib.ListN.{getD};
-ghost use Rattle.line.specs.Maps.{unusedEntry, toMap};
-ghost use Rattle.map.specs.Default.{rows, rowCount, inItsList, keptMap, defaultOf};
+ghost use Rattle.line.specs.Elements.{codeOf};
+ghost use Rattle.line.specs.Maps.{unusedEntry, entryOf, toMap};
+ghost use Rattle.line.specs.Tables.{asButton};
+ghost use Rattle.map.specs.Keys.{KEYS as keyCount, KEY_FIRST as keyFirst};
+ghost use Rattle.map.specs.Default.{buttonRows, axisRows, axisRowCount, inItsList, putKept, flaggedMap, keptMap};
+ghost use Rattle.map.specs.Default.{defaultOf};
 
-const ROWS: usize = 31;
+const ROWS: usize = 12;
 
-// The codes, and the element of each beside it.
+// The codes of axes, and the element of each beside it.
 const CODES: [Code; ROWS] = [
-    Code::BTN_SOUTH,
-    Code::BTN_EAST,
-    Code::BTN_C,
-    Code::BTN_NORTH,
-    Code::BTN_WEST,
-    Code::BTN_Z,
-    Code::BTN_LT,
-    Code::BTN_RT,
-    Code::BTN_LT2,
-    Code::BTN_RT2,
-    Code::BTN_SELECT,
-    Code::BTN_START,
-    Code::BTN_MODE,
-    Code::BTN_LTHUMB,
-    Code::BTN_RTHUMB,
-    Code::BTN_DPAD_UP,
-    Code::BTN_DPAD_DOWN,
-    Code::BTN_DPAD_LEFT,
-    Code::BTN_DPAD_RIGHT,
     Code::AXIS_LSTICKX,
     Code::AXIS_LSTICKY,
     Code::AXIS_LEFTZ,
@@ -54,25 +43,6 @@ const CODES: [Code; ROWS] = [
 ];
 
 const ELEMENTS: [AxisOrBtn; ROWS] = [
-    AxisOrBtn::Btn(Button::South),
-    AxisOrBtn::Btn(Button::East),
-    AxisOrBtn::Btn(Button::C),
-    AxisOrBtn::Btn(Button::North),
-    AxisOrBtn::Btn(Button::West),
-    AxisOrBtn::Btn(Button::Z),
-    AxisOrBtn::Btn(Button::LeftTrigger),
-    AxisOrBtn::Btn(Button::RightTrigger),
-    AxisOrBtn::Btn(Button::LeftTrigger2),
-    AxisOrBtn::Btn(Button::RightTrigger2),
-    AxisOrBtn::Btn(Button::Select),
-    AxisOrBtn::Btn(Button::Start),
-    AxisOrBtn::Btn(Button::Mode),
-    AxisOrBtn::Btn(Button::LeftThumb),
-    AxisOrBtn::Btn(Button::RightThumb),
-    AxisOrBtn::Btn(Button::DPadUp),
-    AxisOrBtn::Btn(Button::DPadDown),
-    AxisOrBtn::Btn(Button::DPadLeft),
-    AxisOrBtn::Btn(Button::DPadRight),
     AxisOrBtn::Axis(Axis::LeftStickX),
     AxisOrBtn::Axis(Axis::LeftStickY),
     AxisOrBtn::Axis(Axis::LeftZ),
@@ -95,8 +65,8 @@ pub struct DefaultMap {
 
 // A row of the two tables.
 fn row(i: usize) -> Entry
-    requires { ⌜ i < rowCount ⌝ }
-    ensures { λ r. ⌜ r ≡ getD rows i unusedEntry ⌝ }
+    requires { ⌜ i < axisRowCount ⌝ }
+    ensures { λ r. ⌜ r ≡ getD axisRows i unusedEntry ⌝ }
 {
     Entry {
         code: CODES[i],
@@ -115,12 +85,41 @@ fn in_its_list(buttons: &[u32], axes: &[u32], code: Code) -> bool
     in_list(axes, code)
 }
 
-// The map of the rows whose code is in its list.
+// The row of a key code's place in the table and of the button's number there.
+fn key_row(i: usize, n: u8) -> Entry
+    requires { ⌜ i < keyCount ⌝ }
+    ensures { λ r. ⌜ r ≡ entryOf (codeOf (keyFirst + i)) (asButton n) ⌝ }
+{
+    Entry::new(Code(KEY_FIRST + i as u32), AxisOrBtn::Btn(Button(n as u16)))
+}
+
+// The map of the buttons whose code is in its list, by the table of key codes.
+fn kept_buttons(buttons: &[u32], axes: &[u32]) -> Mapping
+    ensures { λ r. ⌜ r ≡ toMap (flaggedMap (putKept (now (buttons .entry)) (now (axes .entry)) [] buttonRows)) ⌝ }
+{
+    let table = key_table();
+    let mut map = Mapping::new();
+    map.is_default = true;
+    let mut i: usize = 0;
+    while i < KEYS {
+        let n = table.buttons[i];
+        if n != 0 {
+            let e = key_row(i, n);
+            if in_its_list(buttons, axes, e.code) {
+                let a = map.put(e);
+                map = a.map;
+            }
+        }
+        i += 1;
+    }
+    map
+}
+
+// The same with the rows of the axes after them.
 fn kept_map(buttons: &[u32], axes: &[u32]) -> Mapping
     ensures { λ r. ⌜ r ≡ toMap (keptMap (now (buttons .entry)) (now (axes .entry))) ⌝ }
 {
-    let mut map = Mapping::new();
-    map.is_default = true;
+    let mut map = kept_buttons(buttons, axes);
     let mut i: usize = 0;
     while i < ROWS {
         let e = row(i);

@@ -2,5 +2,6 @@
 pub mod default;
 pub mod error;
 pub mod from_data;
+pub mod keys;
 mod lists;
 pub mod mapping_data;

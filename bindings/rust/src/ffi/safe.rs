@@ -203,6 +203,14 @@ pub fn from_data(
     }
 }
 
+pub fn key_button(code: u32) -> u16 {
+    unsafe { raspteal_key_button(code) }
+}
+
+pub fn key_table() -> Keys {
+    unsafe { raspteal_key_table() }
+}
+
 pub fn default(buttons: &[EventCode], axes: &[EventCode]) -> Answer {
     let ((b, b_len), (a, a_len)) = (list(buttons), list(axes));
     unsafe { raspteal_default(b, b_len, a, a_len) }
