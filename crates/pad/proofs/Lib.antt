@@ -2,4 +2,12 @@ pub mod ShareLaws
 pub mod BiasLaws
 pub mod ValueLaws
 pub mod OrderLaws
+pub mod PlaceLaws
+pub mod TouchLaws
+pub mod ReaderLaws
+pub mod NumberLaws
+pub mod EventLaws
+pub mod StateLaws
+pub mod ListLaws
+pub mod PadLaws
 pub mod Samples
