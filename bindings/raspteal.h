@@ -401,8 +401,8 @@ raspteal_answer raspteal_default(const uint32_t *buttons, size_t buttons_len, co
 
 /* ---- The store: an index and a text, at most 65535 bytes each, all 0 when fresh -----------------------------------
  * Each line takes 21 bytes of the index and its own length of the text. Lend the same two buffers, of the same
- * lengths, to each call, and let nothing else write there. A call takes up to 256 KB of the caller's stack (an insert
- * that much, the others less than half of it): mind it in a thread with a small one. */
+ * lengths, to each call, and let nothing else write there. A call takes up to 256 KB of the caller's stack
+ * (211 KB were measured): mind it in a thread with a small one. */
 
 /* Sets every byte of both buffers to 0. Refusal: 23, nothing changed. */
 raspteal_refusal raspteal_store_clear(uint8_t *index, size_t index_len, uint8_t *text, size_t text_len);

@@ -9,7 +9,7 @@ use crate::{Code, Mapping, MappingData, Uuid, LINE_MAX};
 /// The buffers are owned (`Vec<u8>`, arrays) or lent (`&mut [u8]`); a store over `&[u8]` can only be looked up. Keep
 /// them as they are between calls, in a file or in shared memory: the store has no other state.
 ///
-/// A call takes up to 256 KB of the stack, an insert that much: mind it in a thread with a small one.
+/// A call takes up to 256 KB of the stack: mind it in a thread with a small one.
 ///
 /// ```
 /// use raspteal::{Store, Uuid};
