@@ -17,7 +17,8 @@ In a document, outside blocks of code:
           A call that begins with _ is the end of a function's name.
 In specs/, a file is of the first kind ("rest on these definitions") or of the second ("No public contract rests on
 these", or "cites these"), and says so in its first lines; Lib.antt is neither. A file of the first kind uses none of the second, and a
-public function's contract names nothing of the second.
+public function's contract names nothing of the second. READING.md and DECISIONS.md name each file of the second kind,
+READING.md each of the exports. Where the first lines of a file name a theorem, `NAME` in ../proofs/FILE, it is there.
 """
 import glob
 import os
@@ -25,7 +26,7 @@ import re
 import sys
 
 DOCUMENTS = ["README.md", "docs/READING.md", "docs/GUARANTEE.md", "docs/DECISIONS.md", "docs/REFUSED.md",
-             "docs/DIFFERENCES.md", "docs/CALLS.md"]
+             "docs/DIFFERENCES.md", "docs/CALLS.md", "docs/PERFORMANCE.md"]
 STRICT = ["docs/READING.md", "docs/GUARANTEE.md"]
 FOLDERS = ("crates/", "docs/", "tests/", "bindings/", "differential/", ".ci/")
 KEYWORDS = set("pub abbrev unfoldable record data where let in use mod as ensures requires entry exit now ghost "
@@ -238,12 +239,26 @@ class Document:
                 for name in definitions(path):
                     if (path, name) not in self.rows:
                         self.fail(0, f"no row for {name} in {path}")
+            shared = open(self.path, encoding="utf-8").read().split("### Names that two files have")[-1].split("\n#")[0]
+            for name in shared_names():
+                if f"`{name}`" not in shared:
+                    self.fail(0, f"two files have {name}, and the page doesn't say so")
         return self
 
 
 def definitions(path):
     """The definitions of a file of antt, without fields and cases."""
     return re.findall(r"^(?:abbrev |unfoldable )?pub (?:record |data )?([^\s(:{]+)", open(path, encoding="utf-8").read(), re.M)
+
+
+def shared_names():
+    """The definitions that two files of the first kind have under one name."""
+    found, twice = {}, set()
+    for path in [p for p in sorted(glob.glob("crates/*/specs/*.antt")) if kind(p) == 1]:
+        for name in definitions(path):
+            if found.setdefault(name, path) != path:
+                twice.add(name)
+    return sorted(twice)
 
 
 def kind(path):
@@ -277,6 +292,16 @@ def public_calls(crate):
                 yield f"{within}::{m.group(3)}" if m.group(2) else m.group(3)
 
 
+def theorems_named(path):
+    """The theorems that the first lines of a file of specs/ name, `NAME` in ../proofs/FILE, and that are not there."""
+    head = " ".join(line[3:].strip() for line in open(path, encoding="utf-8").readlines()[:4] if line.startswith("-- "))
+    for names, file in re.findall(r"((?:`[\w-]+`(?:, | and )?)+) in \.\./proofs/(\w+\.antt)", head):
+        proofs = os.path.join(os.path.dirname(path), "../proofs", file)
+        for name in re.findall(r"`([\w-]+)`", names):
+            if not os.path.exists(proofs) or not has(proofs, name):
+                yield f"{name} in {file}"
+
+
 def kinds(crate, kinds_of):
     """What is wrong with the kinds of a crate's files of specs/, and with the names in its public contracts."""
     wrong, count = [], 0
@@ -287,6 +312,12 @@ def kinds(crate, kinds_of):
         count += 1
         if kinds_of[module(path)] == 0:
             wrong.append(f"{path}: doesn't say whether public contracts rest on it")
+        for page in ("docs/READING.md", "docs/DECISIONS.md") if kinds_of[module(path)] == 2 else ():
+            if not path.endswith("/Inner.antt") and f"`{path}`" not in open(page, encoding="utf-8").read():
+                wrong.append(f"{path}: {page} doesn't name it among the files for proofs")
+        if crate == "exports" and f"{os.path.basename(path)}`" not in open("docs/READING.md", encoding="utf-8").read():
+            wrong.append(f"{path}: docs/READING.md doesn't name it")
+        wrong += [f"{path}: no theorem {n}" for n in theorems_named(path)]
         for m in re.finditer(r"^(?:unfoldable )?(?:pub )?use " + used, open(path, encoding="utf-8").read(), re.M):
             if kinds_of[module(path)] == 1 and kinds_of.get(m.groups()) == 2:
                 wrong.append(f"{path}: rests on {'/'.join(m.groups())}, which no public contract may rest on")

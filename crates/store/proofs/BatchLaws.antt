@@ -23,7 +23,8 @@ use Rattle.store.specs.Decode.{decode}
 use Rattle.store.specs.Held.{Held, file, bufferMax}
 use Rattle.map.specs.Bounds.{lineMax}
 use Rattle.map.specs.Search.{lf}
-use Rattle.store.specs.Inner.{Bytes, Good, firstLine, known}
+use Rattle.store.specs.Layout.{Bytes}
+use Rattle.store.specs.Inner.{Good, firstLine, known}
 use Rattle.store.specs.Keys.{slots}
 use Rattle.store.specs.Lines.{linesOf, wanted}
 use Rattle.store.specs.Slots.{Table, Long, Tabled, Settles, Settled, Slotted, Loads, Files′, Filed, fits, full}

@@ -20,7 +20,8 @@ use Rattle.store.specs.declared.settle.Kept.{Kept}
 use Rattle.store.specs.declared.slots.Fill.{Fill}
 use Rattle.store.specs.Decode.{decode}
 use Rattle.store.specs.Held.{Held, bufferMax}
-use Rattle.store.specs.Inner.{Bytes, Sized, sizes}
+use Rattle.store.specs.Layout.{Bytes}
+use Rattle.store.specs.Inner.{Sized, sizes}
 use Rattle.store.specs.Keys.{slots, keyAt}
 use Rattle.store.specs.Layout.{recordBytes, records, texts, encodeIndex, encodeText}
 use Rattle.store.specs.Slots.{living, Table, slotAt, Whole, Tabled, Takes-up, Keepable, Keeps, Extends, keptLines}

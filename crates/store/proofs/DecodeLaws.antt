@@ -15,7 +15,8 @@ use Rattle.store.specs.declared.records.Head.{Head}
 use Rattle.store.specs.Decode.{headAt, heldOf, zeroes, headFits, consTo, walk, guarded, decode}
 use Rattle.store.specs.Inner.{Good, known, sizes}
 use Rattle.store.specs.Held.{Key, Held, distinct, bufferMax}
-use Rattle.store.specs.Inner.{headOf, Lies, Bytes}
+use Rattle.store.specs.Layout.{Bytes}
+use Rattle.store.specs.Inner.{headOf, Lies}
 use Rattle.store.specs.Layout.{Shapes, recordOf, records, texts, padded, encodeIndex, encodeText}
 use Rattle.store.proofs.BoolLaws.{and-left, and-right, and-both}
 use Rattle.store.proofs.HeldLaws.{zeroes-replicate}

@@ -8,7 +8,8 @@ use native.Mathlib.Omega.{arith}
 use lib.ListN.{length, length-append, length-replicate}
 use Rattle.store.specs.Decode.{decode}
 use Rattle.store.specs.Held.{Held}
-use Rattle.store.specs.Inner.{Bytes, Good}
+use Rattle.store.specs.Layout.{Bytes}
+use Rattle.store.specs.Inner.{Good}
 use Rattle.store.specs.Layout.{records, texts, padded, encodeIndex, encodeText, Encodes}
 use Rattle.store.proofs.DecodeLaws.{Laid, laid, index-kept, text-kept, decode-encoded}
 

@@ -14,7 +14,8 @@ use Rattle.text.specs.declared.uuid.Uuid.{Uuid}
 use Rattle.store.specs.declared.records.Head.{Head}
 use Rattle.store.specs.Decode.{word, word8, bodyAt, headWith, noHead, headAt}
 use Rattle.store.specs.Held.{Key, recordSize, sameKey}
-use Rattle.store.specs.Inner.{Bytes, be2, bodySize, bodyBytes, HasRecord}
+use Rattle.store.specs.Layout.{Bytes}
+use Rattle.store.specs.Inner.{be2, bodySize, bodyBytes, HasRecord}
 use Rattle.store.specs.Layout.{recordBytes}
 use Rattle.store.proofs.BoolLaws.{and-false-left}
 use Rattle.store.proofs.RecordLaws.{whole, head-kind, head-whole, body-is, body-bytes, bytes-behind, record-is}

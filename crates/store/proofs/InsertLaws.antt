@@ -21,7 +21,7 @@ use Rattle.store.specs.Book.{insertLines, bookInsert}
 use Rattle.store.specs.Decode.{decode}
 use Rattle.store.specs.Held.{Held, file, bufferMax}
 use Rattle.map.specs.Bounds.{lineMax}
-use Rattle.store.specs.Inner.{Bytes}
+use Rattle.store.specs.Layout.{Bytes}
 use Rattle.store.specs.Layout.{encodeIndex, encodeText}
 use Rattle.store.specs.Lines.{linesOf, wanted}
 use Rattle.store.specs.Store.{Done, holding, onLines, storeInsert}

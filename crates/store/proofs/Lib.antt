@@ -1,5 +1,5 @@
 -- The laws of the store layer, from the bytes up to the guarantee. What a reader may want first: RoomLaws, EncodesLaws,
--- Guarantee and Samples.
+-- RefusedLaws, FoundLaws, Saves, Samples and History.
 pub mod BoolLaws
 pub mod HeldLaws
 pub mod BufferLaws
@@ -34,8 +34,11 @@ pub mod SaveLaws
 pub mod EncodesLaws
 pub mod StoreLaws
 pub mod FilingsLaws
-pub mod Guarantee
+pub mod NextLaws
 pub mod SaveCallLaws
+pub mod RefusedLaws
 pub mod Saves
+pub mod FoundLaws
 mod Samples
 mod Worked
+mod History

@@ -18,7 +18,8 @@ use Rattle.store.specs.declared.records.Head.{Head}
 use Rattle.store.specs.declared.slots.Fill.{Fill}
 use Rattle.store.specs.Decode.{headAt, decode}
 use Rattle.store.specs.Held.{Key, Held, distinct, bufferMax}
-use Rattle.store.specs.Inner.{Bytes, Lies, sizeOf, sizes}
+use Rattle.store.specs.Layout.{Bytes}
+use Rattle.store.specs.Inner.{Lies, sizeOf, sizes}
 use Rattle.store.specs.Keys.{slots, keyAt, Chained}
 use Rattle.store.specs.Layout.{Shapes, texts}
 use Rattle.store.specs.Slots.{living, Table, more, sourceOf, slotAt, Long, Tabled, Extends, Slotted, Loads}

@@ -14,7 +14,8 @@ use Rattle.store.specs.Book.{under}
 use Rattle.store.specs.Decode.{decode}
 use Rattle.store.specs.Held.{Key, Held, file}
 use Rattle.map.specs.Bounds.{lineMax}
-use Rattle.store.specs.Inner.{Bytes, known, room, Files}
+use Rattle.store.specs.Layout.{Bytes}
+use Rattle.store.specs.Inner.{known, room, Files}
 use Rattle.store.specs.Layout.{encodeIndex, encodeText}
 use Rattle.store.specs.Slots.{Table, Loads, Tabled, Slotted, Files′, Filed, fits, full, Fileable, FilesSlot}
 use Rattle.store.specs.Slots.{Settles, Settled}

@@ -1,52 +1,80 @@
 -- Demand 3, whole: the guarantee with document 01's save, whose built lines fit and read back.
 -- Assumes nothing.
-use mathlib.Core.Path.{_≡_, refl, subst}
+use mathlib.Core.Path.{_≡_, refl, sym, subst, ap, _∙_}
 use mathlib.Core.Bool.{Bool, true, false}
-use mathlib.Core.List.{List}
-use Prim.Native.Nat.{ℕ, _≤_}
+use mathlib.Core.Option.{some}
+use mathlib.Core.List.{List, [], _∷_, _++_, map}
+use Prim.Native.Nat.{ℕ, _+_, _≤_}
 use native.Mathlib.Omega.{arith}
-use Rattle.text.specs.Bytes.{pick}
+use lib.ListN.{length, take, drop}
+use lib.Seq.{take-append-seam, drop-append-add}
+use Rattle.text.specs.Bytes.{pick, byte}
+use Rattle.text.specs.Uuid.{uuidText}
+use Rattle.text.specs.declared.uuid.Uuid.{Uuid}
+use Rattle.text.proofs.UuidLaws.{uuidText-length}
 use Rattle.line.specs.Maps.{toMap}
 use Rattle.map.specs.declared.error.MappingAnswer.{MappingAnswer}
 use Rattle.map.specs.declared.error.MappingAnswer.the-variants.{Accepted, Refused}
-use Rattle.map.specs.Build.{checksOf, builtLine, builtMap}
+use Rattle.map.specs.declared.mapping_data.MappingData.{MappingData}
+use Rattle.map.specs.Build.{checksOf, filledButtons, filledAxes, ended, pairTexts, builtLine, nameStart, builtMap}
 use Rattle.store.specs.declared.calls.SaveAnswer.the-variants as Sv
 use Rattle.store.specs.declared.calls.Saved.{Saved}
-use Rattle.store.specs.Held.{Held, bufferMax}
+use Rattle.store.specs.Held.{Key, Held, find, bufferMax}
 use Rattle.store.specs.Layout.{Shape}
-use Rattle.store.specs.Book.{under, refused, files, Call}
-use Rattle.store.specs.Guarantee.{Guarantee}
+use Rattle.store.specs.Book.{refused, files, Call, insert, save, saved, numberOf}
+use Rattle.store.specs.Store.{Runs, storeCall, answered, lookedIn}
+use Rattle.store.specs.Filings.{Filing, lastFiled, nth}
+use Rattle.store.specs.Guarantee.{Calls, stored, booked, builtHeld, builtSave, FromSave, Guarantee}
 use Rattle.store.specs.Inner.{Builds}
-use Rattle.store.specs.Saves.{SaveArgs, SaveCall, unsavedName, refusedSave, acceptedSave, attemptAfter, attemptOf}
-use Rattle.store.specs.Saves.{ReadsBack, saving}
+use Rattle.store.specs.Saves.{SaveArgs, SaveCall, unsavedName, refusedSave, attemptAfter, attemptOf, storeSave}
+use Rattle.store.specs.Saves.{Passes, ReadsBack, saving}
 use Rattle.map.proofs.BuiltLaws.{built-positive, built-fits}
 use Rattle.map.proofs.ReadBack.{reads-back}
-use Rattle.store.proofs.Guarantee.{guarantee}
+use Rattle.store.proofs.FilingsLaws.{says-run, SaveFiled, last-saved}
+use Rattle.store.proofs.StoreLaws.{whole, whole-held, whole-look-up, whole-next, next-held}
+use Rattle.store.proofs.NextLaws.{save-answers, save-holds, insert-answers, insert-holds}
+
+-- the bytes of a built line at the name's place
+name-bytes : (d : MappingData) (buttons axes name : List ℕ) (uuid : Uuid)
+    → take (length name) (drop nameStart (builtLine d buttons axes name uuid)) ≡ name
+unfolding builtLine ended
+name-bytes d buttons axes name uuid =
+    let rest : List ℕ =
+    ended (pairTexts (byte "b") buttons (filledButtons d) ++ pairTexts (byte "a") axes (filledAxes d)) in
+    let e : nameStart ≡ length (uuidText uuid) + 1 = omega (arith, uuidText-length uuid) in
+    ap (λ (k : ℕ). take (length name) (drop k (uuidText uuid ++ (byte "," ∷ (name ++ (byte "," ∷ rest)))))) e
+    ∙ ap (take (length name)) (drop-append-add (uuidText uuid) (byte "," ∷ (name ++ (byte "," ∷ rest))) 1)
+    ∙ take-append-seam name (byte "," ∷ rest)
 
 -- an attempt that files: the checks are passed, and the line and the map are build's
-record Files (a : SaveArgs) (h : Held) (v : Saved) : Type 0 where
-  passed : checksOf (a .slots) (a .buttons) (a .axes) (a .name) ≡ Accepted
-  line : under (a .uuid) (builtLine (a .slots) (a .buttons) (a .axes) (a .name) (a .uuid)) ≡ h
-  value : acceptedSave (builtMap (a .slots) (a .name)) ≡ v
+pub record Files (a : SaveArgs) (h : Held) (v : Saved) : Type 0 where
+  pub passed : Passes a
+  pub line : builtHeld a ≡ h
+  pub value : builtSave a ≡ v
 
-files-are : (a : SaveArgs) (h : Held) (v : Saved) → attemptOf a ≡ files h v → Files a h v
+pub files-are : (a : SaveArgs) (h : Held) (v : Saved) → attemptOf a ≡ files h v → Files a h v
 unfolding attemptOf
 files-are a h v e = go (checksOf (a .slots) (a .buttons) (a .axes) (a .name)) refl e
   where
-    name : (b : Bool) → checksOf (a .slots) (a .buttons) (a .axes) (a .name) ≡ Accepted
-        → pick b (refused (refusedSave Sv.UnsavedName))
-        (files (under (a .uuid) (builtLine (a .slots) (a .buttons) (a .axes) (a .name) (a .uuid)))
-        (acceptedSave (builtMap (a .slots) (a .name)))) ≡ files h v
+    name : (b : Bool) → unsavedName (a .name) ≡ b → checksOf (a .slots) (a .buttons) (a .axes) (a .name) ≡ Accepted
+        → pick b (refused (refusedSave Sv.UnsavedName)) (files (builtHeld a) (builtSave a)) ≡ files h v
         → Files a h v
-    name true p q = let z : _≡_ {A = ℕ} 0 1 = cc in absurd (omega arith)
-    name false p q = record { passed = p; line = cc; value = cc }
+    name true n p q = let z : _≡_ {A = ℕ} 0 1 = cc in absurd (omega arith)
+    name false n p q = record { passed = record { build = p; name = n }; line = cc; value = cc }
 
     go : (r : MappingAnswer) → checksOf (a .slots) (a .buttons) (a .axes) (a .name) ≡ r → attemptAfter a r ≡ files h v
         → Files a h v
-    go Accepted p q = name (unsavedName (a .name)) p q
+    go Accepted p q = name (unsavedName (a .name)) refl p q
     go (Refused x) p q = let z : _≡_ {A = ℕ} 0 1 = cc in absurd (omega arith)
 
-builds : Builds saving
+-- and the other way round
+pub attempt-files : (a : SaveArgs) → Passes a → attemptOf a ≡ files (builtHeld a) (builtSave a)
+unfolding attemptOf
+attempt-files a p =
+    ap (attemptAfter a) (p .build)
+    ∙ ap (λ (b : Bool). pick b (refused (refusedSave Sv.UnsavedName)) (files (builtHeld a) (builtSave a))) (p .name)
+
+pub builds : Builds saving
 builds = record {
   shape = λ c h v e. shaped c h v (files-are (c .args) h v e);
   reads = λ c h v e. read c h v (files-are (c .args) h v e);
@@ -59,7 +87,7 @@ builds = record {
           key = c .small;
           some = built-positive (c .args .slots) (c .args .buttons) (c .args .axes) (c .args .name) (c .args .uuid);
           most = built-fits (c .args .slots) (c .args .buttons) (c .args .axes) (c .args .name) (c .args .uuid)
-              (f .passed);
+              (f .passed .build);
         })
 
     read : (c : SaveCall) (h : Held) (v : Saved) → Files (c .args) h v → ReadsBack (c .args) (h .line) v
@@ -70,11 +98,61 @@ builds = record {
         (f .value)
         (record {
           reading = reads-back (c .args .slots) (c .args .buttons) (c .args .axes) (c .args .name) (c .args .uuid)
-              (c .small) (f .passed);
+              (c .small) (f .passed .build);
+          name = unfold builtMap toMap in
+              (name-bytes (c .args .slots) (c .args .buttons) (c .args .axes) (c .args .name) (c .args .uuid));
           default-off = unfold builtMap toMap in refl;
           hats-zero = unfold builtMap toMap in refl;
         }))
 
--- demand 3, whole
-pub whole-guarantee : (n m : ℕ) → n ≤ bufferMax → m ≤ bufferMax → (xs : List (Call saving)) → Guarantee saving n m xs
-whole-guarantee n m ln lm xs = guarantee n m ln lm saving builds xs
+-- the save of the theorem is the save of the contract
+pub save-is : (i t : List ℕ) (c : SaveCall)
+    → storeCall {S = saving} i t (save c) ≡ answered saved (storeSave i t (c .args))
+unfolding storeCall storeSave
+save-is i t c = refl
+
+module _ (n m : ℕ) (ln : n ≤ bufferMax) (lm : m ≤ bufferMax) (xs : Calls) where
+  from-save : (k : Key) (f : Filing saving) (c : SaveCall) → SaveFiled saving n m xs k f c → FromSave n m xs k f c
+  from-save k f c w =
+      let z : Files (c .args) (f .held) (w .value) = files-are (c .args) (f .held) (w .value) (w .attempted) in
+      record {
+        returned = w .value;
+        stands = w .stands;
+        replied = ap (λ (r : Runs saving). nth (r .answers) (f .at)) (whole n m ln lm saving builds xs) ∙ w .replied;
+        done = ap (λ (v : Saved). v .answer) (sym (z .value));
+        line = ap (λ (h : Held). h .line) (sym (z .line));
+        map = ap (λ (v : Saved). v .map) (sym (z .value));
+        under = ap (λ (h : Held). h .key) (z .line) ∙ w .under;
+        reads = builds .reads c (f .held) (w .value) (w .attempted);
+      }
+
+  -- demand 3, whole
+  pub whole-guarantee : Guarantee n m xs
+  whole-guarantee = record {
+    answers = ap (λ (r : Runs saving). r .answers) (whole n m ln lm saving builds xs);
+    numbers = ap (λ (r : Runs saving). map numberOf (r .answers)) (whole n m ln lm saving builds xs);
+    held = whole-held n m ln lm saving builds xs;
+    finds = λ k.
+        whole-look-up n m ln lm saving builds xs k
+        ∙ ap lookedIn (says-run k n m xs 0 [] [] (unfold find lastFiled in refl));
+    saves = λ k f c e b. from-save k f c (last-saved saving n m xs k f c e b);
+    save-room = λ c p. record {
+      answer =
+          whole-next n m ln lm saving builds xs (save c)
+          ∙ save-answers n m saving c (builtHeld (c .args)) (builtSave (c .args)) (attempt-files (c .args) p)
+          (booked n m xs .held);
+      held =
+          next-held n m ln lm saving builds xs (save c)
+          ∙ ap some
+          (save-holds n m saving c (builtHeld (c .args)) (builtSave (c .args)) (attempt-files (c .args) p)
+          (booked n m xs .held));
+    };
+    insert-room = λ s passed l rest u hs valid cut reached e q. record {
+      answer =
+          whole-next n m ln lm saving builds xs (insert s)
+          ∙ insert-answers n m saving s passed l rest u hs (booked n m xs .held) valid cut reached e q;
+      held =
+          next-held n m ln lm saving builds xs (insert s)
+          ∙ ap some (insert-holds n m saving s passed l rest u hs (booked n m xs .held) valid cut reached e q);
+    };
+  }

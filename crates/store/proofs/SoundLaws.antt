@@ -15,7 +15,8 @@ use Rattle.store.specs.declared.records.Head.{Head}
 use Rattle.store.specs.Decode.{headAt, heldOf, zeroes, headFits, consTo, walk, guarded, decode}
 use Rattle.store.specs.Inner.{known}
 use Rattle.store.specs.Held.{Held, distinct, bufferMax}
-use Rattle.store.specs.Inner.{Once, Bytes}
+use Rattle.store.specs.Layout.{Bytes}
+use Rattle.store.specs.Inner.{Once}
 use Rattle.store.proofs.BoolLaws.{and-both, and-false-left, and-false-right}
 use Rattle.store.proofs.DecodeLaws.{walk-end, walk-on, walk-rows}
 use Rattle.store.proofs.RecordLaws.{head-within, Fits, fits-of}

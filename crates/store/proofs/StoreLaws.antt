@@ -1,6 +1,7 @@
 -- A store's calls answer as the book's, and leave the buffers that encode the book's lines, for every list of calls.
 -- Assumes nothing.
 use mathlib.Core.List.{List, [], _∷_}
+use mathlib.Core.Option.{some}
 use mathlib.Core.Path.{_≡_, refl, ap, _∙_}
 use Prim.Native.Nat.{ℕ, _≤_}
 use native.Mathlib.Nat.{sub-zero}
@@ -9,7 +10,7 @@ use borrow.Author.Tests.{le-leb}
 use Rattle.store.specs.Book.{Turn, bookClear, bookInsert, bookAttempt, Attempt, refused, files, Saving, Call}
 use Rattle.store.specs.Book.{clear, insert, save, Reply, inserted, saved, Run, bookTurn, runBook}
 use Rattle.store.specs.Decode.{decode}
-use Rattle.store.specs.Guarantee.{fresh, stored, booked}
+use Rattle.store.specs.Guarantee.{fresh}
 use Rattle.store.specs.Inner.{Good, Builds}
 use Rattle.store.specs.Held.{Key, Held, find, bufferMax}
 use Rattle.store.specs.Layout.{records, texts, padded, encodeIndex, encodeText}
@@ -81,24 +82,44 @@ module _ (n m : ℕ) where
           ∙ ap (andRuns (bookTurn n m hs x .answer)) (from xs (bookTurn n m hs x .held) (keeps-turn n m S owed hs g x))
 
       -- the answers are the book's, and the buffers encode the book's lines
-      pub whole : (xs : List (Call S)) → stored n m xs ≡ ended (booked n m xs)
+      pub whole : (xs : List (Call S)) → runStore (fresh n) (fresh m) xs ≡ ended (runBook n m [] xs)
       whole xs = rw (fresh-index, fresh-text) (from xs [] (keeps-none n m))
 
-      pub still-good : (xs : List (Call S)) → Good n m (booked n m xs .held)
+      still-good : (xs : List (Call S)) → Good n m (runBook n m [] xs .held)
       still-good xs = keeps-run n m S owed xs [] (keeps-none n m)
+
+      pub whole-held : (xs : List (Call S))
+          → decode (runStore (fresh n) (fresh m) xs .index) (runStore (fresh n) (fresh m) xs .text)
+          ≡ some (runBook n m [] xs .held)
+      whole-held xs =
+          ap (λ (r : Runs S). decode (r .index) (r .text)) (whole xs)
+          ∙ decode-encoded n m (runBook n m [] xs .held) (still-good xs) ln lm
 
       -- a look-up afterwards finds the book's line, and none exactly when the book has none
       pub whole-look-up : (xs : List (Call S)) (k : Key)
-          → lookUp k (stored n m xs .index) (stored n m xs .text) ≡ lookedIn (find k (booked n m xs .held))
+          → lookUp k (runStore (fresh n) (fresh m) xs .index) (runStore (fresh n) (fresh m) xs .text)
+          ≡ lookedIn (find k (runBook n m [] xs .held))
       unfolding lookUp
-      whole-look-up xs k =
-          ap (λ (r : Runs S). lookUp k (r .index) (r .text)) (whole xs)
-          ∙ ap (lookedAt k) (decode-encoded n m (booked n m xs .held) (still-good xs) ln lm)
+      whole-look-up xs k = ap (lookedAt k) (whole-held xs)
 
-      -- the next call answers as the book's
-      pub whole-next : (xs : List (Call S)) (x : Call S)
-          → storeCall (stored n m xs .index) (stored n m xs .text) x .answer
-          ≡ bookTurn n m (booked n m xs .held) x .answer
-      whole-next xs x =
-          ap (λ (r : Runs S). storeCall (r .index) (r .text) x .answer) (whole xs)
-          ∙ ap (λ (d : Done (Reply S)). d .answer) (one-call (booked n m xs .held) (still-good xs) x)
+      -- the next call answers as the book's, and the lines that are held after it are the book's
+      module _ (xs : List (Call S)) (x : Call S) where
+        abbrev nextCall : Done (Reply S)
+        nextCall = storeCall (runStore (fresh n) (fresh m) xs .index) (runStore (fresh n) (fresh m) xs .text) x
+
+        abbrev nextTurn : Turn (Reply S)
+        nextTurn = bookTurn n m (runBook n m [] xs .held) x
+
+        next-done : nextCall ≡ done nextTurn
+        next-done =
+            ap (λ (r : Runs S). storeCall (r .index) (r .text) x) (whole xs)
+            ∙ one-call (runBook n m [] xs .held) (still-good xs) x
+
+        pub whole-next : nextCall .answer ≡ nextTurn .answer
+        whole-next = ap (λ (d : Done (Reply S)). d .answer) next-done
+
+        pub next-held : decode (nextCall .index) (nextCall .text) ≡ some (nextTurn .held)
+        next-held =
+            ap (λ (d : Done (Reply S)). decode (d .index) (d .text)) next-done
+            ∙ decode-encoded n m (nextTurn .held) (keeps-turn n m S owed (runBook n m [] xs .held) (still-good xs) x)
+            ln lm

@@ -13,7 +13,8 @@ use Rattle.store.specs.declared.slots.Fill.{Fill}
 use Rattle.store.specs.declared.soundness.Stock.{Stock}
 use Rattle.store.specs.Decode.{noHead, headAt, headFits, walk, decode, zeroes}
 use Rattle.store.specs.Held.{Key, bufferMax, recordSize}
-use Rattle.store.specs.Inner.{Bytes, known}
+use Rattle.store.specs.Layout.{Bytes}
+use Rattle.store.specs.Inner.{known}
 use Rattle.store.specs.Keys.{slots, keyAt, Says, toldOf, Chained, Sought}
 use Rattle.store.specs.Slots.{Table, more, Long, Surveys, Stocks}
 use Rattle.store.proofs.BoolLaws.{true-false}

@@ -1,5 +1,5 @@
 -- The list of lines that a sound store encodes, read off its bytes; none of another store.
--- The laws `decode-encodes` and `encodes-decode` say that this is Layout's `Encodes`, no more and no less.
+-- For an index of bytes this is Layout's `Encodes`, no more and no less (`decode-encodes`, `encodes-decode`).
 -- Public contracts rest on these definitions; they assume nothing.
 use mathlib.Core.Bool.{Bool, true, false, _&&_}
 use mathlib.Core.Option.{Option, none, some}

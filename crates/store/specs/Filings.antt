@@ -3,7 +3,7 @@
 -- The guarantee rests on these definitions; they assume nothing.
 use mathlib.Core.Option.{Option, none, some}
 use mathlib.Core.List.{List, [], _∷_, _++_}
-use Prim.Native.Nat.{ℕ}
+use Prim.Native.Nat.{ℕ, zero, suc}
 use Rattle.text.specs.Bytes.{pick}
 use Rattle.text.specs.Utf8.{isUtf8}
 use Rattle.text.specs.declared.uuid.UuidParse.{UuidParse}
@@ -13,38 +13,40 @@ use Rattle.store.specs.Lines.{linesOf, wanted}
 use Rattle.store.specs.Book.{noRoom, under, reach, onReached, Attempt, refused, files, Saving, Call, clear}
 use Rattle.store.specs.Book.{insert, save, Reply, bookTurn}
 
--- a line that was filed, the call that filed it, and what that call answered
+-- a line that was filed, the call that filed it, with its place in the list, counted from 0, and what it answered
 pub record Filing (S : Saving) : Type 0 where
   pub held : Held
+  pub at : ℕ
   pub by : Call S
   pub answer : Reply S
 
-abbrev pub filing : {S : Saving} → Call S → Reply S → Held → Filing S
-filing x a h = record { held = h; by = x; answer = a }
+abbrev pub filing : {S : Saving} → ℕ → Call S → Reply S → Held → Filing S
+filing p x a h = record { held = h; at = p; by = x; answer = a }
 
 -- an insert files the wanted lines that it reaches, up to the one that stops it
-abbrev pub filedLine : {S : Saving} → Call S → Reply S → List ℕ → UuidParse → List (Filing S)
-filedLine x a l (Parsed u) = filing x a (under u l) ∷ []
-filedLine x a l Invalid = []
+abbrev pub filedLine : {S : Saving} → ℕ → Call S → Reply S → List ℕ → UuidParse → List (Filing S)
+filedLine p x a l (Parsed u) = filing p x a (under u l) ∷ []
+filedLine p x a l Invalid = []
 
-unfoldable pub filedLines : {S : Saving} → Call S → Reply S → ℕ → ℕ → List Held → List (List ℕ) → List (Filing S)
-filedLines x a n m hs [] = []
-filedLines x a n m hs (l ∷ ls) =
-    onReached (reach n m hs l) (λ e. []) (λ hs′. filedLine x a l (wanted l) ++ filedLines x a n m hs′ ls)
+unfoldable pub filedLines : {S : Saving} → ℕ → Call S → Reply S → ℕ → ℕ → List Held → List (List ℕ) → List (Filing S)
+filedLines p x a n m hs [] = []
+filedLines p x a n m hs (l ∷ ls) =
+    onReached (reach n m hs l) (λ e. []) (λ hs′. filedLine p x a l (wanted l) ++ filedLines p x a n m hs′ ls)
 
 -- a save files build's line, unless it is refused
-abbrev pub filedAttempt : {S : Saving} {B : Type 0} → Call S → Reply S → ℕ → ℕ → List Held → Attempt B → List (Filing S)
-filedAttempt x a n m hs (refused v) = []
-filedAttempt x a n m hs (files h v) = pick (noRoom n m h hs) [] (filing x a h ∷ [])
+abbrev pub filedAttempt : {S : Saving} {B : Type 0} → ℕ → Call S → Reply S → ℕ → ℕ → List Held → Attempt B
+    → List (Filing S)
+filedAttempt p x a n m hs (refused v) = []
+filedAttempt p x a n m hs (files h v) = pick (noRoom n m h hs) [] (filing p x a h ∷ [])
 
-abbrev pub filedAs : {S : Saving} → Reply S → ℕ → ℕ → List Held → Call S → List (Filing S)
-filedAs a n m hs clear = []
-filedAs a n m hs (insert s) = pick (isUtf8 s) (filedLines (insert s) a n m hs (linesOf s)) []
-filedAs {S} a n m hs (save x) = filedAttempt (save x) a n m hs (S .attempt x)
+abbrev pub filedAs : {S : Saving} → ℕ → Reply S → ℕ → ℕ → List Held → Call S → List (Filing S)
+filedAs p a n m hs clear = []
+filedAs p a n m hs (insert s) = pick (isUtf8 s) (filedLines p (insert s) a n m hs (linesOf s)) []
+filedAs {S} p a n m hs (save x) = filedAttempt p (save x) a n m hs (S .attempt x)
 
--- what one call files in a book that holds hs
-abbrev pub filedBy : {S : Saving} → ℕ → ℕ → List Held → Call S → List (Filing S)
-filedBy n m hs x = filedAs (bookTurn n m hs x .answer) n m hs x
+-- what one call, at that place of the list, files in a book that holds hs
+abbrev pub filedBy : {S : Saving} → ℕ → ℕ → ℕ → List Held → Call S → List (Filing S)
+filedBy p n m hs x = filedAs p (bookTurn n m hs x .answer) n m hs x
 
 -- what is filed since the last clear: a clear forgets, any other call adds what it files
 abbrev pub since : {S : Saving} → Call S → List (Filing S) → List (Filing S) → List (Filing S)
@@ -52,10 +54,11 @@ since clear fs gs = []
 since (insert s) fs gs = fs ++ gs
 since (save a) fs gs = fs ++ gs
 
--- the calls from a book that holds hs on, fs being filed before
-unfoldable pub filings : {S : Saving} → ℕ → ℕ → List Held → List (Filing S) → List (Call S) → List (Filing S)
-filings n m hs fs [] = fs
-filings n m hs fs (x ∷ xs) = filings n m (bookTurn n m hs x .held) (since x fs (filedBy n m hs x)) xs
+-- the calls from place p of the list on, in a book that holds hs, fs being filed before
+unfoldable pub filings : {S : Saving} → ℕ → ℕ → ℕ → List Held → List (Filing S) → List (Call S) → List (Filing S)
+filings p n m hs fs [] = fs
+filings p n m hs fs (x ∷ xs) =
+    filings (suc p) n m (bookTurn n m hs x .held) (since x fs (filedBy p n m hs x)) xs
 
 -- the last of the filings under a UUID, if there is one
 abbrev pub laterOr : {A : Type 0} → Option A → Option A → Option A
@@ -69,3 +72,9 @@ lastFiled k (f ∷ fs) = laterOr (lastFiled k fs) (pick (sameKey k (f .held .key
 abbrev pub lineFiled : {S : Saving} → Option (Filing S) → Option (List ℕ)
 lineFiled none = none
 lineFiled (some f) = some (f .held .line)
+
+-- what stands at a place of a list, counted from 0, if anything does
+unfoldable pub nth : {A : Type 0} → List A → ℕ → Option A
+nth [] p = none
+nth (x ∷ xs) zero = some x
+nth (x ∷ xs) (suc p) = nth xs p

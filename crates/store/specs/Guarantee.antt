@@ -1,4 +1,5 @@
--- Demand 3 as one statement about every list of calls from a fresh store of n and m bytes.
+-- Demand 3, proved as `whole-guarantee` in ../proofs/Saves.antt: one statement about every list of calls from a fresh
+-- store of n and m bytes, with document 01's own save.
 -- The guarantee rests on these definitions; they assume nothing.
 use mathlib.Core.Path.{_≡_}
 use mathlib.Core.Bool.{true}
@@ -10,61 +11,101 @@ use Rattle.text.specs.Bytes.{pick}
 use Rattle.text.specs.Utf8.{isUtf8}
 use Rattle.text.specs.declared.uuid.Uuid.{Uuid}
 use Rattle.text.specs.declared.uuid.UuidParse.the-variants.{Parsed}
+use Rattle.map.specs.Bounds.{lineMax}
+use Rattle.map.specs.Build.{builtLine, builtMap}
 use Rattle.store.specs.declared.calls.Answer.the-variants as A
+use Rattle.store.specs.declared.calls.SaveAnswer.the-variants as Sv
+use Rattle.store.specs.declared.calls.Saved.{Saved}
 use Rattle.store.specs.Lines.{linesOf, wanted}
 use Rattle.store.specs.Held.{Key, Held, file}
-use Rattle.map.specs.Bounds.{lineMax}
-use Rattle.store.specs.Book.{noRoom, under, insertTurn, insertLines, files, Saving, Call, insert, save}
+use Rattle.store.specs.Decode.{decode}
+use Rattle.store.specs.Book.{noRoom, under, insertTurn, insertLines, Call, insert, save, Reply}
 use Rattle.store.specs.Book.{inserted, saved, numberOf, Run, runBook}
 use Rattle.store.specs.Store.{Done, Runs, runStore, storeCall, lookUp, lookedIn}
-use Rattle.store.specs.Filings.{Filing, filings, lastFiled, lineFiled}
+use Rattle.store.specs.Filings.{Filing, filings, lastFiled, lineFiled, nth}
+use Rattle.store.specs.Saves.{SaveArgs, SaveCall, saving, Passes, ReadsBack, refusedSave, acceptedSave}
+
+-- "every list of clear, insert and save calls, refused ones included"
+abbrev pub Calls : Type 0
+Calls = List (Call saving)
 
 -- "Fresh means all zero."
 abbrev pub fresh : ℕ → List ℕ
 fresh n = replicate n 0
 
 -- what a list of calls on a fresh store comes to: in the store, in the book, and filed since the last clear
-abbrev pub stored : {S : Saving} → ℕ → ℕ → List (Call S) → Runs S
+abbrev pub stored : ℕ → ℕ → Calls → Runs saving
 stored n m xs = runStore (fresh n) (fresh m) xs
 
-abbrev pub booked : {S : Saving} → ℕ → ℕ → List (Call S) → Run S
+abbrev pub booked : ℕ → ℕ → Calls → Run saving
 booked n m xs = runBook n m [] xs
 
-abbrev pub lastOf : {S : Saving} → ℕ → ℕ → List (Call S) → Key → Option (Filing S)
-lastOf n m xs k = lastFiled k (filings n m [] [] xs)
+abbrev pub lastOf : ℕ → ℕ → Calls → Key → Option (Filing saving)
+lastOf n m xs k = lastFiled k (filings 0 n m [] [] xs)
 
--- a save filed that line under k: it is the line of the save's attempt, the save's answer is that attempt's, and
--- reading the line with the save's lists gives what that answer has
-pub record FromSave (S : Saving) (k : Key) (f : Filing S) (a : S .Args) : Type 0 where
-  pub value : S .Value
-  pub attempted : S .attempt a ≡ files (f .held) value
-  pub answered : f .answer ≡ saved value
-  pub under : f .held .key ≡ k
-  pub reads : S .Reads a (f .held .line) value
+-- the next call after such a list
+abbrev pub next : ℕ → ℕ → Calls → Call saving → Done (Reply saving)
+next n m xs x = storeCall (stored n m xs .index) (stored n m xs .text) x
 
-pub record Guarantee (S : Saving) (n m : ℕ) (xs : List (Call S)) : Type 0 where
+-- document 01's build from a save's arguments: the line under its UUID, and the map
+abbrev pub builtHeld : SaveArgs → Held
+builtHeld a = under (a .uuid) (builtLine (a .slots) (a .buttons) (a .axes) (a .name) (a .uuid))
+
+abbrev pub builtSave : SaveArgs → Saved
+builtSave a = acceptedSave (builtMap (a .slots) (a .name))
+
+-- that save filed the line which was last filed under k
+pub record FromSave (n m : ℕ) (xs : Calls) (k : Key) (f : Filing saving) (c : SaveCall) : Type 0 where
+  -- "that the save returned": it stands at that place of the list, and the store's own reply there is this
+  pub returned : Saved
+  pub stands : nth xs (f .at) ≡ some (save c)
+  pub replied : nth (stored n m xs .answers) (f .at) ≡ some (saved returned)
+  pub done : returned .answer ≡ Sv.Done
+  -- "line and map being those of document 01's build from that save's arguments"
+  pub line : f .held .line
+      ≡ builtLine (c .args .slots) (c .args .buttons) (c .args .axes) (c .args .name) (c .args .uuid)
+  pub map : returned .map ≡ builtMap (c .args .slots) (c .args .name)
+  pub under : c .args .uuid ≡ k
+  -- "reading it with that save's button and axis lists gives the map, name, default flag (off) and hat flags (zero)
+  -- that the save returned"
+  pub reads : ReadsBack (c .args) (f .held .line) returned
+
+-- a call answers so, and these lines are held after it
+pub record Leaves (d : Done (Reply saving)) (a : Reply saving) (hs : List Held) : Type 0 where
+  pub answer : d .answer ≡ a
+  pub held : decode (d .index) (d .text) ≡ some hs
+
+pub record Guarantee (n m : ℕ) (xs : Calls) : Type 0 where
   -- "each call's success or refusal number, an insert's count of lines and a save's map are those of
   -- document 01's book"
   pub answers : stored n m xs .answers ≡ booked n m xs .answers
   pub numbers : map numberOf (stored n m xs .answers) ≡ map numberOf (booked n m xs .answers)
+  -- the lines that are held are the book's
+  pub held : decode (stored n m xs .index) (stored n m xs .text) ≡ some (booked n m xs .held)
   -- "looking up any UUID finds the line last filed under it since the last clear, and finds none exactly when
   -- there is no such line"
   pub finds : (k : Key) → lookUp k (stored n m xs .index) (stored n m xs .text) ≡ lookedIn (lineFiled (lastOf n m xs k))
-  -- "If a save filed that line, reading it with that save's button and axis lists gives the map [..] that the save
-  -- returned, line and map being those of document 01's build from that save's arguments."
-  pub saves : (k : Key) (f : Filing S) (a : S .Args) → lastOf n m xs k ≡ some f → f .by ≡ save a → FromSave S k f a
+  -- "If a save filed that line, .."
+  pub saves : (k : Key) (f : Filing saving) (c : SaveCall) → lastOf n m xs k ≡ some f → f .by ≡ save c
+      → FromSave n m xs k f c
   -- "A save [..] that passes the earlier checks gets 'no room' exactly when document 01's sum doesn't fit, and
   -- else is filed."
-  pub save-room : (a : S .Args) (h : Held) (v : S .Value) → S .attempt a ≡ files h v
-      → storeCall {S = S} (stored n m xs .index) (stored n m xs .text) (save a) .answer
-      ≡ pick (noRoom n m h (booked n m xs .held)) (saved (S .full)) (saved v)
-  -- "or a wanted line that its insert reaches": the lines before it are passed, and hs is held when it is reached
+  pub save-room : (c : SaveCall) → Passes (c .args)
+      → Leaves (next n m xs (save c))
+      (pick (noRoom n m (builtHeld (c .args)) (booked n m xs .held))
+      (saved (refusedSave Sv.NoRoom)) (saved (builtSave (c .args))))
+      (pick (noRoom n m (builtHeld (c .args)) (booked n m xs .held))
+      (booked n m xs .held) (file (builtHeld (c .args)) (booked n m xs .held)))
+  -- "or a wanted line that its insert reaches": the lines before it are passed, and hs is held when it is reached;
+  -- where it is filed, the insert goes on with the rest
   pub insert-room : (s : List ℕ) (passed : List (List ℕ)) (l : List ℕ) (rest : List (List ℕ)) (u : Uuid)
       (hs : List Held)
       → isUtf8 s ≡ true → linesOf s ≡ passed ++ (l ∷ rest)
       → insertLines n m (booked n m xs .held) 0 passed ≡ insertTurn hs A.Done (length passed)
       → wanted l ≡ Parsed u → length l ≤ lineMax
-      → storeCall {S = S} (stored n m xs .index) (stored n m xs .text) (insert s) .answer
-      ≡ pick (noRoom n m (under u l) hs)
+      → Leaves (next n m xs (insert s))
+      (pick (noRoom n m (under u l) hs)
       (inserted (record { answer = A.NoRoom; count = length passed }))
-      (inserted (insertLines n m (file (under u l) hs) (suc (length passed)) rest .answer))
+      (inserted (insertLines n m (file (under u l) hs) (suc (length passed)) rest .answer)))
+      (pick (noRoom n m (under u l) hs) hs
+      (insertLines n m (file (under u l) hs) (suc (length passed)) rest .held))

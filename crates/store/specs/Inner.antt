@@ -4,7 +4,7 @@ use mathlib.Core.Path.{_≡_}
 use mathlib.Core.Bool.{Bool, true, false, not}
 use mathlib.Core.Option.{Option, none, some}
 use mathlib.Core.List.{List, [], _∷_, _++_}
-use Prim.Native.Nat.{ℕ, _+_, _/_, _%_, _≤_, _<_}
+use Prim.Native.Nat.{ℕ, _+_, _/_, _%_, _≤_}
 use lib.Dec.{eqb, ltb}
 use lib.ListN.{length, drop, take, replicate, getD, set}
 use Rattle.text.specs.Bytes.{pick, firstOf}
@@ -24,10 +24,6 @@ use Rattle.map.specs.Search.{lf}
 use Rattle.store.specs.Book.{noRoom, Turn, turn, files, Saving}
 use Rattle.store.specs.Store.{Done, onLines}
 use Rattle.store.specs.Saves.{refusedSave, acceptedSave}
-
--- every byte of a buffer is one
-abbrev pub Bytes : List ℕ → Type 0
-Bytes s = (k : ℕ) → getD s k 0 < 256
 
 -- another byte than b
 abbrev pub isNot : ℕ → ℕ → Bool

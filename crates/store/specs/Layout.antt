@@ -1,14 +1,19 @@
 -- How a list of lines lies in the two buffers of a store (document 01, 'Records').
--- A record's form and size stand in `recordBytes` alone.
+-- A record's form stands in `recordBytes`, the number of its bytes in Held's `recordSize`; `length-record` in
+-- proofs/RecordLaws.antt says that they agree.
 -- Public contracts rest on these definitions; they assume nothing.
 use mathlib.Core.Path.{_≡_}
 use mathlib.Core.Bool.{true}
 use mathlib.Core.List.{List, [], _∷_, _++_}
-use Prim.Native.Nat.{ℕ, _+_, _-_, _≤_}
-use lib.ListN.{length, replicate}
+use Prim.Native.Nat.{ℕ, _+_, _-_, _≤_, _<_}
+use lib.ListN.{length, replicate, getD}
 use Rattle.text.specs.Uuid.{bigEndian, uuidBytes, Small}
 use Rattle.store.specs.Held.{Key, Held, distinct, bufferMax}
 use Rattle.map.specs.Bounds.{lineMax}
+
+-- a list of bytes: each number is below 256. A lent buffer always is one
+abbrev pub Bytes : List ℕ → Type 0
+Bytes s = (k : ℕ) → getD s k 0 < 256
 
 -- "Per line the index has a kind byte 1, then 20 bytes: UUID (16), offset in the text (2), length (2), high byte
 -- first."

@@ -10,6 +10,7 @@ pub mod Store
 pub mod Saves
 pub mod Filings
 pub mod Guarantee
+pub mod Promises
 -- what private functions and proofs need
 pub mod Inner
 pub mod Keys

@@ -5,7 +5,7 @@ use mathlib.Core.Bool.{Bool, false, _||_}
 use mathlib.Core.List.{List}
 use Prim.Native.Nat.{ℕ}
 use lib.Dec.{ltb}
-use lib.ListN.{length}
+use lib.ListN.{length, take, drop}
 use Rattle.text.specs.Bytes.{pick, firstOf}
 use Rattle.text.specs.Uuid.{Small}
 use Rattle.text.specs.declared.uuid.Uuid.{Uuid}
@@ -59,6 +59,11 @@ attemptAfter a Accepted =
 unfoldable pub attemptOf : SaveArgs → Attempt Saved
 attemptOf a = attemptAfter a (checksOf (a .slots) (a .buttons) (a .axes) (a .name))
 
+-- a save that passes build's checks and 22: what comes then are 19 and 21
+pub record Passes (a : SaveArgs) : Type 0 where
+  pub build : checksOf (a .slots) (a .buttons) (a .axes) (a .name) ≡ Accepted
+  pub name : unsavedName (a .name) ≡ false
+
 -- "Save builds a line and files it": "as build without 18, then 22, 19, 21"
 unfoldable pub storeSave : List ℕ → List ℕ → SaveArgs → Done Saved
 storeSave i t a = storeAttempt (refusedSave Sv.Unsound) (refusedSave Sv.NoRoom) i t (attemptOf a)
@@ -72,9 +77,10 @@ saveNumber Sv.Unsound = 19
 saveNumber Sv.NoRoom = 21
 
 -- "reading it with that save's button and axis lists gives the map, name, default flag (off) and hat flags (zero) that
--- the save returned"
+-- the save returned"; the name is the bytes of the line at the map's name start and length
 pub record ReadsBack (a : SaveArgs) (line : List ℕ) (v : Saved) : Type 0 where
   pub reading : readingOf line (a .buttons) (a .axes) ≡ acceptedOf (v .map)
+  pub name : take (v .map .«name_len») (drop (v .map .«name_start») line) ≡ a .name
   pub default-off : v .map .«is_default» ≡ false
   pub hats-zero : v .map .«hats_mapped» ≡ 0
 

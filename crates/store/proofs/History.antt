@@ -1,0 +1,64 @@
+-- Histories, computed by the definitions: what is filed last is found, nothing after a clear, 21 as a second answer.
+-- Assumes nothing.
+use mathlib.Core.Path.{_≡_, refl}
+use mathlib.Core.Option.{some}
+use mathlib.Core.List.{List, [], _∷_, _++_, map}
+use Prim.Native.Nat.{ℕ}
+use Rattle.text.specs.Bytes.{ascii, same, firstOf}
+use Rattle.text.specs.Utf8.{begins, firstLength, charLength, runOf, validRun, isUtf8}
+use Rattle.text.specs.Uuid.{hexDigit, readHex, uuidOf, bigEndian}
+use Rattle.text.specs.declared.uuid.Uuid.{Uuid}
+use Rattle.map.specs.Search.{firstText}
+use Rattle.store.specs.Held.{sameKey, strike, file, find, holds, distinct}
+use Rattle.store.specs.Layout.{recordBytes, records, texts, padded, encodeIndex, encodeText}
+use Rattle.store.specs.Decode.{bodyAt, headAt, headFits, zeroes, walk, decode}
+use Rattle.store.specs.Lines.{linesOf, forPlatform, wanted}
+use Rattle.store.specs.Book.{lengths, noRoom, reach, insertLines, bookInsert, insert, clear, bookTurn, numberOf}
+use Rattle.store.specs.Store.{storeClear, storeInsert, storeCall, runStore, lookUp, found, nothing}
+use Rattle.store.specs.Filings.{filings, filedLines, lastFiled, lineFiled}
+use Rattle.store.specs.Guarantee.{Calls, stored, lastOf}
+
+nil : Uuid
+nil = record { high = 0; low = 0 }
+
+u : List ℕ
+u = ascii "00000000000000000000000000000000"
+
+-- two lines under U, one after the other
+twice : Calls
+twice = insert u ∷ insert (u ++ ascii ",x") ∷ []
+
+last-found : lookUp nil (stored 42 40 twice .index) (stored 42 40 twice .text) ≡ found (u ++ ascii ",x")
+unfolding runStore storeCall storeInsert decode walk headAt headFits bodyAt zeroes distinct holds sameKey bookInsert
+    isUtf8 validRun runOf charLength firstLength begins encodeIndex encodeText records recordBytes texts padded
+    bigEndian linesOf insertLines reach wanted forPlatform firstText uuidOf readHex hexDigit firstOf same noRoom strike
+    lengths file lookUp find nil u twice
+last-found = refl
+
+last-filed : lineFiled (lastOf 42 40 twice nil) ≡ some (u ++ ascii ",x")
+unfolding filings filedLines lastFiled bookTurn sameKey bookInsert isUtf8 validRun runOf charLength firstLength begins
+    linesOf insertLines reach wanted forPlatform firstText uuidOf readHex hexDigit firstOf same noRoom strike lengths
+    file nil u twice
+last-filed = refl
+
+-- and a clear after them
+thenCleared : Calls
+thenCleared = twice ++ (clear ∷ [])
+
+cleared : lookUp nil (stored 42 40 thenCleared .index) (stored 42 40 thenCleared .text) ≡ nothing
+unfolding runStore storeCall storeInsert storeClear decode walk headAt headFits bodyAt zeroes distinct holds sameKey
+    bookInsert isUtf8 validRun runOf charLength firstLength begins encodeIndex encodeText records recordBytes texts
+    padded bigEndian linesOf insertLines reach wanted forPlatform firstText uuidOf readHex hexDigit firstOf same noRoom
+    strike lengths file lookUp find nil u twice thenCleared
+cleared = refl
+
+-- two lines under two UUIDs, and an index of 21 bytes: 21 for the second
+others : Calls
+others = insert u ∷ insert (ascii "00000000000000000000000000000001") ∷ []
+
+numbers : map numberOf (stored 21 80 others .answers) ≡ 0 ∷ 21 ∷ []
+unfolding runStore storeCall storeInsert decode walk headAt headFits bodyAt zeroes distinct holds sameKey bookInsert
+    isUtf8 validRun runOf charLength firstLength begins encodeIndex encodeText records recordBytes texts padded
+    bigEndian linesOf insertLines reach wanted forPlatform firstText uuidOf readHex hexDigit firstOf same noRoom strike
+    lengths file nil u others
+numbers = refl

@@ -1,0 +1,126 @@
+-- Demand 3's 'no room', in the book: what the next save or insert answers, and what is held after it, whatever layer
+-- builds.
+-- Assumes nothing.
+use mathlib.Core.Bool.{Bool, true, false}
+use mathlib.Core.List.{List, [], _∷_, _++_}
+use mathlib.Core.Path.{_≡_, refl, sym, ap, _∙_}
+use Prim.Native.Nat.{ℕ, suc, _+_, _≤_}
+use native.Mathlib.Omega.{arith}
+use lib.ListN.{length}
+use borrow.Author.Tests.{le-ltb}
+use Rattle.text.specs.Bytes.{pick}
+use Rattle.text.specs.Utf8.{isUtf8, validRun}
+use Rattle.text.specs.declared.uuid.Uuid.{Uuid}
+use Rattle.text.specs.declared.uuid.UuidParse.the-variants.{Parsed}
+use Rattle.store.specs.declared.calls.Inserted.{Inserted}
+use Rattle.store.specs.Book.{turn, noRoom, Turn, under, Reached, after, stopped, reach, insertTurn}
+use Rattle.store.specs.Book.{onReached, insertLines, bookInsert, Attempt, files, Saving, bookAttempt}
+use Rattle.store.specs.Book.{insert, save, Reply, inserted, saved, replied, bookTurn}
+use Rattle.store.specs.Held.{Held, file}
+use Rattle.map.specs.Bounds.{lineMax}
+use Rattle.store.specs.Lines.{linesOf, wanted}
+use Rattle.store.specs.declared.calls.Answer.the-variants as A
+
+module _ (n m : ℕ) where
+  -- an insert that has passed some lines goes on behind them
+  goes-on : (passed rest : List (List ℕ)) (hs ks : List Held) (c : ℕ)
+      → insertLines n m hs c passed ≡ insertTurn ks A.Done (c + length passed)
+      → insertLines n m hs c (passed ++ rest) ≡ insertLines n m ks (c + length passed) rest
+  unfolding insertLines
+  goes-on [] rest hs ks c e =
+      let z : c ≡ c + 0 = omega arith in
+      ap (λ (x : Turn Inserted). insertLines n m (x .held) c rest) e ∙ ap (λ (k : ℕ). insertLines n m ks k rest) z
+  goes-on (l ∷ passed) rest hs ks c e =
+      go (reach n m hs l) (λ (js : List Held). goes-on passed rest js ks (suc c)) e
+    where
+      next : suc c + length passed ≡ c + suc (length passed)
+      next = omega arith
+
+      go : (r : Reached)
+          → ((js : List Held) → insertLines n m js (suc c) passed ≡ insertTurn ks A.Done (suc c + length passed)
+          → insertLines n m js (suc c) (passed ++ rest) ≡ insertLines n m ks (suc c + length passed) rest)
+          → onReached r (λ a. insertTurn hs a c) (λ js. insertLines n m js (suc c) passed)
+          ≡ insertTurn ks A.Done (c + suc (length passed))
+          → onReached r (λ a. insertTurn hs a c) (λ js. insertLines n m js (suc c) (passed ++ rest))
+          ≡ insertLines n m ks (c + suc (length passed)) rest
+      go (stopped a) ih q = absurd (omega (arith, ap (λ (x : Turn Inserted). x .answer .count) q))
+      go (after js) ih q =
+          ih js (q ∙ ap (insertTurn ks A.Done) (sym next)) ∙ ap (λ (k : ℕ). insertLines n m ks k rest) next
+
+  -- a wanted line within the limit is filed, or stops the insert for want of room
+  at-line : (l : List ℕ) (rest : List (List ℕ)) (u : Uuid) (hs : List Held) (c : ℕ) → wanted l ≡ Parsed u
+      → length l ≤ lineMax
+      → insertLines n m hs c (l ∷ rest)
+      ≡ pick (noRoom n m (under u l) hs) (insertTurn hs A.NoRoom c) (insertLines n m (file (under u l) hs) (suc c) rest)
+  unfolding insertLines reach
+  at-line l rest u hs c e q = rw (e, le-ltb lineMax (length l) q) (go (noRoom n m (under u l) hs))
+    where
+      go : (b : Bool)
+          → onReached (pick b (stopped A.NoRoom) (after (file (under u l) hs))) (λ a. insertTurn hs a c)
+          (λ ks. insertLines n m ks (suc c) rest)
+          ≡ pick b (insertTurn hs A.NoRoom c) (insertLines n m (file (under u l) hs) (suc c) rest)
+      go true = refl
+      go false = refl
+
+  -- a save that files, or is without room
+  module _ (S : Saving) (a : S .Args) (h : Held) (v : S .Value) (e : S .attempt a ≡ files h v) (hs : List Held) where
+    abbrev filed : Bool → Turn (S .Value)
+    filed b = pick b (turn (S .full) hs) (turn v (file h hs))
+
+    at-save : bookTurn {S = S} n m hs (save a) ≡ replied saved (filed (noRoom n m h hs))
+    unfolding bookTurn
+    at-save = ap (λ (y : Attempt (S .Value)). replied saved (bookAttempt (S .full) n m hs y)) e
+
+    pub save-answers : bookTurn {S = S} n m hs (save a) .answer ≡ pick (noRoom n m h hs) (saved (S .full)) (saved v)
+    save-answers = ap (λ (y : Turn (Reply S)). y .answer) at-save ∙ go (noRoom n m h hs)
+      where
+        go : (b : Bool) → _≡_ {A = Reply S} (saved (filed b .answer)) (pick b (saved (S .full)) (saved v))
+        go true = refl
+        go false = refl
+
+    pub save-holds : bookTurn {S = S} n m hs (save a) .held ≡ pick (noRoom n m h hs) hs (file h hs)
+    save-holds = ap (λ (y : Turn (Reply S)). y .held) at-save ∙ go (noRoom n m h hs)
+      where
+        go : (b : Bool) → filed b .held ≡ pick b hs (file h hs)
+        go true = refl
+        go false = refl
+
+  -- an insert that has passed some lines and reaches a wanted one
+  module _ (S : Saving) (s : List ℕ) (passed : List (List ℕ)) (l : List ℕ) (rest : List (List ℕ)) (u : Uuid)
+      (hs ks : List Held) (valid : isUtf8 s ≡ true) (cut : linesOf s ≡ passed ++ (l ∷ rest))
+      (reached : insertLines n m ks 0 passed ≡ insertTurn hs A.Done (length passed))
+      (e : wanted l ≡ Parsed u) (q : length l ≤ lineMax) where
+    abbrev onward : Turn Inserted
+    onward = insertLines n m (file (under u l) hs) (suc (length passed)) rest
+
+    at-insert : bookTurn {S = S} n m ks (insert s)
+        ≡ replied inserted (pick (noRoom n m (under u l) hs) (insertTurn hs A.NoRoom (length passed)) onward)
+    unfolding bookTurn bookInsert
+    at-insert =
+        ap (λ (b : Bool). replied inserted (pick b (insertLines n m ks 0 (linesOf s))
+        (insertTurn ks (A.NotUtf8 (validRun s)) 0))) valid
+        ∙ ap (λ (ls : List (List ℕ)). replied inserted (insertLines n m ks 0 ls)) cut
+        ∙ ap (λ (x : Turn Inserted). replied {S = S} inserted x)
+        (goes-on passed (l ∷ rest) ks hs 0 (reached ∙ ap (insertTurn hs A.Done) (sym zero))
+        ∙ ap (λ (c : ℕ). insertLines n m hs c (l ∷ rest)) zero ∙ at-line l rest u hs (length passed) e q)
+      where
+        zero : 0 + length passed ≡ length passed
+        zero = omega arith
+
+    pub insert-answers : bookTurn {S = S} n m ks (insert s) .answer
+        ≡ pick (noRoom n m (under u l) hs) (inserted (record { answer = A.NoRoom; count = length passed }))
+        (inserted (onward .answer))
+    insert-answers = ap (λ (y : Turn (Reply S)). y .answer) at-insert ∙ go (noRoom n m (under u l) hs)
+      where
+        go : (b : Bool)
+            → _≡_ {A = Reply S} (inserted (pick b (insertTurn hs A.NoRoom (length passed)) onward .answer))
+            (pick b (inserted (record { answer = A.NoRoom; count = length passed })) (inserted (onward .answer)))
+        go true = refl
+        go false = refl
+
+    pub insert-holds : bookTurn {S = S} n m ks (insert s) .held ≡ pick (noRoom n m (under u l) hs) hs (onward .held)
+    insert-holds = ap (λ (y : Turn (Reply S)). y .held) at-insert ∙ go (noRoom n m (under u l) hs)
+      where
+        go : (b : Bool) → pick b (insertTurn hs A.NoRoom (length passed)) onward .held ≡ pick b hs (onward .held)
+        go true = refl
+        go false = refl

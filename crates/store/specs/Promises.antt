@@ -1,0 +1,104 @@
+-- What demands 1 and 3 say of single calls, in plain shape, proved as `refusals-leave`, `build-leaves` in
+-- ../proofs/RefusedLaws.antt and `saved-again`, `saved-is-found` in ../proofs/FoundLaws.antt.
+-- The theorems rest on these definitions; they assume nothing.
+use mathlib.Core.Path.{_≡_}
+use mathlib.Core.Bool.{Bool, true, false}
+use mathlib.Core.Option.{Option, none}
+use mathlib.Core.List.{List, [], _∷_, _++_}
+use Prim.Native.Nat.{ℕ}
+use lib.ListN.{length, take}
+use Rattle.text.specs.Utf8.{isUtf8}
+use Rattle.text.specs.declared.uuid.Uuid.{Uuid}
+use Rattle.text.specs.declared.uuid.UuidParse.the-variants.{Parsed}
+use Rattle.map.specs.declared.error.MappingError.{MappingError}
+use Rattle.map.specs.declared.error.MappingAnswer.the-variants.{Refused}
+use Rattle.map.specs.declared.mapping_data.MappingData.{MappingData}
+use Rattle.map.specs.Build.{builtLine, buildOf, outputOf}
+use Rattle.store.specs.declared.calls.Answer.the-variants as A
+use Rattle.store.specs.declared.calls.SaveAnswer.the-variants as Sv
+use Rattle.store.specs.declared.calls.Inserted.{Inserted}
+use Rattle.store.specs.declared.calls.Saved.{Saved}
+use Rattle.store.specs.Held.{Key}
+use Rattle.store.specs.Lines.{linesOf, wanted}
+use Rattle.store.specs.Answers.{number}
+use Rattle.store.specs.Book.{Call, clear, insert, save, saved}
+use Rattle.store.specs.Store.{Done, unchanged, storeClear, storeInsert, lookUp, found}
+use Rattle.store.specs.Saves.{SaveArgs, SaveCall, storeSave, saveNumber, saving, ReadsBack}
+use Rattle.store.specs.Filings.{Filing, filings, lastFiled}
+use Rattle.store.specs.Guarantee.{Calls, stored, booked, next, builtSave}
+
+-- ---- demand 1: "A refusal leaves the lent buffers unchanged; only an insert stopped at one line has filed the lines
+-- before it."
+
+-- the buffers are as they were
+abbrev pub Untouched : {A : Type 0} → List ℕ → List ℕ → Done A → Type 0
+Untouched i t d = d ≡ unchanged i t (d .answer)
+
+-- an insert of the text s leaves what one of those lines of s leaves that it counts, and that one answers done
+pub record LinesBefore (i t s before : List ℕ) : Type 0 where
+  pub answer : storeInsert i t before .answer .answer ≡ A.Done
+  pub count : storeInsert i t before .answer .count ≡ storeInsert i t s .answer .count
+  pub index : storeInsert i t before .index ≡ storeInsert i t s .index
+  pub text : storeInsert i t before .text ≡ storeInsert i t s .text
+
+-- every refusal, whatever the two buffers hold
+pub record RefusalsLeave (i t : List ℕ) : Type 0 where
+  pub clear-refused : (number (storeClear i t .answer) ≡ 0 → ⊥) → Untouched i t (storeClear i t)
+  pub save-refused : (a : SaveArgs) → (saveNumber (storeSave i t a .answer .answer) ≡ 0 → ⊥)
+      → Untouched i t (storeSave i t a)
+  pub insert-19 : (s : List ℕ) → number (storeInsert i t s .answer .answer) ≡ 19 → Untouched i t (storeInsert i t s)
+  pub insert-10 : (s : List ℕ) → number (storeInsert i t s .answer .answer) ≡ 10 → Untouched i t (storeInsert i t s)
+  -- stopped at a line, or at none: a text whose lines are those that were walked
+  pub insert-stopped : (s before : List ℕ) → isUtf8 s ≡ true → isUtf8 before ≡ true
+      → linesOf before ≡ take (storeInsert i t s .answer .count) (linesOf s)
+      → (number (storeInsert i t s .answer .answer) ≡ 19 → ⊥)
+      → LinesBefore i t s before
+
+-- a refused build leaves the output as it was
+abbrev pub BuildLeaves : Type 0
+BuildLeaves =
+    (d : MappingData) (buttons axes name : List ℕ) (u : Uuid) (out : List ℕ) (e : MappingError)
+    → buildOf d buttons axes name u (length out) .answer ≡ Refused e → outputOf d buttons axes name u out ≡ out
+
+-- ---- 22, "saved name has LF or `platform:`": any other saved line is wanted under its own UUID
+
+-- the line of a save
+abbrev pub savedLine : SaveArgs → List ℕ
+savedLine a = builtLine (a .slots) (a .buttons) (a .axes) (a .name) (a .uuid)
+
+-- an insert of that line alone wants it under the save's UUID; where it is held, every look-up stays as it was
+pub record SavedAgain (n m : ℕ) (xs : Calls) (a : SaveArgs) : Type 0 where
+  pub is-wanted : wanted (savedLine a) ≡ Parsed (a .uuid)
+  pub one-line : linesOf (savedLine a) ≡ savedLine a ∷ []
+  pub same : lookUp (a .uuid) (stored n m xs .index) (stored n m xs .text) ≡ found (savedLine a)
+      → (k : Key)
+      → lookUp k (next n m xs (insert (savedLine a)) .index) (next n m xs (insert (savedLine a)) .text)
+      ≡ lookUp k (stored n m xs .index) (stored n m xs .text)
+
+-- ---- the price list: "every saved mapping is found again and reads back the same"
+
+-- a list of calls hasClear the store somewhere
+unfoldable pub hasClear : Calls → Bool
+hasClear [] = false
+hasClear (clear ∷ xs) = true
+hasClear (insert s ∷ xs) = hasClear xs
+hasClear (save c ∷ xs) = hasClear xs
+
+-- what the calls ys file after the calls xs
+abbrev pub filedAfter : ℕ → ℕ → Calls → Calls → List (Filing saving)
+filedAfter n m xs ys = filings (length xs) n m (booked n m xs .held) [] ys
+
+-- the calls xs, a save, and the calls ys
+abbrev pub around : Calls → SaveCall → Calls → Calls
+around xs c ys = (xs ++ (save c ∷ [])) ++ ys
+
+-- after any list of calls, a save that answers done, and then any list in which nothing is cleared and nothing is filed
+-- under its UUID: the look-up hands back build's line, and it reads back what the save returned
+abbrev pub SavedIsFound : ℕ → ℕ → Type 0
+SavedIsFound n m =
+    (xs : Calls) (c : SaveCall) (v : Saved) (ys : Calls)
+    → next n m xs (save c) .answer ≡ saved v → v .answer ≡ Sv.Done
+    → hasClear ys ≡ false → lastFiled (c .args .uuid) (filedAfter n m (xs ++ (save c ∷ [])) ys) ≡ none
+    → (lookUp (c .args .uuid) (stored n m (around xs c ys) .index) (stored n m (around xs c ys) .text)
+    ≡ found (savedLine (c .args)))
+    × ((v ≡ builtSave (c .args)) × ReadsBack (c .args) (savedLine (c .args)) v)
