@@ -235,6 +235,13 @@ typedef struct {
     bool found;
 } raspteal_look;
 
+/* What is held under a UUID, its checksum set aside where need be: 0 nothing, 1 a line under the whole UUID (exact),
+ * 2 only one under the UUID without its checksum (near); 19 where the store is not sound. */
+typedef struct {
+    raspteal_refusal refusal;
+    uint8_t how;
+} raspteal_near_look;
+
 /* ---- Text ------------------------------------------------------------------------------------------------------ */
 
 /* Whether two byte strings are the same. */
@@ -257,6 +264,9 @@ bool raspteal_is_utf8(const uint8_t *s, size_t s_len);
 
 /* The UUID that s spells: 32 hexadecimal digits, the form with hyphens, that form in braces, or after `urn:uuid:`. */
 raspteal_uuid_parse raspteal_uuid_parse_str(const uint8_t *s, size_t s_len);
+
+/* The same UUID with bytes 2 and 3, counted from 0 (digits 5 to 8), zero: recent SDL releases put a checksum there. */
+raspteal_uuid raspteal_uuid_without_checksum(raspteal_uuid id);
 
 /* Writes the 32 lower-case digits of a UUID at place `at` of out. Where they do not fit, out is left as it is. */
 raspteal_written raspteal_uuid_write_simple(raspteal_uuid id, uint8_t *out, size_t out_len, size_t at);
@@ -427,6 +437,14 @@ raspteal_look raspteal_store_found(const uint8_t *index, size_t index_len, const
  * sound. fits is false, and out is left as it is, where out is shorter than the line. */
 raspteal_written raspteal_store_get(const uint8_t *index, size_t index_len, const uint8_t *text, size_t text_len,
                                     raspteal_uuid id, uint8_t *out, size_t out_len);
+
+/* The same two for a pad whose UUID may carry a checksum: they try the whole UUID, then raspteal_uuid_without_checksum
+ * of it. An exact find is the line of raspteal_store_get. A line that is held with a checksum is not found without it,
+ * nor with another. */
+raspteal_near_look raspteal_store_found_near(const uint8_t *index, size_t index_len, const uint8_t *text,
+                                             size_t text_len, raspteal_uuid id);
+raspteal_written raspteal_store_get_near(const uint8_t *index, size_t index_len, const uint8_t *text, size_t text_len,
+                                         raspteal_uuid id, uint8_t *out, size_t out_len);
 
 /* ---- Pads ------------------------------------------------------------------------------------------------------ */
 

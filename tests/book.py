@@ -165,6 +165,17 @@ def slots_of(word):
     return slots
 
 
+def near(held, uuid):
+    """Document 02, P5: 1 exact, 2 near, 0 none or 19, and the line; digits 5 to 8 are bytes 2 and 3."""
+    if held is None:
+        return "19", b""
+    lines, digits = dict(held), "%032x" % uuid
+    second = int(digits[:4] + "0000" + digits[8:], 16)
+    if uuid in lines:
+        return "1", lines[uuid]
+    return ("2", lines[second]) if second in lines else ("0", b"")
+
+
 class Store:
     def __init__(self, index_len, text_len):
         self.index, self.text = bytes(index_len), bytes(text_len)
@@ -201,6 +212,9 @@ class Store:
             line = None if held is None else dict(held).get(uuid_word(words[1]))
             says = "19" if held is None else "0" if line is None else "1"
             return words[0] == says and spelled(" ".join(words[2:])) == (line or b"")
+        if kind == "near":
+            says, line = near(held, uuid_word(words[1]))
+            return words[0] == says and spelled(" ".join(words[2:])) == line
         buffer = self.index if kind == "index" else self.text
         expected = spelled(" ".join(words))
         return kind in ("index", "text") and len(expected) <= len(buffer) and padded(expected, len(buffer)) == buffer

@@ -227,6 +227,29 @@ static void stores(void) {
     CHECK(!raspteal_store_found(BUFFER(index), BUFFER(text), one).found);
 }
 
+static void near_stores(void) {
+    uint8_t index[42] = {0}, text[100] = {0}, out[100];
+    raspteal_uuid pad = {0x0300abcd5e040000, 1}, plain = {0x030000005e040000, 1}, other = {0x0300abce5e040000, 1};
+    CHECK(raspteal_uuid_without_checksum(pad).high == plain.high && raspteal_uuid_without_checksum(pad).low == 1);
+    CHECK(raspteal_store_found_near(BUFFER(index), BUFFER(text), pad).how == 0);
+    CHECK(raspteal_store_get_near(BUFFER(index), BUFFER(text), pad, BUFFER(out)).next == 0);
+    raspteal_store_insert(BUFFER(index), BUFFER(text), TEXT("030000005e0400000000000000000001,P"));
+    CHECK(raspteal_store_found_near(BUFFER(index), BUFFER(text), pad).how == 2);
+    CHECK(!raspteal_store_found(BUFFER(index), BUFFER(text), pad).found);
+    raspteal_written w = raspteal_store_get_near(BUFFER(index), BUFFER(text), pad, BUFFER(out));
+    CHECK(w.fits && w.next == 34 && memcmp(out, "030000005e0400000000000000000001,P", 34) == 0);
+    CHECK(!raspteal_store_get_near(BUFFER(index), BUFFER(text), pad, out, 33).fits);
+    CHECK(raspteal_store_found_near(BUFFER(index), BUFFER(text), plain).how == 1);
+    raspteal_store_insert(BUFFER(index), BUFFER(text), TEXT("0300abcd5e0400000000000000000001,Q"));
+    CHECK(raspteal_store_found_near(BUFFER(index), BUFFER(text), pad).how == 1);
+    w = raspteal_store_get_near(BUFFER(index), BUFFER(text), pad, BUFFER(out));
+    CHECK(w.next == 34 && out[33] == 'Q' && raspteal_store_found_near(BUFFER(index), BUFFER(text), other).how == 2);
+    index[0] = 9;
+    raspteal_near_look l = raspteal_store_found_near(BUFFER(index), BUFFER(text), pad);
+    CHECK(l.refusal.number == 19 && l.how == 0);
+    CHECK(raspteal_store_get_near(BUFFER(index), BUFFER(text), pad, BUFFER(out)).next == 0);
+}
+
 static void pads(void) {
     raspteal_entry e = raspteal_entry_ranged(5, (raspteal_element){true, 1}, 2, 0, false);
     raspteal_value v = raspteal_entry_value(e, 2, 0);
@@ -250,6 +273,7 @@ int main(void) {
     lines();
     builds();
     stores();
+    near_stores();
     pads();
     printf("%d passed, %d failed\n", passed, failed);
     return failed != 0;

@@ -235,6 +235,13 @@ pub struct Look {
     pub found: bool,
 }
 
+#[repr(C)]
+#[derive(Clone, Copy, Debug, PartialEq, Eq)]
+pub struct NearLook {
+    pub refusal: Refusal,
+    pub how: u8,
+}
+
 extern "C" {
     pub fn raspteal_same_bytes(a: *const u8, a_len: usize, b: *const u8, b_len: usize) -> bool;
     pub fn raspteal_find_byte(s: *const u8, s_len: usize, b: u8) -> usize;
@@ -243,6 +250,7 @@ extern "C" {
     pub fn raspteal_valid_up_to(s: *const u8, s_len: usize) -> usize;
     pub fn raspteal_is_utf8(s: *const u8, s_len: usize) -> bool;
     pub fn raspteal_uuid_parse_str(s: *const u8, s_len: usize) -> UuidParse;
+    pub fn raspteal_uuid_without_checksum(id: Uuid) -> Uuid;
     pub fn raspteal_uuid_write_simple(id: Uuid, out: *mut u8, out_len: usize, at: usize) -> Written;
     pub fn raspteal_parse_u16(s: *const u8, s_len: usize) -> IndexParse;
     pub fn raspteal_index_len(n: usize) -> usize;
@@ -344,6 +352,22 @@ extern "C" {
         id: Uuid,
     ) -> Look;
     pub fn raspteal_store_get(
+        index: *const u8,
+        index_len: usize,
+        text: *const u8,
+        text_len: usize,
+        id: Uuid,
+        out: *mut u8,
+        out_len: usize,
+    ) -> Written;
+    pub fn raspteal_store_found_near(
+        index: *const u8,
+        index_len: usize,
+        text: *const u8,
+        text_len: usize,
+        id: Uuid,
+    ) -> NearLook;
+    pub fn raspteal_store_get_near(
         index: *const u8,
         index_len: usize,
         text: *const u8,

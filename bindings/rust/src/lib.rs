@@ -47,7 +47,7 @@ pub use error::{Error, InsertError, ParseUuidError};
 pub use mapping::{Entry, Lookup, Mapping};
 pub use pad::{Event, Raw};
 pub use parser::{count_tokens, first_token, AxisRange, Parser, Token};
-pub use store::Store;
+pub use store::{Match, Store};
 pub use uuid::Uuid;
 
 /// The codes that a map may have.

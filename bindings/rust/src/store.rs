@@ -31,6 +31,15 @@ pub struct Store<B = Vec<u8>> {
     text: B,
 }
 
+/// How a line is held under a UUID that may carry a checksum, with the line, or with nothing.
+#[derive(Clone, Copy, Debug, PartialEq, Eq)]
+pub enum Match<L = Vec<u8>> {
+    /// It is held under the whole UUID.
+    Exact(L),
+    /// Nothing is held under the whole UUID, and this line under [`Uuid::without_checksum`] of it.
+    Near(L),
+}
+
 impl Store {
     /// A fresh store that owns buffers of these lengths. Over 65535 bytes each of its calls is refused: 19, or 23 for
     /// a clear.
@@ -84,6 +93,49 @@ impl<B: AsRef<[u8]>> Store<B> {
     /// the store is not sound. `None`, and the buffer as it was, where it is shorter than the line.
     pub fn get_into(&self, id: Uuid, out: &mut [u8]) -> Option<usize> {
         let w = safe::store_get(self.index(), self.text(), id.into(), out);
+        w.fits.then_some(w.next)
+    }
+
+    /// The line held under a UUID, or else under the same UUID without its checksum. Refusal: 19.
+    ///
+    /// ```
+    /// use raspteal::{Match, Store, Uuid};
+    ///
+    /// let mut store = Store::new(21, 100);
+    /// store.insert("030000005e0400008e02000014010000,Pad,a:b0,")?;
+    /// let pad: Uuid = "0300abcd5e0400008e02000014010000".parse()?;
+    /// assert_eq!(store.get(pad)?, None);
+    /// assert!(matches!(store.get_near(pad)?, Some(Match::Near(_))));
+    /// # Ok::<(), Box<dyn std::error::Error>>(())
+    /// ```
+    pub fn get_near(&self, id: Uuid) -> Result<Option<Match>, Error> {
+        let Some(found) = self.found_near(id)? else {
+            return Ok(None);
+        };
+        let mut line = vec![0; LINE_MAX];
+        let len = self.get_near_into(id, &mut line).expect("a held line has at most 4096 bytes");
+        line.truncate(len);
+        Ok(Some(match found {
+            Match::Exact(()) => Match::Exact(line),
+            Match::Near(()) => Match::Near(line),
+        }))
+    }
+
+    /// The same without the line: whether one is held under a UUID, or else under the same UUID without its checksum.
+    /// Refusal: 19.
+    pub fn found_near(&self, id: Uuid) -> Result<Option<Match<()>>, Error> {
+        let look = safe::store_found_near(self.index(), self.text(), id.into());
+        Error::check(look.refusal)?;
+        Ok(match look.how {
+            1 => Some(Match::Exact(())),
+            2 => Some(Match::Near(())),
+            _ => None,
+        })
+    }
+
+    /// Copies the line that [`Store::get_near`] finds to the start of a buffer, as [`Store::get_into`] does.
+    pub fn get_near_into(&self, id: Uuid, out: &mut [u8]) -> Option<usize> {
+        let w = safe::store_get_near(self.index(), self.text(), id.into(), out);
         w.fits.then_some(w.next)
     }
 

@@ -38,6 +38,17 @@ impl Uuid {
         }
     }
 
+    /// The same UUID with bytes 2 and 3, counted from 0, zero: recent SDL releases put a checksum there.
+    ///
+    /// ```
+    /// let pad: raspteal::Uuid = "0300abcd5e0400008e02000014010000".parse()?;
+    /// assert_eq!(pad.without_checksum().to_string(), "030000005e0400008e02000014010000");
+    /// # Ok::<(), raspteal::ParseUuidError>(())
+    /// ```
+    pub fn without_checksum(self) -> Uuid {
+        safe::uuid_without_checksum(self.into()).into()
+    }
+
     /// Writes the 32 digits at place `at` of a buffer, and hands back the place after them; where they do not fit,
     /// nothing is written.
     ///

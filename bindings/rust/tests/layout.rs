@@ -38,6 +38,7 @@ fn rows() -> Vec<Row> {
     let slot = changed.slots.axes[0];
     let inserted = safe::store_insert(&mut [], &mut [], b"");
     let look = safe::store_found(&[], &[], ffi::Uuid { high: 0, low: 0 });
+    let near = safe::store_found_near(&[], &[], ffi::Uuid { high: 0, low: 0 });
     vec![
         row!(Refusal, "raspteal_refusal", built.refusal, number, has_place, place, has_code, code),
         row!(Written, "raspteal_written", safe::write_bytes(&mut [], 0, b""), fits, next),
@@ -68,6 +69,7 @@ fn rows() -> Vec<Row> {
         row!(Built, "raspteal_built", built, refusal, map, len),
         row!(Inserted, "raspteal_inserted", inserted, refusal, count),
         row!(Look, "raspteal_look", look, refusal, found),
+        row!(NearLook, "raspteal_near_look", near, refusal, how),
     ]
 }
 

@@ -1,5 +1,5 @@
 //! The store: a save is found again and reads back the same, owned and lent buffers, damage.
-use raspteal::{Axis, Button, Code, Error, Mapping, MappingData, Store, Uuid, RECORD_LEN};
+use raspteal::{Axis, Button, Code, Error, Mapping, MappingData, Match, Store, Uuid, RECORD_LEN};
 
 const BUTTONS: [Code; 3] = [Code(0x10130), Code(0x10131), Code(0x10133)];
 const AXES: [Code; 2] = [Code(0x30000), Code(0x30001)];
@@ -118,4 +118,36 @@ fn damaged() {
     }
     // Kinds, offsets, lengths and both tails; not the UUIDs and the letters of lines.
     assert_eq!(unsound, 2 * 5 + 21 + (120 - 78));
+}
+
+/// A checksum is set aside in the UUID that is looked up, and in no other.
+#[test]
+fn near_lines() {
+    let plain = Uuid::from_u128(0x030000005e0400008e02000014010000);
+    let with = |c: u16| Uuid::from_u128(plain.as_u128() | u128::from(c) << 96);
+    let line = format!("{plain},Pad,a:b0").into_bytes();
+    let mut store = Store::new(2 * RECORD_LEN, 200);
+    assert_eq!(store.get_near(plain), Ok(None));
+    store.insert(&line).unwrap();
+    for c in [1, 0x100, 0xabcd, 0xffff] {
+        assert_eq!(with(c).without_checksum(), plain);
+        assert_eq!(store.get(with(c)), Ok(None));
+        assert_eq!(store.get_near(with(c)), Ok(Some(Match::Near(line.clone()))));
+    }
+    assert_eq!(store.get_near(plain), Ok(Some(Match::Exact(line.clone()))));
+    assert_eq!(store.found_near(plain), Ok(Some(Match::Exact(()))));
+    assert_eq!(store.found_near(with(1)), Ok(Some(Match::Near(()))));
+    assert_eq!(store.found_near(Uuid::NIL), Ok(None));
+    let own = format!("{},Own,a:b0", with(0xabcd)).into_bytes();
+    store.insert(&own).unwrap();
+    assert_eq!(store.get_near(with(0xabcd)), Ok(Some(Match::Exact(own.clone()))));
+    assert_eq!(store.get_near(with(0xabce)), Ok(Some(Match::Near(line))));
+    assert_eq!(store.get_near_into(with(0xabcd), &mut [0; 10]), None);
+    store.clear().unwrap();
+    store.insert(&own).unwrap();
+    assert_eq!(store.get_near(plain), Ok(None));
+    assert_eq!(store.get_near(with(1)), Ok(None));
+    let (mut index, text) = store.into_buffers();
+    index[0] = 9;
+    assert_eq!(Store::over(index, text).get_near(plain), Err(Error::Unsound));
 }

@@ -5,4 +5,5 @@ pub mod FlatLists
 pub mod FlatTokens
 pub mod FlatSlots
 pub mod FlatStore
+pub mod FlatNear
 pub mod FlatPads

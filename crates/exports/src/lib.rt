@@ -9,6 +9,7 @@ mod flat_token;
 mod line_calls;
 mod list_calls;
 mod mapping_calls;
+mod near_calls;
 mod pad_calls;
 mod parser_calls;
 mod store_calls;

@@ -10,9 +10,9 @@ ghost use mathlib.Core.Path.{_≡_};
 ghost use lib.ListN.{length};
 ghost use Rattle.text.specs.Bytes.{same, firstOf, fitsAt, writeAnswer, writeBuffer};
 ghost use Rattle.text.specs.Utf8.{validRun, isUtf8};
-ghost use Rattle.text.specs.Uuid.{uuidOf, uuidText};
+ghost use Rattle.text.specs.Uuid.{uuidOf, uuidText, withoutChecksum};
 ghost use Rattle.text.specs.Decimal.{indexNumber, decimal};
-ghost use Rattle.exports.specs.Flat.{flatWritten, flatUuidParse, flatIndexParse, uuidIn};
+ghost use Rattle.exports.specs.Flat.{flatWritten, flatUuid, flatUuidParse, flatIndexParse, uuidIn};
 
 #[repr(C)]
 pub struct FlatUuidParse {
@@ -101,6 +101,16 @@ pub extern "C" fn raspteal_uuid_write_simple(id: FlatUuid, out: &mut [u8], at: u
         low: id.low,
     };
     flat_written(u.write_simple(out, at))
+}
+
+#[no_mangle]
+pub extern "C" fn raspteal_uuid_without_checksum(id: FlatUuid) -> FlatUuid
+    ensures { λ r. ⌜ r ≡ flatUuid (withoutChecksum (uuidIn id)) ⌝ }
+{
+    let high = id.high;
+    let low = id.low;
+    let whole = Uuid { high, low };
+    flat_uuid(whole.without_checksum())
 }
 
 #[no_mangle]

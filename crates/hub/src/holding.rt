@@ -4,6 +4,7 @@ use crate::fields::section;
 use crate::files::HALF;
 use crate::files::half;
 use crate::files::load;
+use crate::near::complain_near;
 use crate::say::DONE;
 use crate::say::TROUBLE;
 use crate::say::complain;
@@ -15,7 +16,9 @@ use crate::words::none;
 use crate::words::refused;
 use store::calls::Look;
 use store::calls::found;
-use store::calls::get;
+use store::near::NearLook;
+use store::near::found_near;
+use store::near::get_near;
 use text::uuid::Uuid;
 use text::uuid::UuidParse;
 
@@ -44,17 +47,23 @@ pub fn no_uuid(key: &[u8]) -> u8 {
     TROUBLE
 }
 
-// Prints the line held under a UUID.
+fn say_shown_line(line: &[u8]) -> u8 {
+    say_shown(line);
+    say(b"\n");
+    DONE
+}
+
+// Prints the line held under a UUID, or else under that without its checksum.
 pub fn say_line(index: &[u8], text: &[u8], id: Uuid) -> u8 {
-    let look = found(index, text, id);
+    let look = found_near(index, text, id);
     match look {
-        Look::Found => {
-            say_shown(get(index, text, id));
-            say(b"\n");
-            DONE
+        NearLook::Exact => say_shown_line(get_near(index, text, id)),
+        NearLook::Near => {
+            complain_near(id);
+            say_shown_line(get_near(index, text, id))
         }
-        Look::Missing => none(),
-        Look::Unsound => refused(19),
+        NearLook::Missing => none(),
+        NearLook::Unsound => refused(19),
     }
 }
 

@@ -16,6 +16,7 @@ mod layout;
 mod lint;
 mod manual;
 mod mappings;
+mod near;
 mod saving;
 mod say;
 mod shown;

@@ -64,7 +64,9 @@ pub fn put_holding(fd: i32, command: &[u8]) -> bool {
             fd,
             b"hub find STORE UUID
   Prints the line held under that UUID, or says 'none'. A UUID has 32 hexadecimal digits, or
-  the form with hyphens, also in braces or after 'urn:uuid:'. Control bytes of a line are
+  the form with hyphens, also in braces or after 'urn:uuid:'. Recent SDL releases put a
+  checksum into digits 5 to 8: where only the UUID with zeros there is held, its line is
+  printed, and 'near' with that UUID said on standard error. Control bytes of a line are
   printed as \\x and two digits.
 ",
         );
@@ -131,7 +133,8 @@ pub fn put_mappings(fd: i32, command: &[u8]) -> bool {
             fd,
             b"hub show STORE UUID buttons=CODES axes=CODES
   Reads the line held under that UUID with the pad's codes, and prints it with its map: each
-  code with its element, then name, hat flags and default flag. 'hub help save' says how
+  code with its element, then name, hat flags and default flag. Where only the UUID without its
+  checksum is held, it goes by that line, and says so as find does. 'hub help save' says how
   CODES are written, and where a pad's codes are to be found.
 ",
         );

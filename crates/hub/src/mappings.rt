@@ -7,6 +7,7 @@ use crate::codes::first_codes;
 use crate::files::half;
 use crate::files::load;
 use crate::holding::no_uuid;
+use crate::near::complain_near;
 use crate::say::DONE;
 use crate::say::TROUBLE;
 use crate::say::complain;
@@ -22,9 +23,9 @@ use crate::words::none;
 use crate::words::refused;
 use map::default::default;
 use map::error::MappingAnswer;
-use store::calls::Look;
-use store::calls::found;
-use store::calls::get;
+use store::near::NearLook;
+use store::near::found_near;
+use store::near::get_near;
 use text::uuid::Uuid;
 use text::uuid::UuidParse;
 
@@ -90,11 +91,15 @@ fn show_line(line: &[u8], asked: Request) -> u8 {
 }
 
 fn show_held(index: &[u8], text: &[u8], id: Uuid, asked: Request) -> u8 {
-    let look = found(index, text, id);
+    let look = found_near(index, text, id);
     match look {
-        Look::Found => show_line(get(index, text, id), asked),
-        Look::Missing => none(),
-        Look::Unsound => refused(19),
+        NearLook::Exact => show_line(get_near(index, text, id), asked),
+        NearLook::Near => {
+            complain_near(id);
+            show_line(get_near(index, text, id), asked)
+        }
+        NearLook::Missing => none(),
+        NearLook::Unsound => refused(19),
     }
 }
 

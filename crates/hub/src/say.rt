@@ -1,4 +1,5 @@
-// What is printed: answers on standard output; refusals, `none` and trouble on standard error.
+// What is printed: answers on standard output; refusals, `none`, `near` and trouble on standard error.
+use text::uuid::Uuid;
 
 // The status of a command that is done, of one that was refused or found nothing, and of wrong use or file trouble.
 pub const DONE: u8 = 0;
@@ -37,6 +38,12 @@ pub fn put_code(fd: i32, code: u32) {
 // A byte, in two hexadecimal digits.
 pub fn put_hex_byte(fd: i32, b: u8) {
     noted(io::print_hex(fd, b as u64, 2));
+}
+
+// A UUID, in 32 digits.
+pub fn put_uuid(fd: i32, id: Uuid) {
+    noted(io::print_hex(fd, id.high, 16));
+    noted(io::print_hex(fd, id.low, 16));
 }
 
 pub fn say(text: &[u8]) {

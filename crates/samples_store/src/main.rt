@@ -3,6 +3,7 @@
 // of buffers of those lengths. A mismatch prints its line.
 mod cases;
 mod fields;
+mod near_cases;
 mod save_cases;
 mod spelled;
 
@@ -41,6 +42,9 @@ fn run_case(index: &mut [u8], text: &mut [u8], line: &[u8]) -> bool {
     let args = rest(line);
     if same_bytes(kind, b"find") {
         return cases::find_case(index, text, args);
+    }
+    if same_bytes(kind, b"near") {
+        return near_cases::near_case(index, text, args);
     }
     if same_bytes(kind, b"insert") {
         return cases::insert_case(index, text, args);

@@ -39,6 +39,8 @@ pub mod SaveCallLaws
 pub mod RefusedLaws
 pub mod Saves
 pub mod FoundLaws
+pub mod NearLaws
 mod Samples
 mod Worked
 mod History
+mod NearSamples

@@ -9,24 +9,25 @@ use Prim.Native.Nat.{ℕ, zero, suc, _+_, _-_, _≤_, _<_}
 use native.Mathlib.Nat.{eq-or-lt-of-le}
 use native.Mathlib.Omega.{arith}
 use lib.Dec.{eqb, ltb}
-use lib.ListN.{length, getD, take, drop}
-use lib.Seq.{getD-set-other}
+use lib.ListN.{length, getD, set, take, drop, length-set}
 use borrow.Author.Tests.{eq-eqb, ne-eqb, eqb-true, eqb-false, ltb-true, ltb-false, lt-ltb}
 use Rattle.text.specs.Bytes.{pick}
 use Rattle.store.specs.declared.slots.Fill.{Fill}
 use Rattle.store.specs.declared.look.Seen.{Seen}
+use Rattle.store.specs.declared.look.Part.{Part}
 use Rattle.store.specs.declared.calls.Look.the-variants as L
 use Rattle.store.specs.Decode.{decode}
 use Rattle.store.specs.Held.{Key, Held, sameKey, find}
 use Rattle.store.specs.Inner.{known}
 use Rattle.store.specs.Keys.{slots, keyAt, Chained, Sought}
-use Rattle.store.specs.Slots.{living, Table, more, heldAt, slotAt, Slotted, Loads, lenBefore, Sees}
+use Rattle.store.specs.Slots.{living, Table, heldAt, slotAt, Slotted, Loads, lenBefore, Sees}
+use Rattle.store.specs.Sights.{Ready, Agree, Spot, nowhere, there}
 use Rattle.store.specs.Store.{Looked, nothing, unsound, lookedIn, lookedAt, lookUp, saysOf, lineOf}
 use Rattle.store.specs.Store as store
 use Rattle.store.proofs.ChainLaws.{unlike}
 use Rattle.store.proofs.DecodeLaws.{lines-of}
 use Rattle.store.proofs.HeldLaws.{same-refl, same-eq}
-use Rattle.store.proofs.SlotLaws.{key-other, key-same}
+use Rattle.store.proofs.SlotLaws.{key-other, key-same, chained-agree}
 
 look-unsound : (k : Key) (i t : List ℕ) → known (decode i t) ≡ false → lookUp k i t ≡ unsound
 unfolding lookUp
@@ -37,19 +38,12 @@ look-unsound k i t e = go (decode i t) e
     go (some hs) q = let z : _≡_ {A = ℕ} 0 1 = cc in absurd (omega arith)
 
 -- the lines of a sound store are in their chains
-pub look-chained : (i t : List ℕ) → known (decode i t) ≡ true → (a : Table) (heads next : List ℕ) (f : Fill)
-    → Loads i a heads next f → Chained (keyAt (a .highs) (a .lows)) heads next (f .count)
-look-chained i t e a heads next f loads =
-    let q = lines-of (decode i t) e in loads t [] (q .0) (q .1) .chained
-
--- what is seen where a look-up comes to x
-sees : (k : Key) (i t : List ℕ) (r : Seen) (x : Looked) → lookUp k i t ≡ x → r .how ≡ saysOf x
-    → r .start + r .len ≤ length t → take (r .len) (drop (r .start) t) ≡ lineOf x → Sees i t k r
-sees k i t r x e h l q = record { how = h ∙ ap saysOf (sym e); within = l; line = q ∙ ap lineOf (sym e) }
-
-pub sees-unsound : (k : Key) (i t : List ℕ) → known (decode i t) ≡ false
-    → Sees i t k (record { how = L.Unsound; start = 0; len = 0 })
-sees-unsound k i t e = sees k i t _ unsound (look-unsound k i t e) refl (omega arith) refl
+pub look-ready : (i t : List ℕ) → known (decode i t) ≡ true → (a : Table) (heads next : List ℕ) (f : Fill)
+    → Loads i a heads next f → Ready (a .highs) (a .lows) heads next (f .count)
+look-ready i t e a heads next f loads =
+    let q = lines-of (decode i t) e in
+    let x = loads t [] (q .0) (q .1) in
+    record { highs-long = x .tabled .long .highs; lows-long = x .tabled .long .lows; chained = x .chained }
 
 -- ---- found among the lines of numbers
 
@@ -90,67 +84,43 @@ module _ (u : Key) where
       ∙ find-only S j n p (λ k p′. f k (omega arith)))
       (eq-or-lt-of-le q)
 
--- ---- a key written down behind the lines of a sound store
+-- ---- the key of number n, sought among the lines of the numbers before it
 
-module _ (k : Key) (i t : List ℕ) (e : known (decode i t) ≡ true) (a : Table) (heads next : List ℕ) (f : Fill)
-    (loads : Loads i a heads next f) (cl : f .count < slots) (b : Table) (eb : b ≡ more a (f .count) k 0 0)
-    (r : ℕ) (so : Sought (keyAt (b .highs) (b .lows)) (f .count) r) (rl : r ≤ f .count) (len : ℕ)
-    (el : len ≡ lenBefore (b .lens) r) where
-  abbrev n : ℕ
-  n = f .count
+pub some-before : (lens : List ℕ) (r len : ℕ) → len ≡ lenBefore lens r → (len ≡ 0 → ⊥) → 0 < r
+some-before lens r len el z = go (eqb r 0) refl
+  where
+    go : (c : Bool) → eqb r 0 ≡ c → 0 < r
+    go true q = absurd (z (el ∙ ap (λ (c : Bool). pick c 0 (getD lens (r - 1) 0)) q))
+    go false q = let y : r ≡ 0 → ⊥ = eqb-false r 0 q in omega arith
 
-  hs : List Held
-  hs = lines-of (decode i t) e .0
-
-  x : Slotted i t [] a heads next (f .count) f (lines-of (decode i t) e .0)
-  x = loads t [] (lines-of (decode i t) e .0) (lines-of (decode i t) e .1)
+module _ (k : Key) (i t highs lows starts lens heads next : List ℕ) (f : Fill) (hs : List Held)
+    (x : Slotted i t [] (record { highs = highs; lows = lows; starts = starts; lens = lens }) heads next (f .count) f hs)
+    (K′ : ℕ → Key) (before : Agree (keyAt highs lows) K′ (f .count)) (new : K′ (f .count) ≡ k)
+    (r : ℕ) (so : Sought K′ (f .count) r) (rl : r ≤ f .count) (len : ℕ) (el : len ≡ lenBefore lens r) where
+  abbrev a : Table
+  a = record { highs = highs; lows = lows; starts = starts; lens = lens }
 
   abbrev K : ℕ → Key
-  K j = keyAt (a .highs) (a .lows) j
-
-  abbrev K′ : ℕ → Key
-  K′ j = keyAt (b .highs) (b .lows) j
+  K j = keyAt highs lows j
 
   abbrev S : ℕ → List Held
   S j = slotAt t [] a (f .count) j
 
-  key-before : (j : ℕ) → j < f .count → K′ j ≡ K j
-  key-before j l = ap (λ (v : Table). keyAt (v .highs) (v .lows) j) eb
-      ∙ key-other (a .highs) (a .lows) (f .count) (k .high) (k .low) j (λ z. omega arith)
-
-  key-new : K′ (f .count) ≡ k
-  key-new = ap (λ (v : Table). keyAt (v .highs) (v .lows) (f .count)) eb
-      ∙ key-same (a .highs) (a .lows) (f .count) (k .high) (k .low) (omega (arith, x .tabled .long .highs))
-      (omega (arith, x .tabled .long .lows))
-
-  len-other : (j : ℕ) → j < f .count → getD (b .lens) j 0 ≡ getD (a .lens) j 0
-  len-other j l = ap (λ (v : Table). getD (v .lens) j 0) eb
-      ∙ getD-set-other (a .lens) (f .count) j 0 0 (λ z. omega arith)
-
-  start-other : (j : ℕ) → j < f .count → getD (b .starts) j 0 ≡ getD (a .starts) j 0
-  start-other j l = ap (λ (v : Table). getD (v .starts) j 0) eb
-      ∙ getD-set-other (a .starts) (f .count) j 0 0 (λ z. omega arith)
-
-  looks : lookUp k i t ≡ lookedIn (find k (living S (f .count)))
-  unfolding lookUp
-  looks = ap (lookedAt k) (lines-of (decode i t) e .1)
-      ∙ ap (λ (v : List Held). lookedIn (find k v)) (x .tabled .is)
-
   -- what a number gives
-  find-gone : (j : ℕ) → getD (a .lens) j 0 ≡ 0 → find k (S j) ≡ none
+  find-gone : (j : ℕ) → getD lens j 0 ≡ 0 → find k (S j) ≡ none
   unfolding slotAt find
   find-gone j z = ap (λ (c : Bool). find k (pick c [] (heldAt t [] a (f .count) j ∷ []))) (eq-eqb _ _ z)
 
   find-other : (j : ℕ) → (K j ≡ k → ⊥) → find k (S j) ≡ none
   unfolding slotAt find
-  find-other j z = go (eqb (getD (a .lens) j 0) 0) (sameKey k (K j)) refl
+  find-other j z = go (eqb (getD lens j 0) 0) (sameKey k (K j)) refl
     where
       go : (c d : Bool) → sameKey k (K j) ≡ d → find k (pick c [] (heldAt t [] a (f .count) j ∷ [])) ≡ none
       go true d q = refl
       go false true q = absurd (z (sym (same-eq k (K j) q)))
       go false false q = ap (λ (v : Bool). pick v (some (heldAt t [] a (f .count) j .line)) none) q
 
-  find-here : (j : ℕ) → K j ≡ k → (getD (a .lens) j 0 ≡ 0 → ⊥)
+  find-here : (j : ℕ) → K j ≡ k → (getD lens j 0 ≡ 0 → ⊥)
       → find k (S j) ≡ some (heldAt t [] a (f .count) j .line)
   unfolding slotAt find
   find-here j q z =
@@ -159,12 +129,12 @@ module _ (k : Key) (i t : List ℕ) (e : known (decode i t) ≡ true) (a : Table
       (subst (λ (v : Key). sameKey k v ≡ true) (sym q) (same-refl k))
 
   clear : (j : ℕ) → r ≤ j → j < f .count → K j ≡ k → ⊥
-  clear j p q z = so .clear rl j p q (key-before j q ∙ z ∙ sym key-new)
+  clear j p q z = so .clear rl j p q (sym (before j q) ∙ z ∙ sym new)
 
   -- the number before r has the key, and the others have not, or are struck out
   module _ (p : 0 < r) where
     at-key : K (r - 1) ≡ k
-    at-key = sym (key-before (r - 1) (omega arith)) ∙ so .hit p rl ∙ key-new
+    at-key = before (r - 1) (omega arith) ∙ so .hit p rl ∙ new
 
     others : (j : ℕ) → j < f .count → (j ≡ r - 1 → ⊥) → find k (S j) ≡ none
     others j l z = go (sameKey k (K j)) refl (ltb j (r - 1)) refl
@@ -180,19 +150,11 @@ module _ (k : Key) (i t : List ℕ) (e : known (decode i t) ≡ true) (a : Table
     one : find k (living S (f .count)) ≡ find k (S (r - 1))
     one = find-only k S (r - 1) (f .count) (omega arith) others
 
-    len-is : len ≡ getD (a .lens) (r - 1) 0
-    len-is = el ∙ ap (λ (c : Bool). pick c 0 (getD (b .lens) (r - 1) 0)) (ne-eqb r 0 (λ z. omega arith))
-        ∙ len-other (r - 1) (omega arith)
+    len-is : len ≡ getD lens (r - 1) 0
+    len-is = el ∙ ap (λ (c : Bool). pick c 0 (getD lens (r - 1) 0)) (ne-eqb r 0 (λ z. omega arith))
 
-  some-before : (len ≡ 0 → ⊥) → 0 < r
-  some-before z = go (eqb r 0) refl
-    where
-      go : (c : Bool) → eqb r 0 ≡ c → 0 < r
-      go true q = absurd (z (el ∙ ap (λ (c : Bool). pick c 0 (getD (b .lens) (r - 1) 0)) q))
-      go false q = let y : r ≡ 0 → ⊥ = eqb-false r 0 q in omega arith
-
-  pub sees-none : len ≡ 0 → Sees i t k (record { how = L.Missing; start = 0; len = 0 })
-  sees-none z = sees k i t _ nothing (looks ∙ ap lookedIn (go (eqb r 0) refl)) refl (omega arith) refl
+  pub spot-none : len ≡ 0 → Spot t (find k hs) (record { start = 0; len = 0 })
+  spot-none z = nowhere (ap (find k) (x .tabled .is) ∙ go (eqb r 0) refl) refl
     where
       go : (c : Bool) → eqb r 0 ≡ c → find k (living S (f .count)) ≡ none
       go true q =
@@ -203,25 +165,67 @@ module _ (k : Key) (i t : List ℕ) (e : known (decode i t) ≡ true) (a : Table
           let p : 0 < r = omega arith in
           one p ∙ find-gone (r - 1) (sym (len-is p) ∙ z)
 
-  module _ (z : len ≡ 0 → ⊥) where
-    pub sees-before : (0 < r) × (r - 1 < slots)
-    sees-before = (some-before z, omega (arith, some-before z))
+  pub spot-line : (len ≡ 0 → ⊥) → Spot t (find k hs) (record { start = getD starts (r - 1) 0; len = len })
+  spot-line z =
+      let p : 0 < r = some-before lens r len el z in
+      let l : r - 1 < f .count = omega arith in
+      let w : getD starts (r - 1) 0 + getD lens (r - 1) 0 ≤ length t
+      = subst (λ (c : Bool). getD starts (r - 1) 0 + getD lens (r - 1) 0 ≤ length (pick c t []))
+      (lt-ltb (r - 1) (f .count) l) (x .tabled .inside (r - 1) l) in
+      there
+      (ap (find k) (x .tabled .is) ∙ one p ∙ find-here (r - 1) (at-key p) (λ y. z (len-is p ∙ y))
+      ∙ ap (λ (c : Bool). some (take (getD lens (r - 1) 0) (drop (getD starts (r - 1) 0) (pick c t []))))
+      (lt-ltb (r - 1) (f .count) l)
+      ∙ ap (λ (v : ℕ). some (take v (drop (getD starts (r - 1) 0) t))) (sym (len-is p)))
+      (omega arith) (omega (arith, w, len-is p))
 
-    within : getD (a .starts) (r - 1) 0 + getD (a .lens) (r - 1) 0 ≤ length t
-    within =
-        let l : r - 1 < f .count = omega (arith, some-before z) in
-        subst (λ (c : Bool). getD (a .starts) (r - 1) 0 + getD (a .lens) (r - 1) 0 ≤ length (pick c t []))
-        (lt-ltb (r - 1) (f .count) l) (x .tabled .inside (r - 1) l)
+-- ---- a key written down under number n
 
-    pub sees-line : Sees i t k (record { how = L.Found; start = getD (b .starts) (r - 1) 0; len = len })
-    sees-line =
-        let p : 0 < r = some-before z in
-        let l : r - 1 < f .count = omega arith in
-        let q : getD (b .starts) (r - 1) 0 ≡ getD (a .starts) (r - 1) 0 = start-other (r - 1) l in
-        sees k i t _ (store.found (take len (drop (getD (b .starts) (r - 1) 0) t)))
-        (looks ∙ ap lookedIn (one p ∙ find-here (r - 1) (at-key p) (λ y. z (len-is p ∙ y)))
-        ∙ ap (λ (c : Bool). store.found
-        (take (getD (a .lens) (r - 1) 0) (drop (getD (a .starts) (r - 1) 0) (pick c t []))))
-        (lt-ltb (r - 1) (f .count) l)
-        ∙ ap₂ (λ (v w : ℕ). store.found (take v (drop w t))) (sym (len-is p)) (sym q))
-        refl (omega (arith, within, q, len-is p)) refl
+module _ (highs lows heads next : List ℕ) (n : ℕ) (k : Key) (l : n < slots) (p : Ready highs lows heads next n) where
+  abbrev K″ : ℕ → Key
+  K″ = keyAt (set highs n (k .high)) (set lows n (k .low))
+
+  pub put-agree : Agree (keyAt highs lows) K″ n
+  put-agree j m = sym (key-other highs lows n (k .high) (k .low) j (λ z. omega arith))
+
+  pub put-ready : Ready (set highs n (k .high)) (set lows n (k .low)) heads next n
+  put-ready = record {
+    highs-long = length-set highs n (k .high) ∙ p .highs-long;
+    lows-long = length-set lows n (k .low) ∙ p .lows-long;
+    chained = chained-agree (keyAt highs lows) K″ n put-agree heads next (p .chained);
+  }
+
+  pub put-new : K″ n ≡ k
+  put-new = key-same highs lows n (k .high) (k .low) (omega (arith, p .highs-long)) (omega (arith, p .lows-long))
+
+-- ---- what a look-up says
+
+module _ (k : Key) (i t : List ℕ) where
+  -- what is seen where a look-up comes to x
+  sees : (r : Seen) (x : Looked) → lookUp k i t ≡ x → r .how ≡ saysOf x
+      → r .start + r .len ≤ length t → take (r .len) (drop (r .start) t) ≡ lineOf x → Sees i t k r
+  sees r x e h l q = record { how = h ∙ ap saysOf (sym e); within = l; line = q ∙ ap lineOf (sym e) }
+
+  pub sees-unsound : known (decode i t) ≡ false → Sees i t k (record { how = L.Unsound; start = 0; len = 0 })
+  sees-unsound e = sees _ unsound (look-unsound k i t e) refl (omega arith) refl
+
+  module _ (hs : List Held) (e : decode i t ≡ some hs) (r : Part) (s : Spot t (find k hs) r) where
+    looks : (o : Option (List ℕ)) → find k hs ≡ o → lookUp k i t ≡ lookedIn o
+    unfolding lookUp
+    looks o q = ap (lookedAt k) e ∙ ap lookedIn q
+
+    pub sees-none : r .len ≡ 0 → Sees i t k (record { how = L.Missing; start = 0; len = 0 })
+    sees-none z = go s
+      where
+        go : Spot t (find k hs) r → Sees i t k (record { how = L.Missing; start = 0; len = 0 })
+        go (nowhere q y) = sees _ nothing (looks none q) refl (omega arith) refl
+        go (there q y w) = absurd (omega (arith, y, z))
+
+    pub sees-line : (r .len ≡ 0 → ⊥) → Sees i t k (record { how = L.Found; start = r .start; len = r .len })
+    sees-line z = go s
+      where
+        go : Spot t (find k hs) r → Sees i t k (record { how = L.Found; start = r .start; len = r .len })
+        go (nowhere q y) = absurd (z y)
+        go (there q y w) =
+            sees _ (store.found (take (r .len) (drop (r .start) t)))
+            (looks (some (take (r .len) (drop (r .start) t))) q) refl w refl

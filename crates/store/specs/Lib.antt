@@ -1,5 +1,5 @@
--- The definitions of the store layer, in reading order. Decode computes what Layout says; Inner, Keys and Slots
--- serve private functions only.
+-- The definitions of the store layer, in reading order. Decode computes what Layout says; Inner, Keys, Slots
+-- and Sights serve private functions only.
 pub mod Held
 pub mod Layout
 pub mod Decode
@@ -11,7 +11,9 @@ pub mod Saves
 pub mod Filings
 pub mod Guarantee
 pub mod Promises
+pub mod Near
 -- what private functions and proofs need
 pub mod Inner
 pub mod Keys
 pub mod Slots
+pub mod Sights

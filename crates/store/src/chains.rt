@@ -78,6 +78,25 @@ fn seek(
     0
 }
 
+// Seeks the key of number k among the numbers before it, which are in their chains: one more than the last that has
+// it, or 0.
+pub fn seek_before(
+    highs: &[u64; SLOTS],
+    lows: &[u64; SLOTS],
+    heads: &[u16; SLOTS],
+    next: &[u16; SLOTS],
+    k: usize,
+) -> usize
+    requires { ⌜ k < slots ⌝ }
+    requires { ⌜ Chained (keyAt (now highs) (now lows)) (now heads) (now next) k ⌝ }
+    ensures { λ r. ⌜ Sought (keyAt (now (highs .entry)) (now (lows .entry))) k r ⌝ }
+    ensures { λ r. ⌜ r ≤ k ⌝ }
+{
+    let h = bucket_of(highs[k], lows[k]);
+    let head = heads[h];
+    seek(highs, lows, next, number(head), k, SLOTS)
+}
+
 // Puts number k in front of its chain, and answers as `seek` does.
 pub fn link(
     highs: &[u64; SLOTS],

@@ -6,6 +6,7 @@ mod chains;
 mod filing;
 mod lines;
 mod look;
+pub mod near;
 mod order;
 mod records;
 mod saving;

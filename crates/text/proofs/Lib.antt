@@ -8,5 +8,6 @@ pub mod AsciiLaws
 pub mod UuidLaws
 pub mod SpellingLaws
 pub mod SmallLaws
+pub mod ChecksumLaws
 pub mod DecimalLaws
 mod Samples

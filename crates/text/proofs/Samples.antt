@@ -3,10 +3,12 @@
 use mathlib.Core.Path.{_≡_, refl}
 use mathlib.Core.Bool.{true, false}
 use mathlib.Core.List.{[], _∷_}
+use Prim.Native.Nat.{ℕ, _+_, _*_}
 use Rattle.text.specs.Bytes.{ascii, same}
 use Rattle.text.specs.Decimal.{digits, decimal, readDigits, unsigned, indexNumber}
 use Rattle.text.specs.Utf8.{begins, firstLength, charLength, runOf, validRun, isUtf8}
 use Rattle.text.specs.Uuid.{hexDigit, readHex, hyphenated, uuidOf, hexText, uuidText, bigEndian, uuidBytes}
+use Rattle.text.specs.Uuid.{withoutChecksum}
 use Rattle.text.specs.declared.decimal.IndexParse.the-variants as Index
 use Rattle.text.specs.declared.uuid.Uuid.{Uuid}
 use Rattle.text.specs.declared.uuid.UuidParse.the-variants.{Parsed, Invalid}
@@ -59,6 +61,35 @@ bytes-high-first = refl
 upper-urn : uuidOf (ascii "URN:UUID:f81d4fae-7dec-11d0-a765-00a0c91e6bf6") ≡ Invalid
 unfolding uuidOf hyphenated readHex hexDigit same
 upper-urn = refl
+
+-- document 02, P5: bytes 2 and 3, counted from 0, zero; with 00 00, 00 01, 01 00 and FF FF there
+without : (checksum : ℕ) → Uuid
+without checksum = withoutChecksum (record { high = 0x030000005e0400ff + checksum * 0x100000000; low = 0x8e02000014010000 })
+
+plain : Uuid
+plain = record { high = 0x030000005e0400ff; low = 0x8e02000014010000 }
+
+checksum-0000 : without 0x0000 ≡ plain
+unfolding withoutChecksum without plain
+checksum-0000 = refl
+
+checksum-0001 : without 0x0001 ≡ plain
+unfolding withoutChecksum without plain
+checksum-0001 = refl
+
+checksum-0100 : without 0x0100 ≡ plain
+unfolding withoutChecksum without plain
+checksum-0100 = refl
+
+checksum-ffff : without 0xffff ≡ plain
+unfolding withoutChecksum without plain
+checksum-ffff = refl
+
+-- the largest UUID
+all-bits : withoutChecksum (record { high = 0xffffffffffffffff; low = 0xffffffffffffffff })
+    ≡ record { high = 0xffff0000ffffffff; low = 0xffffffffffffffff }
+unfolding withoutChecksum
+all-bits = refl
 
 -- ---- index numbers
 

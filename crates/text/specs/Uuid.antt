@@ -1,6 +1,7 @@
 -- UUID texts: the four forms that `Uuid::parse_str` takes, by RFC 4122, section 3, and the text that is written.
 -- Public contracts rest on these definitions; they assume nothing.
 use Prim.Native.Nat.{ℕ, zero, suc, _+_, _*_, _-_, _/_, _%_, _<_, _^_}
+use mathlib.Core.Path.{_≡_}
 use mathlib.Core.Bool.{Bool}
 use mathlib.Core.List.{List, [], _∷_, _++_}
 use lib.Dec.{ltb, leb, eqb}
@@ -114,3 +115,16 @@ uuidBytes u = bigEndian 8 (u .high) ++ bigEndian 8 (u .low)
 pub record Small (u : Uuid) : Type 0 where
   pub high : u .high < 2 ^ 64
   pub low : u .low < 2 ^ 64
+
+-- ---- without a checksum
+
+-- "the same UUID with those two bytes zero", of "GUID bytes 2 and 3, counted from 0": bytes 0 and 1 are the 2 ^ 48ths of
+-- the first half, bytes 4 to 7 what is left of it by 2 ^ 32
+unfoldable pub withoutChecksum : Uuid → Uuid
+withoutChecksum u =
+    record { high = 0x1000000000000 * (u .high / 0x1000000000000) + u .high % 0x100000000; low = u .low }
+
+-- the theorem `checksum-bytes`: the same in bytes
+abbrev pub ChecksumBytes : Type 0
+ChecksumBytes =
+    (u : Uuid) → uuidBytes (withoutChecksum u) ≡ take 2 (uuidBytes u) ++ (0 ∷ 0 ∷ drop 4 (uuidBytes u))

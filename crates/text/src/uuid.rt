@@ -6,7 +6,7 @@ ghost use mathlib.Core.Path.{_≡_};
 ghost use Prim.Native.Nat.{ℕ, _≤_, _<_, _^_, _-_, _+_};
 ghost use lib.ListN.{length};
 ghost use Rattle.text.specs.Uuid.{hexDigit, readHex, joined, simple, firstGroups, lastGroups, hyphenated, uuidOf};
-ghost use Rattle.text.specs.Uuid.{lowerDigit, hexText, uuidText};
+ghost use Rattle.text.specs.Uuid.{lowerDigit, hexText, uuidText, withoutChecksum};
 ghost use Rattle.text.specs.Inner.{after, Put};
 ghost use Rattle.text.specs.Bytes.{written, Wrote};
 
@@ -210,6 +210,16 @@ impl Uuid {
             }
         }
         UuidParse::Invalid
+    }
+
+    // The same UUID with bytes 2 and 3, counted from 0, zero: recent SDL releases put a checksum there.
+    pub fn without_checksum(self) -> Uuid
+        ensures { λ r. ⌜ r ≡ withoutChecksum self ⌝ }
+    {
+        Uuid {
+            high: 0x1000000000000 * (self.high / 0x1000000000000) + self.high % 0x100000000,
+            low: self.low,
+        }
     }
 
     // Writes the 32 lower-case digits at `at`.

@@ -23,6 +23,7 @@ pub enum Group {
     Build,
     Insert,
     LookUp,
+    Near,
     Save,
     Clear,
     Buffers,
@@ -30,7 +31,7 @@ pub enum Group {
     Events,
 }
 
-pub const GROUPS: [(&str, &str); 23] = [
+pub const GROUPS: [(&str, &str); 24] = [
     ("utf8", "the longest valid run of UTF-8, with Rust's own reader"),
     ("uuid", "UUID texts, with the crate uuid"),
     ("index", "index numbers, with Rust's own reader"),
@@ -49,6 +50,7 @@ pub const GROUPS: [(&str, &str); 23] = [
     ("build", "Mapping::from_data: line, map, refusal, carried code, output"),
     ("insert", "MappingDb::insert: count and refusal by the book"),
     ("look-up", "MappingDb::get, and the book"),
+    ("near", "MappingDb::get twice, the second time without the UUID's checksum, and the book (document 02, P5)"),
     ("save", "from_data filed: map and refusal by the book"),
     ("clear", "clear (document 01 alone)"),
     ("buffers", "both buffers after each call, byte by byte, by the book (document 01 alone)"),

@@ -1,5 +1,5 @@
 //! Document 02 on plain data: a second program for what no Rust has.
-use crate::plain::{Entry, AXIS};
+use crate::plain::{Entry, Uuid, AXIS};
 
 /// A half of an axis as the C side numbers it: 0 lower, 1 upper, another number all of it.
 const LOWER: u8 = 0;
@@ -42,4 +42,20 @@ pub fn value((_, element, (input, output, inverted)): Entry, raw: Raw) -> Option
 pub fn event(entries: &[Entry], code: u32, raw: Raw) -> Option<(u16, i16)> {
     let e = entries.iter().find(|e| e.0 == code)?;
     Some((e.1, value(*e, raw)?))
+}
+
+/// P5: a UUID with bytes 2 and 3 zero.
+pub fn without_checksum(mut uuid: Uuid) -> Uuid {
+    uuid[2] = 0;
+    uuid[3] = 0;
+    uuid
+}
+
+/// P5: how a line is held under a UUID, 0 not, 1 exact, 2 near, and the line, by a look-up that knows no checksum.
+pub fn near(uuid: Uuid, get: impl Fn(Uuid) -> Option<Vec<u8>>) -> (u8, Vec<u8>) {
+    match (get(uuid), get(without_checksum(uuid))) {
+        (Some(line), _) => (1, line),
+        (None, Some(line)) => (2, line),
+        (None, None) => (0, Vec::new()),
+    }
 }

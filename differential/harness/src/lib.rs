@@ -5,6 +5,7 @@ pub mod compare;
 pub mod doc01;
 pub mod doc02;
 pub mod gen;
+pub mod near;
 pub mod pads;
 pub mod plain;
 pub mod port;

@@ -10,17 +10,17 @@ pub fn number(e: ffi::Element) -> u16 {
     e.number + if e.is_axis { AXIS } else { 0 }
 }
 
-fn id(u: Uuid) -> ffi::Uuid {
+pub fn id(u: Uuid) -> ffi::Uuid {
     let n = u128::from_be_bytes(u);
     ffi::Uuid { high: (n >> 64) as u64, low: n as u64 }
 }
 
-fn bytes(u: ffi::Uuid) -> Uuid {
+pub fn bytes(u: ffi::Uuid) -> Uuid {
     (((u.high as u128) << 64) | u.low as u128).to_be_bytes()
 }
 
 /// None: not refused. What a refusal lacks has to be 0.
-fn refused(r: ffi::Refusal) -> Option<Refusal> {
+pub fn refused(r: ffi::Refusal) -> Option<Refusal> {
     assert!((r.has_place || r.place == 0) && (r.has_code || r.code == 0), "{r:?}");
     assert!(r.number != 0 || !(r.has_place || r.has_code), "{r:?}");
     (r.number != 0).then_some(Refusal {
@@ -377,8 +377,7 @@ impl Store {
                 ),
             )
         };
-        let len = written(line).expect("a line over 4100 bytes");
-        assert!(out[len..].iter().all(|b| *b == 0xee), "bytes after the line changed");
+        let len = copied(line, &out);
         match (refused(look.refusal), look.found) {
             (Some(r), _) => {
                 assert!(!look.found && len == 0);
@@ -391,4 +390,11 @@ impl Store {
             }
         }
     }
+}
+
+/// The length of a line that was copied to the start of a buffer of ee; the bytes after it are as they were.
+pub fn copied(w: ffi::Written, out: &[u8]) -> usize {
+    let len = written(w).expect("a line over 4100 bytes");
+    assert!(out[len..].iter().all(|b| *b == 0xee), "bytes after the line changed");
+    len
 }

@@ -2,6 +2,7 @@
 use crate::book::{Book, BUFFER_MAX};
 use crate::check::{shown, Group, Tally};
 use crate::compare::{number, rust, AllSlots};
+use crate::near;
 use crate::plain::{placed, refusal, Map, Refusal, Uuid};
 use crate::port;
 
@@ -26,12 +27,12 @@ impl Sides {
         }
     }
 
-    fn input(&self) -> String {
+    pub fn input(&self) -> String {
         self.history.clone()
     }
 
     /// Whether the lengths are those of a store.
-    fn sized(&self) -> bool {
+    pub fn sized(&self) -> bool {
         self.book.index <= BUFFER_MAX && self.book.text <= BUFFER_MAX
     }
 
@@ -120,6 +121,7 @@ impl Sides {
                 format!("{}; look-up {id:02x?}", self.input())
             });
         }
+        near::compare(t, self);
         let size = self.db.as_ref().map(|d| d.len());
         t.case(Group::LookUp, 0, size.as_ref(), &self.book.lines.len(), &self.book.lines.len(), &|| {
             format!("{}: lines held", self.input())
@@ -140,6 +142,8 @@ impl Sides {
         let input = || format!("index {:02x?}, text {}", before.index, shown(&before.text));
         let here = self.store.look_up([0; 16]);
         t.case(Group::LookUp, 19, None, &Err(refusal(19)), &here, &input);
+        let here = near::look_near(&self.store, [0; 16]);
+        t.case(Group::Near, 19, None, &Err(refusal(19)), &here, &input);
         let here = self.store.insert(lines);
         t.case(Group::Insert, 19, None, &(Some(refusal(19)), 0), &here, &input);
         // save makes build's checks and 22 first

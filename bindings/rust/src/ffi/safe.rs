@@ -31,6 +31,10 @@ pub fn uuid_parse_str(s: &[u8]) -> UuidParse {
     unsafe { raspteal_uuid_parse_str(s.as_ptr(), s.len()) }
 }
 
+pub fn uuid_without_checksum(id: Uuid) -> Uuid {
+    unsafe { raspteal_uuid_without_checksum(id) }
+}
+
 pub fn uuid_write_simple(id: Uuid, out: &mut [u8], at: usize) -> Written {
     unsafe { raspteal_uuid_write_simple(id, out.as_mut_ptr(), out.len(), at) }
 }
@@ -257,6 +261,15 @@ pub fn store_found(index: &[u8], text: &[u8], id: Uuid) -> Look {
 pub fn store_get(index: &[u8], text: &[u8], id: Uuid, out: &mut [u8]) -> Written {
     let (o, o_len) = (out.as_mut_ptr(), out.len());
     unsafe { raspteal_store_get(index.as_ptr(), index.len(), text.as_ptr(), text.len(), id, o, o_len) }
+}
+
+pub fn store_found_near(index: &[u8], text: &[u8], id: Uuid) -> NearLook {
+    unsafe { raspteal_store_found_near(index.as_ptr(), index.len(), text.as_ptr(), text.len(), id) }
+}
+
+pub fn store_get_near(index: &[u8], text: &[u8], id: Uuid, out: &mut [u8]) -> Written {
+    let (o, o_len) = (out.as_mut_ptr(), out.len());
+    unsafe { raspteal_store_get_near(index.as_ptr(), index.len(), text.as_ptr(), text.len(), id, o, o_len) }
 }
 
 pub fn entry_value(e: Entry, raw: u8, v: i16) -> Value {

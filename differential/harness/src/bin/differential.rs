@@ -120,6 +120,9 @@ fn one_store(t: &mut Tally, r: &mut Rng) {
                 let slots = some_slots(t, r, &b, &a);
                 let mut id = [0; 16];
                 id[15] = r.below(6) as u8;
+                if r.one_in(3) {
+                    id[2..4].copy_from_slice(&r.pick(&[[0, 1], [1, 0], [0xff, 0xff]]));
+                }
                 s.save(t, &slots, &b, &a, &gen::name(r), id);
             }
         }

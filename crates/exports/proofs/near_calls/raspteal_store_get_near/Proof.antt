@@ -1,0 +1,46 @@
+-- The contract of the call, and that of the layout, give the result.
+-- Assumes nothing.
+use borrow.Author.Needs.{needs}
+use Rattle.exports.proofs.near_calls.raspteal_store_get_near.Statement.{statement}
+use Rattle.exports.proofs.near_calls.raspteal_store_get_near.Tie as tie
+
+uuid-of-requires : tie.Need-uuid-of-requires
+uuid-of-requires c κs = search needs
+
+get-near-requires : tie.Need-get-near-requires
+get-near-requires c κs = search needs
+
+write-bytes-requires : tie.Need-write-bytes-requires
+write-bytes-requires c κs = search needs
+
+flat-written-requires : tie.Need-flat-written-requires
+flat-written-requires c κs = search needs
+
+same-length : tie.Need-same-length
+same-length c = search needs
+
+returns : tie.Need-returns
+returns c = (
+  simp (
+    c .flat-written .ensures,
+    c .before .before .before .write-bytes .ensures .0,
+    c .before .before .before .before .before .get-near .ensures,
+    c .before .before .before .before .before .before .uuid-of .ensures,
+  ),
+  simp (
+    c .before .before .before .write-bytes .ensures .1,
+    c .before .before .before .before .before .get-near .ensures,
+    c .before .before .before .before .before .before .uuid-of .ensures,
+  ),
+)
+
+pub raspteal-store-get-near-spec : {M : Type 1} → statement M
+raspteal-store-get-near-spec =
+    tie.close
+    (tie.spec
+    uuid-of-requires
+    get-near-requires
+    write-bytes-requires
+    flat-written-requires
+    same-length
+    returns)

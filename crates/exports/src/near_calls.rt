@@ -1,0 +1,67 @@
+// The calls of the store that also try a UUID without its checksum.
+use crate::flat::FlatRefusal;
+use crate::flat::FlatUuid;
+use crate::flat::FlatWritten;
+use crate::flat::flat_no_refusal;
+use crate::flat::flat_refusal;
+use crate::flat::flat_written;
+use crate::flat::uuid_of;
+use store::near::NearLook;
+use text::bytes::write_bytes;
+ghost use mathlib.Core.Path.{_≡_};
+ghost use Rattle.text.specs.Bytes.{writeAnswer, writeBuffer};
+ghost use Rattle.store.specs.Near.{nearUp, nearSays, nearLine};
+ghost use Rattle.exports.specs.Flat.{uuidIn, flatWritten};
+ghost use Rattle.exports.specs.FlatNear.{flatNearLook};
+
+// What is held, or 19: 0 nothing, 1 a line under the whole UUID, 2 one under that without its checksum alone.
+#[repr(C)]
+pub struct FlatNearLook {
+    pub refusal: FlatRefusal,
+    pub how: u8,
+}
+
+fn flat_near_look(l: NearLook) -> FlatNearLook
+    ensures { λ r. ⌜ r ≡ flatNearLook l ⌝ }
+{
+    match l {
+        NearLook::Exact => FlatNearLook {
+            refusal: flat_no_refusal(),
+            how: 1,
+        },
+        NearLook::Near => FlatNearLook {
+            refusal: flat_no_refusal(),
+            how: 2,
+        },
+        NearLook::Missing => FlatNearLook {
+            refusal: flat_no_refusal(),
+            how: 0,
+        },
+        NearLook::Unsound => FlatNearLook {
+            refusal: flat_refusal(19),
+            how: 0,
+        },
+    }
+}
+
+#[no_mangle]
+pub extern "C" fn raspteal_store_found_near(index: &[u8], text: &[u8], id: FlatUuid) -> FlatNearLook
+    ensures { λ r. ⌜ r ≡ flatNearLook (nearSays (nearUp (uuidIn id) (now (index .entry)) (now (text .entry)))) ⌝ }
+{
+    flat_near_look(store::near::found_near(index, text, uuid_of(id)))
+}
+
+// A reference can't be returned to C: the line is copied to the start of `out`.
+#[no_mangle]
+pub extern "C" fn raspteal_store_get_near(
+    index: &[u8],
+    text: &[u8],
+    id: FlatUuid,
+    out: &mut [u8],
+) -> FlatWritten
+    ensures { λ r. ⌜ r ≡ flatWritten (writeAnswer (now (out .entry)) 0 (nearLine (nearUp (uuidIn id) (now (index .entry)) (now (text .entry))))) ⌝ }
+    ensures { λ _. ⌜ now (out .exit) ≡ writeBuffer (now (out .entry)) 0 (nearLine (nearUp (uuidIn id) (now (index .entry)) (now (text .entry)))) ⌝ }
+{
+    let line = store::near::get_near(index, text, uuid_of(id));
+    flat_written(write_bytes(out, 0, line))
+}

@@ -1,0 +1,44 @@
+-- The lines of a sound store are written down, and both tries are made among them.
+use mathlib.Core.Path.{sym, _∙_}
+use mathlib.Core.List.{[]}
+use borrow.Author.Needs.{needs}
+use borrow.Author.Tests.{not-true, not-false}
+use Rattle.store.specs.Decode.{decode}
+use Rattle.store.proofs.BatchLaws.{empty-long}
+use Rattle.store.proofs.ChainLaws.{chained-none}
+use Rattle.store.proofs.DecodeLaws.{lines-of}
+use Rattle.store.proofs.LookLaws.{look-ready}
+use Rattle.store.proofs.NearLaws.{near-unsound, near-sound}
+use Rattle.store.proofs.near.look_near.Statement.{statement}
+use Rattle.store.proofs.near.look_near.Tie as tie
+
+take-stock-requires : tie.Need-take-stock-requires
+take-stock-requires c κs = (chained-none _, empty-long)
+
+returns : tie.Need-returns
+returns c =
+    let args = c .before .before .before .before .before .before .before .before .before .before .before .args in
+    near-unsound (args .key) (args .index .now) (args .text .now)
+    (sym (c .before .before .take-stock .ensures .is) ∙ not-true _ (c .if1 .taken))
+
+try-both-requires : tie.Need-try-both-requires
+try-both-requires c κs =
+    let args = c .before .before .before .before .before .before .before .before .before .before .before .before .before .before .before .before .before .before .args in
+    let stock = c .before .before .before .before .before .before .before .before .before .take-stock in
+    let e = not-false _ (c .before .before .before .before .before .before .before .if1 .left) in
+    let l = stock .ensures .loads e in
+    (l .1, look-ready (args .index .now) (args .text .now) (sym (stock .ensures .is) ∙ e) _ _ _ (stock .result .fill) (l .0))
+
+returns-2 : tie.Need-returns-2
+returns-2 c =
+    let args = c .before .before .before .before .before .before .before .before .before .before .before .before .before .before .before .before .before .before .before .args in
+    let stock = c .before .before .before .before .before .before .before .before .before .before .take-stock in
+    let both = c .try-both in
+    let e = not-false _ (c .before .before .before .before .before .before .before .before .if1 .left) in
+    let q = lines-of (decode (args .index .now) (args .text .now)) (sym (stock .ensures .is) ∙ e) in
+    near-sound (args .key) (args .index .now) (args .text .now) (q .0) (q .1) (both .result)
+    (both .ensures (args .index .now) (args .text .now) (q .0)
+    (stock .ensures .loads e .0 (args .text .now) [] (q .0) (q .1)))
+
+pub look-near-spec : {M : Type 1} → statement M
+look-near-spec = tie.close (tie.spec take-stock-requires returns try-both-requires returns-2)

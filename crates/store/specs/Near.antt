@@ -1,0 +1,87 @@
+-- A look-up that also takes a UUID without its checksum (document 02, P5). What is claimed of it is proved as
+-- `beside-look-up`, `never-near` and `near-after` in ../proofs/NearLaws.antt.
+-- Public contracts rest on these definitions; they assume nothing.
+use mathlib.Core.Path.{_≡_}
+use mathlib.Core.Option.{Option, none, some}
+use mathlib.Core.List.{List, []}
+use Prim.Native.Nat.{ℕ}
+use Rattle.text.specs.Uuid.{withoutChecksum}
+use Rattle.store.specs.declared.near.NearLook.{NearLook}
+use Rattle.store.specs.declared.near.NearLook.the-variants as N
+use Rattle.store.specs.Held.{Key, Held, find}
+use Rattle.store.specs.Decode.{decode}
+use Rattle.store.specs.Store.{Looked, found, nothing, unsound, lookUp}
+use Rattle.store.specs.Filings.{lineFiled}
+use Rattle.store.specs.Guarantee.{Calls, stored, lastOf}
+
+-- "The result says exact, near, none or 19, with the line"
+pub data Nearby : Type 0 where
+  exact : List ℕ → Nearby
+  near : List ℕ → Nearby
+  neither : Nearby
+  damaged : Nearby
+
+-- "tries the whole UUID, then the same UUID with those two bytes zero"; "It is near exactly when only the second is
+-- held."
+abbrev pub nearIn : Option (List ℕ) → Option (List ℕ) → Nearby
+nearIn (some l) second = exact l
+nearIn none (some l) = near l
+nearIn none none = neither
+
+abbrev pub nearAt : Key → Option (List Held) → Nearby
+nearAt k none = damaged
+nearAt k (some hs) = nearIn (find k hs) (find (withoutChecksum k) hs)
+
+-- what two buffers hold under a UUID, or under it without its checksum; 19 where they encode no list of lines
+unfoldable pub nearUp : Key → List ℕ → List ℕ → Nearby
+nearUp k i t = nearAt k (decode i t)
+
+-- "exact, near, none or 19"
+abbrev pub nearSays : Nearby → NearLook
+nearSays (exact l) = N.Exact
+nearSays (near l) = N.Near
+nearSays neither = N.Missing
+nearSays damaged = N.Unsound
+
+-- "with the line, empty for the last two"
+abbrev pub nearLine : Nearby → List ℕ
+nearLine (exact l) = l
+nearLine (near l) = l
+nearLine neither = []
+nearLine damaged = []
+
+-- document 01's number of each answer, 0 where nothing is refused
+abbrev pub nearNumber : NearLook → ℕ
+nearNumber N.Exact = 0
+nearNumber N.Near = 0
+nearNumber N.Missing = 0
+nearNumber N.Unsound = 19
+
+-- ---- theorems
+
+-- a fact exactly when another
+abbrev pub Exactly : Type 0 → Type 0 → Type 0
+Exactly A B = (A → B) × (B → A)
+
+-- the theorem `beside-look-up`: the answer beside those of the old look-up for the whole UUID and for the second
+pub record Beside (answer : Nearby) (whole second : Looked) : Type 0 where
+  -- "The old look-up remains, and an exact find is the same line as there."
+  pub exact-found : (l : List ℕ) → Exactly (answer ≡ exact l) (whole ≡ found l)
+  -- "It is near exactly when only the second is held."
+  pub near-only : (l : List ℕ) → Exactly (answer ≡ near l) ((whole ≡ nothing) × (second ≡ found l))
+  pub neither-held : Exactly (answer ≡ neither) ((whole ≡ nothing) × (second ≡ nothing))
+  pub not-sound : Exactly (answer ≡ damaged) (whole ≡ unsound)
+
+abbrev pub BesideLookUp : Type 0
+BesideLookUp = (k : Key) (i t : List ℕ) → Beside (nearUp k i t) (lookUp k i t) (lookUp (withoutChecksum k) i t)
+
+-- the theorem `never-near`: a UUID without a checksum is held itself, or not at all
+abbrev pub NeverNear : Type 0
+NeverNear = (k : Key) (i t l : List ℕ) → withoutChecksum k ≡ k → nearUp k i t ≡ near l → ⊥
+
+-- the theorem `near-after`: after a list of calls on a fresh store of n and m bytes, what counts is the line last filed
+-- under the whole UUID, and that last filed under the second
+abbrev pub NearAfter : ℕ → ℕ → Calls → Type 0
+NearAfter n m xs =
+    (k : Key) → nearUp k (stored n m xs .index) (stored n m xs .text)
+    ≡ nearIn (lineFiled (lastOf n m xs k)) (lineFiled (lastOf n m xs (withoutChecksum k)))

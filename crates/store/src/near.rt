@@ -1,0 +1,127 @@
+// A look-up that also tries a UUID without its checksum (document 02, P5). Both tries go by one walk over the store.
+use crate::chains::SLOTS;
+use crate::look::part_of;
+use crate::slots::Fill;
+use crate::soundness::take_stock;
+use text::uuid::Uuid;
+ghost use mathlib.Core.Path.{_≡_};
+ghost use Prim.Native.Nat.{_<_};
+ghost use Rattle.store.specs.Keys.{slots};
+ghost use Rattle.store.specs.Near.{nearUp, nearSays, nearLine};
+ghost use Rattle.store.specs.Sights.{Ready, NearSees, Tries};
+
+// What such a look-up says: a line is held under the whole UUID, one under that without its checksum alone, none is,
+// or the store is not sound.
+pub enum NearLook {
+    Exact,
+    Near,
+    Missing,
+    Unsound,
+}
+
+// What a look-up says, and where in the text the line lies; length 0 where there is none.
+struct NearSeen {
+    how: NearLook,
+    start: usize,
+    len: usize,
+}
+
+// Tries the whole UUID, then the same without its checksum, among the lines that are written down.
+fn try_both(
+    highs: &mut [u64; SLOTS],
+    lows: &mut [u64; SLOTS],
+    starts: &[usize; SLOTS],
+    lens: &[usize; SLOTS],
+    heads: &[u16; SLOTS],
+    next: &[u16; SLOTS],
+    fill: Fill,
+    key: Uuid,
+) -> NearSeen
+    requires { ⌜ fill .count < slots ⌝ }
+    requires { ⌜ Ready (now highs) (now lows) (now heads) (now next) (fill .count) ⌝ }
+    ensures { λ r. ⌜
+        Tries (now (highs .entry)) (now (lows .entry)) (now (starts .entry)) (now (lens .entry)) (now (heads .entry))
+        (now (next .entry)) fill key r ⌝ }
+{
+    let plain = key.without_checksum();
+    let whole = part_of(highs, lows, starts, lens, heads, next, fill, key);
+    if 0 < whole.len {
+        return NearSeen {
+            how: NearLook::Exact,
+            start: whole.start,
+            len: whole.len,
+        };
+    }
+    let second = part_of(highs, lows, starts, lens, heads, next, fill, plain);
+    if 0 < second.len {
+        return NearSeen {
+            how: NearLook::Near,
+            start: second.start,
+            len: second.len,
+        };
+    }
+    NearSeen {
+        how: NearLook::Missing,
+        start: 0,
+        len: 0,
+    }
+}
+
+// Writes the lines of the store down, and tries both.
+fn look_near(index: &[u8], text: &[u8], key: Uuid) -> NearSeen
+    ensures { λ r. ⌜ NearSees (now (text .entry)) (nearUp key (now (index .entry)) (now (text .entry))) r ⌝ }
+{
+    let mut highs = [0u64; SLOTS];
+    let mut lows = [0u64; SLOTS];
+    let mut starts = [0usize; SLOTS];
+    let mut lens = [0usize; SLOTS];
+    let mut heads = [0u16; SLOTS];
+    let mut next = [0u16; SLOTS];
+    let stock = take_stock(
+        index,
+        text,
+        &mut highs,
+        &mut lows,
+        &mut starts,
+        &mut lens,
+        &mut heads,
+        &mut next,
+    );
+    if !stock.sound {
+        return NearSeen {
+            how: NearLook::Unsound,
+            start: 0,
+            len: 0,
+        };
+    }
+    let fill = stock.fill;
+    try_both(
+        &mut highs,
+        &mut lows,
+        &starts,
+        &lens,
+        &heads,
+        &next,
+        fill,
+        key,
+    )
+}
+
+// Whether a line is held under that UUID, or only under the same without its checksum.
+pub fn found_near(index: &[u8], text: &[u8], uuid: Uuid) -> NearLook
+    ensures { λ r. ⌜ r ≡ nearSays (nearUp uuid (now (index .entry)) (now (text .entry))) ⌝ }
+{
+    let seen = look_near(index, text, uuid);
+    seen.how
+}
+
+// The line that such a look-up finds, as a part of the text; an empty part where it finds none, or the store is not
+// sound.
+pub fn get_near<'a>(index: &[u8], text: &'a [u8], uuid: Uuid) -> &'a [u8]
+    ensures { λ r. ⌜ now r ≡ nearLine (nearUp uuid (now (index .entry)) (now (text .entry))) ⌝ }
+{
+    let seen = look_near(index, text, uuid);
+    let offset = seen.start;
+    let length = seen.len;
+    &text[offset..offset + length]
+}
