@@ -16,8 +16,8 @@ static const uint32_t axes[] = {0x30000, 0x30001};
 #define BUTTONS buttons, sizeof buttons / sizeof buttons[0]
 #define AXES axes, sizeof axes / sizeof axes[0]
 
-/* A store for 100 lines. Keep the two buffers between runs, e.g. in a file; fresh ones are all 0. */
-static uint8_t index_[100 * 21], text[RASPTEAL_BUFFER_MAX];
+/* The largest store. Keep the two buffers between runs, e.g. in a file; fresh ones are all 0. */
+static uint8_t index_[RASPTEAL_BUFFER_MAX], text[RASPTEAL_BUFFER_MAX];
 #define STORE index_, sizeof index_, text, sizeof text
 
 enum { SOUTH = 1, EAST = 2 };
@@ -30,14 +30,36 @@ static void accept(raspteal_refusal r, const char *what) {
     }
 }
 
+/* An element by the name that lines have for it; some have none. */
 static void show(raspteal_mapping map, uint32_t code) {
-    static const char *const button_names[] = {"Unknown", "South", "East", "C", "North", "West"};
-    static const char *const axis_names[] = {"Unknown", "LeftStickX", "LeftStickY"};
     raspteal_mapped m = raspteal_mapping_map(map, code);
+    raspteal_ident ident = raspteal_ident_of(m.element);
     if (!m.found)
         printf("  code %" PRIx32 " is not mapped\n", code);
+    else if (ident.len == 0)
+        printf("  code %" PRIx32 " is %s %d\n", code, m.element.is_axis ? "axis" : "button", m.element.number);
     else
-        printf("  code %" PRIx32 " is %s\n", code, (m.element.is_axis ? axis_names : button_names)[m.element.number]);
+        printf("  code %" PRIx32 " is %.*s\n", code, (int)ident.len, (const char *)ident.name);
+}
+
+/* Binds a button to a code, and empties every other slot of that code: of two elements with one code, one would be lost
+ * when the line is read. */
+static raspteal_data bind(raspteal_data data, uint32_t code, uint16_t button) {
+    for (uint16_t k = 0; k < RASPTEAL_BUTTONS; k++)
+        if (raspteal_data_button(data, k).found && raspteal_data_button(data, k).code == code)
+            data = raspteal_data_remove_button(data, k).slots;
+    for (uint16_t k = 0; k < RASPTEAL_AXES; k++)
+        if (raspteal_data_axis(data, k).found && raspteal_data_axis(data, k).code == code)
+            data = raspteal_data_remove_axis(data, k).slots;
+    return raspteal_data_insert_btn(data, code, button).slots;
+}
+
+/* Whether a list has a code. */
+static bool listed(const uint32_t *list, size_t len, uint32_t code) {
+    for (size_t k = 0; k < len; k++)
+        if (list[k] == code)
+            return true;
+    return false;
 }
 
 static size_t load(const char *path, uint8_t *to, size_t room) {
@@ -65,8 +87,11 @@ int main(int argc, char **argv) {
         return 1;
     }
     raspteal_inserted i = raspteal_store_insert(STORE, list, load(argv[1], list, sizeof list));
-    accept(i.refusal, "insert");
     printf("%zu lines\n", i.count);
+    if (i.refusal.number == 21)
+        printf("refused 21: no room in the store; the lines before it are filed\n");
+    else
+        accept(i.refusal, "insert");
 
     /* A pad is plugged in: by its line, else by the usual meaning of its codes. */
     static const char guid[] = "03000000aabb00000100000011010000";
@@ -84,13 +109,13 @@ int main(int argc, char **argv) {
     raspteal_data bound = raspteal_data_new();
     for (size_t k = 0; k < a.map.count; k++) {
         raspteal_entry e = a.map.entries[k];
-        if (e.element.is_axis && (e.code == axes[0] || e.code == axes[1]))
+        if (e.element.is_axis && listed(AXES, e.code))
             bound = raspteal_data_insert_axis(bound, e.code, e.element.number).slots;
-        if (!e.element.is_axis && e.code >= buttons[0] && e.code <= buttons[4])
+        if (!e.element.is_axis && listed(BUTTONS, e.code))
             bound = raspteal_data_insert_btn(bound, e.code, e.element.number).slots;
     }
-    bound = raspteal_data_insert_btn(bound, 0x10130, SOUTH).slots;
-    bound = raspteal_data_insert_btn(bound, 0x10131, EAST).slots;
+    bound = bind(bound, 0x10130, SOUTH);
+    bound = bind(bound, 0x10131, EAST);
     raspteal_answer saved = raspteal_store_save(STORE, bound, BUTTONS, AXES, (const uint8_t *)"Seat 7", 6, pad);
     accept(saved.refusal, "save");
     len = line_of(pad, line);

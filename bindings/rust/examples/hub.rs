@@ -2,27 +2,56 @@
 //! pad's code lists, turn a code into an element, and save what staff have bound.
 //!
 //!     cargo run --example hub ../example/pads.txt
-use raspteal::{AxisOrBtn, Button, Code, Mapping, MappingData, Store, Uuid, RECORD_LEN};
+use raspteal::{Axis, AxisOrBtn, Button, Code, Error as Refusal, Mapping, MappingData, Store, Uuid, BUFFER_MAX};
 use std::error::Error;
 
 // What the pad's driver reports, in its order: a line's `b1` is the second button of this list.
 const BUTTONS: [Code; 5] = [Code(0x10130), Code(0x10131), Code(0x10132), Code(0x10133), Code(0x10134)];
 const AXES: [Code; 2] = [Code(0x30000), Code(0x30001)];
 
+/// An element by the name that lines have for it; some have none.
+fn name(element: AxisOrBtn) -> String {
+    element.ident().unwrap_or_else(|| match element {
+        AxisOrBtn::Btn(b) => format!("button {}", b.number()),
+        AxisOrBtn::Axis(a) => format!("axis {}", a.number()),
+    })
+}
+
 fn show(map: &Mapping, code: Code) {
     match map.map(code) {
-        Some(element) => println!("  code {code} is {element}"),
+        Some(element) => println!("  code {code} is {}", name(element)),
         None => println!("  code {code} is not mapped"),
     }
+}
+
+/// Binds a button to a code, and empties every other slot of that code: of two elements with one code, one would be lost
+/// when the line is read.
+fn bind(data: &mut MappingData, code: Code, button: Button) {
+    for b in Button::ALL {
+        if data.button(b) == Some(code) {
+            data.remove_button(b);
+        }
+    }
+    for a in Axis::ALL {
+        if data.axis(a) == Some(code) {
+            data.remove_axis(a);
+        }
+    }
+    data.insert_btn(code, button);
 }
 
 fn main() -> Result<(), Box<dyn Error>> {
     let path = std::env::args().nth(1).ok_or("usage: hub LIST")?;
 
-    // A store for 100 lines. Keep its two buffers between runs, e.g. in a file.
-    let mut store = Store::new(100 * RECORD_LEN, 65535);
-    let walked = store.insert(std::fs::read(path)?)?;
-    println!("{walked} lines");
+    // The largest store. Keep its two buffers between runs, e.g. in a file.
+    let mut store = Store::new(BUFFER_MAX, BUFFER_MAX);
+    match store.insert(std::fs::read(path)?) {
+        Ok(walked) => println!("{walked} lines"),
+        Err(stopped) if stopped.error == Refusal::NoRoom => {
+            println!("{} lines\n{}; the lines before it are filed", stopped.count, stopped.error)
+        }
+        Err(stopped) => return Err(stopped.into()),
+    }
 
     // A pad is plugged in: by its line, else by the usual meaning of its codes.
     let pad: Uuid = "03000000aabb00000100000011010000".parse()?;
@@ -44,8 +73,8 @@ fn main() -> Result<(), Box<dyn Error>> {
             _ => None,
         };
     }
-    bound.insert_btn(Code(0x10130), Button::South);
-    bound.insert_btn(Code(0x10131), Button::East);
+    bind(&mut bound, Code(0x10130), Button::South);
+    bind(&mut bound, Code(0x10131), Button::East);
     let saved = store.save(&bound, &BUTTONS, &AXES, "Seat 7", pad)?;
     println!("saved {}", String::from_utf8(store.get(pad)?.unwrap_or_default())?);
     show(&saved, Code(0x10131));
