@@ -108,7 +108,7 @@ pub fn is_of_kind(code: u32, kind: u32) -> bool {
 }
 
 // The code of a kind with that number.
-fn code_of(kind: u32, number: u16) -> u32 {
+pub fn code_of(kind: u32, number: u16) -> u32 {
     if kind == KEY {
         return KEY * KIND_UNIT + number as u32;
     }

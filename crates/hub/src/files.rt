@@ -44,7 +44,7 @@ pub enum Got {
 
 // Reads until the room is full or the file ends. Where less was read, one read more tells whether the file ends there:
 // else a read failed.
-fn read_all(fd: i32, space: &mut [u8]) -> Got {
+pub fn read_all(fd: i32, space: &mut [u8]) -> Got {
     let n = io::read_full(fd, space);
     if n == space.len() {
         return Got::Bytes(n);

@@ -23,6 +23,7 @@ pub fn help() -> u8 {
   hub save STORE UUID NAME ..    builds a mapping and files it
   hub find STORE UUID            prints the line held under a UUID
   hub show STORE UUID ..         reads that line, and prints its map
+  hub test STORE UUID ..         tells what the events of a recorded pad give by that line
   hub list STORE                 prints the lines held, and the room left
   hub check STORE                says whether the store is sound
   hub clear STORE                empties the store
@@ -71,6 +72,7 @@ insert
 save
 find
 show
+test
 list
 check
 clear

@@ -11,6 +11,7 @@ mod files;
 mod filing;
 mod help;
 mod holding;
+mod input_events;
 mod inserting;
 mod layout;
 mod lint;
@@ -23,6 +24,9 @@ mod shown;
 mod slots;
 mod suggest;
 mod table;
+mod telling;
+mod testing;
+mod values;
 mod words;
 
 use changing::Held;
@@ -103,6 +107,9 @@ fn run_looking(held: Held, command: &[u8], at: usize, given: usize, a: &[u8], b:
     }
     if is(command, b"show", given, 2, MANY) {
         return mappings::show_mapping(a, b, nth(at, 3));
+    }
+    if is(command, b"test", given, 2, MANY) {
+        return testing::test_mapping(a, b, nth(at, 3));
     }
     run_changing(held, command, at, given, a, b)
 }

@@ -122,6 +122,23 @@ fn put_save(fd: i32) {
     );
 }
 
+fn put_test(fd: i32) {
+    put(
+        fd,
+        b"hub test STORE UUID buttons=CODES axes=CODES from=FILE
+  Reads the line held under that UUID with the pad's codes, and tells what each event of a
+  recorded pad gives by it: the code with its raw value, the element and the element's value,
+  from -32768 to 32767, a button's from 0 on. FILE has Linux input events of 24 bytes each, as
+  'cat /dev/input/event5 > FILE' records them ('evtest' says which device is the pad).
+  Buttons (EV_KEY) and axes (EV_ABS) are told; other kinds are skipped and counted. There is no
+  event for a code that is not in the map, for a value that the line gives none (the half of an
+  axis that it leaves out) and for a button that is held and repeats. A value that no button or
+  axis has gives none either, and the status is then 1: a recording does not say which range a
+  pad's axes have, so nothing is scaled. 'hub help save' says how CODES are written.
+",
+    );
+}
+
 // The commands on mappings.
 pub fn put_mappings(fd: i32, command: &[u8]) -> bool {
     if same_bytes(command, b"save") {
@@ -138,6 +155,10 @@ pub fn put_mappings(fd: i32, command: &[u8]) -> bool {
   CODES are written, and where a pad's codes are to be found.
 ",
         );
+        return true;
+    }
+    if same_bytes(command, b"test") {
+        put_test(fd);
         return true;
     }
     if same_bytes(command, b"default") {

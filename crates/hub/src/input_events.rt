@@ -1,0 +1,117 @@
+// A stream of Linux input events, as a pad's device gives it: struct input_event of linux/input.h on a 64-bit machine,
+// 24 bytes a record. 16 bytes of time, which nobody looks at; then type (2 bytes), code (2) and value (4, signed), the
+// low byte first. What is done with an event stands elsewhere.
+use crate::codes::ABS;
+use crate::codes::KEY;
+use crate::codes::code_of;
+use crate::files::Got;
+use crate::files::read_all;
+use crate::values::AxisValue;
+use crate::values::axis_value;
+use line::ev::Code;
+use pad::events::Raw;
+
+const RECORD: usize = 24;
+
+// A record: type and code are numbers of linux/input-event-codes.h, the value is in two's complement.
+pub struct Input {
+    pub kind: u16,
+    pub number: u16,
+    pub value: u32,
+}
+
+// The next record, if there is a whole one: else the bytes that are left.
+pub enum NextInput {
+    Is(Input),
+    End,
+    Cut(usize),
+    Failed,
+}
+
+// What a pad reports of a code.
+pub struct RawEvent {
+    pub code: Code,
+    pub raw: Raw,
+}
+
+// What a record says: a raw event; a button that is held and repeats; a value that no button or axis has; or what is
+// neither a button's nor an axis's (EV_SYN, EV_MSC and others).
+pub enum Report {
+    Is(RawEvent),
+    Repeats(Code),
+    Beyond(Code),
+    Other,
+}
+
+// A number of two bytes.
+fn pair(low: u8, high: u8) -> u16 {
+    (high as u16) * 256 + low as u16
+}
+
+// A number of four.
+fn quad(low: u16, high: u16) -> u32 {
+    (high as u32) * 65536 + low as u32
+}
+
+fn input_in(r: &[u8; RECORD]) -> Input {
+    Input {
+        kind: pair(r[16], r[17]),
+        number: pair(r[18], r[19]),
+        value: quad(pair(r[20], r[21]), pair(r[22], r[23])),
+    }
+}
+
+// Reads one record.
+pub fn next_input(fd: i32) -> NextInput {
+    let mut record = [0u8; RECORD];
+    let got = read_all(fd, &mut record);
+    match got {
+        Got::Bytes(n) => {
+            if n == RECORD {
+                return NextInput::Is(input_in(&record));
+            }
+            if n == 0 {
+                return NextInput::End;
+            }
+            NextInput::Cut(n)
+        }
+        Got::Failed => NextInput::Failed,
+    }
+}
+
+// A button is released by 0 and pressed by 1, and repeats by 2.
+fn button_report(code: Code, value: u32) -> Report {
+    match value {
+        0 => Report::Is(RawEvent {
+            code,
+            raw: Raw::ButtonReleased,
+        }),
+        1 => Report::Is(RawEvent {
+            code,
+            raw: Raw::ButtonPressed,
+        }),
+        2 => Report::Repeats(code),
+        _ => Report::Beyond(code),
+    }
+}
+
+fn axis_report(code: Code, value: u32) -> Report {
+    let read = axis_value(value);
+    match read {
+        AxisValue::Is(v) => Report::Is(RawEvent {
+            code,
+            raw: Raw::AxisValueChanged(v),
+        }),
+        AxisValue::Beyond => Report::Beyond(code),
+    }
+}
+
+pub fn report_of(input: Input) -> Report {
+    if input.kind as u32 == KEY {
+        return button_report(Code(code_of(KEY, input.number)), input.value);
+    }
+    if input.kind as u32 == ABS {
+        return axis_report(Code(code_of(ABS, input.number)), input.value);
+    }
+    Report::Other
+}
