@@ -264,6 +264,22 @@ static void pads(void) {
     CHECK(t.found && !t.element.is_axis && t.element.number == 1 && t.value == 32767);
     t = raspteal_mapping_event(map, 6, 1, 0);
     CHECK(!t.found && !t.element.is_axis && t.element.number == 0 && t.value == 0);
+    /* the first entry of a code, in a map that is not ascending; a count over 256; elements that pads leave out */
+    map.count = 300;
+    map.entries[0] = raspteal_entry_new(9, (raspteal_element){true, 8});
+    map.entries[1] = raspteal_entry_new(3, (raspteal_element){false, 0});
+    map.entries[2] = raspteal_entry_new(9, (raspteal_element){false, 1});
+    map.entries[255] = raspteal_entry_new(2, (raspteal_element){true, 65535});
+    t = raspteal_mapping_event(map, 9, 2, -5);
+    CHECK(t.found && t.element.is_axis && t.element.number == 8 && t.value == -5);
+    t = raspteal_mapping_event(map, 3, 1, 0);
+    CHECK(t.found && !t.element.is_axis && t.element.number == 0 && t.value == 32767);
+    t = raspteal_mapping_event(map, 2, 0, 0);
+    CHECK(t.found && t.element.number == 65535 && t.value == 0);
+    t = raspteal_mapping_event(map, 0, 1, 0);
+    CHECK(t.found && !t.element.is_axis && t.element.number == 0 && t.value == 32767);
+    map.count = 0;
+    CHECK(!raspteal_mapping_event(map, 9, 1, 0).found);
 }
 
 int main(void) {

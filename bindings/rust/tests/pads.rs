@@ -79,7 +79,8 @@ fn ninety_values_at_the_edges() {
 
 #[test]
 fn raw_buttons_look_at_no_input_and_no_inversion() {
-    for (input, half, inverted) in HALVES.iter().flat_map(|i| HALVES.map(|h| (*i, h, h == *i))) {
+    let kinds = HALVES.into_iter().flat_map(|i| HALVES.into_iter().flat_map(move |h| [false, true].map(|t| (i, h, t))));
+    for (input, half, inverted) in kinds {
         let (button, axis) = (entry(Button::South, input, half, inverted), entry(Axis::LeftZ, input, half, inverted));
         assert_eq!(button.value(Raw::ButtonPressed), Some(32767));
         assert_eq!(axis.value(Raw::ButtonPressed), Some(if half == AxisRange::LowerHalf { -32768 } else { 32767 }));
