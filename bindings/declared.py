@@ -104,16 +104,37 @@ def limits():
         ]
 
 
+def named_numbers():
+    """Each button, axis and native code as the crates, the header and the Rust crate have its number. Rust has no names
+    for native codes."""
+    ev, nec = (Path(f"crates/line/src/{name}.rt").read_text() for name in ("ev", "ev/nec"))
+    header = Path("bindings/raspteal_numbers.h").read_text()
+    element = Path("bindings/rust/src/element.rs").read_text()
+
+    def shouted(name):
+        return re.sub(r"(?<=[a-z0-9])(?=[A-Z])", "_", name.replace("DPad", "Dpad")).upper()
+
+    for kind in ("Button", "Axis"):
+        ours = {shouted(name): int(n) for name, n in re.findall(rf"pub const (\w+): {kind} = {kind}\((\d+)\);", ev)}
+        theirs = {name: int(n) for name, n in re.findall(rf"RASPTEAL_{kind.upper()}_(\w+) = (\d+)\b", header)
+                  if name != "VALUE"}
+        listed = element.split(f"pub enum {kind} {{", 1)[1].split("}", 1)[0]
+        crate = {shouted(name): int(n) for name, n in re.findall(r"(\w+) = (\d+),", listed)}
+        yield kind, [ours, theirs, crate]
+    ours = {name: int(n, 16) for name, n in re.findall(r"pub const (\w+): Code = Code\((\w+)\);", nec)}
+    yield "Code", [ours, {name: int(n, 16) for name, n in re.findall(r"RASPTEAL_NEC_(\w+) = (0x\w+)", header)}]
+
+
 def words():
     """The words of each refusal as the hub, the header and the Rust crate have them, by number."""
     hub = re.search(r'b"\\n(.*?)"', Path("crates/hub/src/words.rt").read_text(), re.S)[1].split("\n")
-    listed = Path("bindings/raspteal.h").read_text().split("Refusals by number", 1)[1]
+    listed = Path("bindings/raspteal_numbers.h").read_text().split("raspteal_meaning(", 1)[1]
     crate = Path("bindings/rust/src/error.rs").read_text()
     numbers, meanings = (crate.split(f"pub fn {name}(", 1)[1].split("pub fn ", 1)[0] for name in ("number", "meaning"))
     meant = dict(re.findall(r'Error::(\w+).* => "(.*)",', meanings))
     sides = [
         {str(number): told for number, told in enumerate(hub, 1) if told},
-        dict(re.findall(r"^ \* {1,2}(\d+) (.+)$", listed, re.M)),
+        dict(re.findall(r'case ([1-9]\d*): return "(.+)";', listed)),
         {number: meant.get(name) for name, number in re.findall(r"Error::(\w+).* => (\d+),", numbers)},
     ]
     for number in sorted(set().union(*sides), key=int):
@@ -139,14 +160,17 @@ def main():
         check(None not in told and all(fields == told[0] for fields in told), f"{name}: {told}")
     for name, told in limits():
         check(told[0] == told[1] == told[2] and len(told[0]) == 1, f"{name}: exports, header, ffi.rs: {told}")
+    for kind, told in named_numbers():
+        check(told[0] and all(side == told[0] for side in told), f"numbers of {kind}: {told}")
     for number, told in words():
         check(told[0] is not None and len(set(told)) == 1, f"refusal {number}: hub, header, crate: {told}")
-    test = Path("bindings/c/test.c").read_text()
+    test, stack = (Path(f"bindings/c/{name}.c").read_text() for name in ("test", "stack"))
     safe = Path("bindings/rust/src/ffi/safe.rs").read_text()
     sources = [p for folder in ("src", "tests") for p in Path("bindings/rust", folder).glob("*.rs")]
     used = "\n".join(p.read_text() for p in sources)
     for name in sorted(calls):
         check(f"{name}(" in test, f"bindings/c/test.c does not call {name}")
+        check(f"X({name[9:]}, (" in stack, f"bindings/c/stack.c does not run {name}")
         check(f"{name}(" in safe, f"ffi/safe.rs does not call {name}")
         check(re.search(rf"\bsafe::{name[9:]}\(", used), f"the Rust crate does not use {name}")
     print(f"{passed} passed, {failed} failed")

@@ -10,10 +10,17 @@
  *   Structs go in and come back by value.
  *   A flag (`bool`) is false or true; no other value may stand in its byte.
  *
+ * Threads
+ *   A call touches only what it is lent, and keeps nothing when it returns: calls on unlike buffers may run at the same
+ *   time, and so may calls that only read the same ones (`const`). While a call writes to a buffer, no other call and
+ *   nobody else may read or write it. A call takes up to RASPTEAL_STACK bytes of the caller's stack; bindings/c/stack.c
+ *   runs every call on a thread that has no more.
+ *
  * What numbers mean
  *   A code is an event code of the pad, 32 bits (10130 hexadecimal is the first gamepad button of Linux).
  *   A button number is 0 to 19 and an axis number 0 to 8; 0 is unknown. An element is a button or an axis.
- *   A refusal number is one of 1 to 23, listed at the end of this file; 0 means that nothing was refused.
+ *   raspteal_numbers.h has them by name, and the native codes.
+ *   A refusal number is one of 1 to 23; 0 means that nothing was refused. raspteal_meaning says what it means.
  *   Where a struct has a flag beside a value (`found`, `valid`, `has_place`), the value is 0 while the flag is false.
  */
 #ifndef RASPTEAL_H
@@ -22,6 +29,8 @@
 #include <stdbool.h>
 #include <stddef.h>
 #include <stdint.h>
+
+#include "raspteal_numbers.h"
 
 #ifdef __cplusplus
 extern "C" {
@@ -37,6 +46,7 @@ extern "C" {
 #define RASPTEAL_IDENT_MAX 13     /* bytes of a key name */
 #define RASPTEAL_KEYS 512         /* key codes in the table of buttons */
 #define RASPTEAL_KEY_FIRST 0x10100 /* the first of them */
+#define RASPTEAL_STACK 262144     /* bytes of stack that a call takes at most */
 
 /* ---- What crosses ---------------------------------------------------------------------------------------------- */
 
@@ -411,8 +421,7 @@ raspteal_answer raspteal_default(const uint32_t *buttons, size_t buttons_len, co
 
 /* ---- The store: an index and a text, at most 65535 bytes each, all 0 when fresh -----------------------------------
  * Each line takes 21 bytes of the index and its own length of the text. Lend the same two buffers, of the same
- * lengths, to each call, and let nothing else write there. A call takes up to 256 KB of the caller's stack
- * (211 KB were measured): mind it in a thread with a small one. */
+ * lengths, to each call, and let nothing else write there. */
 
 /* Sets every byte of both buffers to 0. Refusal: 23, nothing changed. */
 raspteal_refusal raspteal_store_clear(uint8_t *index, size_t index_len, uint8_t *text, size_t text_len);
@@ -457,30 +466,7 @@ raspteal_value raspteal_entry_value(raspteal_entry e, uint8_t raw, int16_t v);
  * its map asks raspteal_entry_value of the entry itself, and hands over no map. */
 raspteal_emitted raspteal_mapping_event(raspteal_mapping map, uint32_t code, uint8_t raw, int16_t v);
 
-/* ---- Refusals by number -------------------------------------------------------------------------------------------
- *  1 the first field is no UUID
- *  2 no comma follows the UUID
- *  3 a pair has not exactly one colon
- *  4 a pair's value is none: aN, bN or hH.D with numbers up to 65535
- *  5 an axis value has an unknown key
- *  6 a button or hat value has an unknown key
- *  7 hat 0 has no such direction: 0, 1, 2, 4 or 8
- *  8 a pair's value is empty
- *  9 nothing follows a refused first field
- * 10 not UTF-8
- * 11 more than 256 codes in a map
- * 12 a list of more than 1024 codes
- * 13 the name has a comma
- * 14 the element is Unknown
- * 15 the code is not in its list
- * 16 no mapping line can name this axis
- * 17 the name has more than 2048 bytes
- * 18 the output is too short
- * 19 not a sound store
- * 20 a wanted line of more than 4096 bytes
- * 21 no room in the store
- * 22 the name has a line end or platform:
- * 23 a buffer of more than 65535 bytes
+/* ---- Refusals by number: raspteal_meaning in raspteal_numbers.h has their words ------------------------------------
  * Only the walker says 8 and 9, only clear 23; 19 is also said where a buffer has more than 65535 bytes; 15 carries its
  * code.
  * Places: 1, 2, 7 and 9 at 0; 3, 5, 6, 8 and 11 at the pair's start; 4 there or, for a hat, further on; 10 at the end

@@ -11,8 +11,9 @@
 #include "../raspteal.h"
 
 /* What the pad's driver reports, in its order: a line's `b1` is the second button of this list. */
-static const uint32_t buttons[] = {0x10130, 0x10131, 0x10132, 0x10133, 0x10134};
-static const uint32_t axes[] = {0x30000, 0x30001};
+static const uint32_t buttons[] = {RASPTEAL_NEC_BTN_SOUTH, RASPTEAL_NEC_BTN_EAST, RASPTEAL_NEC_BTN_C,
+                                   RASPTEAL_NEC_BTN_NORTH, RASPTEAL_NEC_BTN_WEST};
+static const uint32_t axes[] = {RASPTEAL_NEC_AXIS_LSTICKX, RASPTEAL_NEC_AXIS_LSTICKY};
 #define BUTTONS buttons, sizeof buttons / sizeof buttons[0]
 #define AXES axes, sizeof axes / sizeof axes[0]
 
@@ -20,12 +21,10 @@ static const uint32_t axes[] = {0x30000, 0x30001};
 static uint8_t index_[RASPTEAL_BUFFER_MAX], text[RASPTEAL_BUFFER_MAX];
 #define STORE index_, sizeof index_, text, sizeof text
 
-enum { SOUTH = 1, EAST = 2 };
-
 /* Ends the program where a call was refused. */
 static void accept(raspteal_refusal r, const char *what) {
     if (r.number != 0) {
-        fprintf(stderr, "%s: refused %d\n", what, r.number);
+        fprintf(stderr, "%s: refused %d: %s\n", what, r.number, raspteal_meaning(r.number));
         exit(1);
     }
 }
@@ -89,7 +88,7 @@ int main(int argc, char **argv) {
     raspteal_inserted i = raspteal_store_insert(STORE, list, load(argv[1], list, sizeof list));
     printf("%zu lines\n", i.count);
     if (i.refusal.number == 21)
-        printf("refused 21: no room in the store; the lines before it are filed\n");
+        printf("refused 21: %s; the lines before it are filed\n", raspteal_meaning(21));
     else
         accept(i.refusal, "insert");
 
@@ -114,8 +113,8 @@ int main(int argc, char **argv) {
         if (!e.element.is_axis && listed(BUTTONS, e.code))
             bound = raspteal_data_insert_btn(bound, e.code, e.element.number).slots;
     }
-    bound = bind(bound, 0x10130, SOUTH);
-    bound = bind(bound, 0x10131, EAST);
+    bound = bind(bound, RASPTEAL_NEC_BTN_SOUTH, RASPTEAL_BUTTON_SOUTH);
+    bound = bind(bound, RASPTEAL_NEC_BTN_EAST, RASPTEAL_BUTTON_EAST);
     raspteal_answer saved = raspteal_store_save(STORE, bound, BUTTONS, AXES, (const uint8_t *)"Seat 7", 6, pad);
     accept(saved.refusal, "save");
     len = line_of(pad, line);
@@ -131,7 +130,7 @@ int main(int argc, char **argv) {
 
     /* A name that may not be saved is refused, and the store stays as it was. */
     saved = raspteal_store_save(STORE, bound, BUTTONS, AXES, (const uint8_t *)"Seat 7, left", 12, pad);
-    if (saved.refusal.number == 13)
-        printf("refused 13: the name has a comma\n");
+    if (saved.refusal.number != 0)
+        printf("refused %d: %s\n", saved.refusal.number, raspteal_meaning(saved.refusal.number));
     return 0;
 }

@@ -58,6 +58,17 @@ static void layout(void) {
     CHECK(offsetof(raspteal_look, found) == 24);
 }
 
+/* The names of numbers against the calls, and the words of refusals. */
+static void numbers(void) {
+    CHECK(raspteal_button_to_nec(RASPTEAL_BUTTON_SOUTH).code == RASPTEAL_NEC_BTN_SOUTH);
+    CHECK(raspteal_button_to_nec(RASPTEAL_BUTTON_DPAD_RIGHT).code == RASPTEAL_NEC_BTN_DPAD_RIGHT);
+    CHECK(raspteal_axis_second_axis(RASPTEAL_AXIS_DPAD_X).number == RASPTEAL_AXIS_DPAD_Y);
+    CHECK(raspteal_find_element(TEXT("leftx")).element.number == RASPTEAL_AXIS_LEFT_STICK_X);
+    CHECK(raspteal_entry_new(5, (raspteal_element){true, 1}).input == RASPTEAL_FULL);
+    CHECK(strcmp(raspteal_meaning(0), "not refused") == 0 && strcmp(raspteal_meaning(13), "the name has a comma") == 0);
+    CHECK(strcmp(raspteal_meaning(255), "no refusal has this number") == 0);
+}
+
 static void text(void) {
     uint8_t out[40];
     memset(out, '.', sizeof out);
@@ -284,6 +295,7 @@ static void pads(void) {
 
 int main(void) {
     layout();
+    numbers();
     text();
     elements();
     lines();
