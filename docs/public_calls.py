@@ -23,6 +23,9 @@ CROSSES_AS = {
 # Calls whose C function has another name.
 NAMED = {"event": "raspteal_mapping_event"}
 
+# The definitions that give an answer its number.
+REFUSING = re.compile(r"^(kindNumber|putOutcome|readingRefusal|mappingRefusal|number|lookNumber|saveNumber) :")
+
 # A promise of an answer and a buffer at once; a C function says the two apart.
 PARTS = {"Wrote": ["writeAnswer", "writeBuffer"], "Builds": ["buildOf", "outputOf"]}
 
@@ -36,6 +39,19 @@ How to read an entry:
 - **Promise** is the contract, as the checker has proved it for every input; no call asks anything of its arguments. `result` is what the call hands back. An argument's name stands for its value at the call, and with a prime (`out'`) for what a lent buffer holds when the call returns. `f x y` is the definition `f`, given x and y; `x .part` is a part of x.
 - Below it stand the definitions that the promise cites, each with the words above it and the file that has it. A word in quotation marks is document 01's, document 02's or the RFC's.
 - **In C** is the function of `bindings/raspteal.h` that makes the call.
+- A type that is no number, flag or slice stands in the list at the end of the page, under [Types](#types). What a refusal's number means, and which answer says it, stands before that, under [Refusals](#refusals).
+"""
+
+REFUSALS = """## Refusals
+
+Document 01's number of each refusal, its words in the header, and the answers of the layers that say it; the definitions that give each answer its number, place and code are `kindNumber`, `putOutcome`, `readingRefusal` (`crates/line/specs/Refusals.antt`), `mappingRefusal` (`crates/map/specs/Refusals.antt`), `number`, `lookNumber` (`crates/store/specs/Answers.antt`) and `saveNumber` (`crates/store/specs/Saves.antt`).
+
+| No. | Means | Answers that say it |
+|---|---|---|"""
+
+TYPES_HEAD = """## Types
+
+What the calls take and hand back, as the sources declare it. A variant of an enum or a field of a struct is told with its own type; `Code(u32)` is a struct with one field that has no name.
 """
 
 
@@ -216,7 +232,51 @@ def page(layers):
             out += [f"### {layer}::{'::'.join(path)}", "", words(head_of(source)), ""]
             for call in calls:
                 out += entry(call, imports_of(source, layer))
+    out += [REFUSALS, *refusals(), "", TYPES_HEAD, *types(layers)]
     return "\n".join(out).rstrip() + "\n"
+
+
+def refusals():
+    """A row for each refusal: number, words, and the variants that the specs give that number."""
+    said = {}
+    for layer, path in [(layer, p) for layer in LAYERS for p in sorted(Path("crates", layer, "specs").glob("*.antt"))]:
+        text = path.read_text()
+        enums = {m[2]: m[1] for m in re.finditer(r"\.(\w+)\.the-variants as (\w+)$", text, re.M)}
+        told = r"^\w+ \(?(\w+)\.(\w+)[^=\n]*= (?:Refuses \()?(?:refusal(?:At)? |record \{ number = )?(\d+)\b"
+        for m in re.finditer(told, text, re.M):
+            if m[1] in enums and m[3] != "0" and REFUSING.search(text[: m.start()].split("\nabbrev pub ")[-1]):
+                variant = f"`{layer}::{enums[m[1]]}::{m[2]}`"
+                said.setdefault(int(m[3]), []).append(variant)
+    header = Path("bindings/raspteal_numbers.h").read_text()
+    for number, means in re.findall(r'case ([1-9]\d*): return "(.+)";', header):
+        yield f"| {number} | {means} | {', '.join(dict.fromkeys(said.get(int(number), [])))} |"
+
+
+def declared(source):
+    """(name, declaration in one line, words above it) of each public type of a source."""
+    lines = lines_of(source)
+    for i, line in enumerate(lines):
+        head = re.match(r"pub (?:struct|enum) (\w+)", line)
+        if head:
+            rest = lines[i : i + 1] if line.rstrip().endswith(";") else lines[i : lines.index("}", i) + 1]
+            bare = " ".join(re.sub(r"//.*", "", one).replace("pub ", "").strip() for one in rest)
+            bare = re.sub(r",\s*([}\)])", r" \1", re.sub(r"\s+", " ", bare)).strip().rstrip(";")
+            yield head[1], bare, words(comment_above(lines, i, "//"))
+
+
+def types(layers):
+    """A line for each type that the calls take and hand back, or that stands in one of these."""
+    found = [(f"{layer}::{'::'.join(path)}", *one)
+             for layer, modules in layers for path, source, _ in modules for one in declared(source)]
+    told = set()
+    more = {word for _, modules in layers for _, _, calls in modules for call in calls
+            for word in re.findall(r"\w+", call.signature) + [call.owner]}
+    while more - told:
+        told |= more
+        more = {word for _, name, bare, _ in found if name in told for word in re.findall(r"\w+", bare)}
+    for place, name, bare, about in found:
+        if name in told:
+            yield f"- `{bare}`, in {place}" + (f": {about}" if about else "")
 
 
 def exported():
@@ -270,6 +330,10 @@ def main():
                 passed, failed = passed + (not wrong), failed + bool(wrong)
                 for what in wrong:
                     print(f"{call.place}: {call.title} {what}")
+    for row in refusals():
+        passed, failed = passed + (not row.endswith("|  |")), failed + row.endswith("|  |")
+        if row.endswith("|  |"):
+            print(f"no definition gives an answer this number: {row}")
     if PAGE.exists() and PAGE.read_text() == text:
         passed += 1
     else:
