@@ -1,4 +1,5 @@
 """The three declarations of the C functions, compared: see bindings/declared. A type is told as C tells it."""
+import ctypes
 import re
 import sys
 from pathlib import Path
@@ -6,6 +7,9 @@ from pathlib import Path
 NUMBERS = {"u8": "uint8_t", "u16": "uint16_t", "u32": "uint32_t", "u64": "uint64_t", "i16": "int16_t", "usize": "size_t", "bool": "bool"}
 LIMITS = ["CODES_MAX", "LIST_MAX", "NAME_MAX", "LINE_MAX", "BUFFER_MAX", "BUTTONS", "AXES", "IDENT_MAX",
           "KEYS"]
+
+# Numbers of ctypes; size_t and uint64_t are the same one.
+PLAIN = {ctypes.c_uint8: "uint8_t", ctypes.c_uint16: "uint16_t", ctypes.c_uint32: "uint32_t", ctypes.c_int16: "int16_t"}
 
 # Structs whose C name is not their own: a map with a refusal is one struct in C.
 RATTLE = {name: "answer" for name in ("FlatPut", "FlatReading", "FlatDefault", "FlatSaved")}
@@ -91,6 +95,35 @@ def c_header():
     return structs, calls
 
 
+def python():
+    """The structs, calls, limits and words of the Python module, without the names of arguments. Its text up to the
+    place where it loads the library is read."""
+    names = {}
+    exec(Path("bindings/python/raspteal.py").read_text().split("\ndef library():", 1)[0], names)
+    sizes = {f"[{names[n]}]": f"[{n}]" for n in ("CODES_MAX", "BUTTONS", "AXES")} | {"[13]": "[IDENT_MAX]"}
+
+    def kind(c):
+        if hasattr(c, "_length_"):
+            return kind(c._type_) + sizes[f"[{c._length_}]"]
+        if hasattr(c, "contents"):
+            return kind(c._type_) + " *"
+        if issubclass(c, ctypes.Structure):
+            return "raspteal_" + c.__name__
+        return {"c_ulong": "uint64_t", "c_bool": "bool"}.get(c.__name__) or PLAIN[c]
+
+    shapes = [c for c in names.values() if isinstance(c, type) and issubclass(c, ctypes.Structure)]
+    structs = {"raspteal_" + c.__name__: [(name, kind(t)) for name, t in c._fields_] for c in shapes}
+    calls = {"raspteal_" + name: ([kind(a) for a in arguments], kind(result))
+             for name, (result, arguments) in names["CALLS"].items()}
+    limits = {name: {str(names[name])} for name in LIMITS if name in names}
+    return structs, calls, limits, {str(number): told for number, told in names["MEANINGS"].items()}
+
+
+def wide(kind):
+    """A type as Python tells it: size_t and uint64_t are one there, and it knows no const."""
+    return kind.replace("const ", "").replace("size_t", "uint64_t")
+
+
 def limits():
     """Each limit as the crates, the header and the Rust crate have it."""
     sources = [p for layer in ("line", "map", "store") for p in Path(f"crates/{layer}/src").rglob("*.rt")]
@@ -126,7 +159,7 @@ def named_numbers():
 
 
 def words():
-    """The words of each refusal as the hub, the header and the Rust crate have them, by number."""
+    """The words of each refusal as the hub, the header, the Rust crate and the Python module have them, by number."""
     hub = re.search(r'b"\\n(.*?)"', Path("crates/hub/src/words.rt").read_text(), re.S)[1].split("\n")
     listed = Path("bindings/raspteal_numbers.h").read_text().split("raspteal_meaning(", 1)[1]
     crate = Path("bindings/rust/src/error.rs").read_text()
@@ -136,6 +169,7 @@ def words():
         {str(number): told for number, told in enumerate(hub, 1) if told},
         dict(re.findall(r'case ([1-9]\d*): return "(.+)";', listed)),
         {number: meant.get(name) for name, number in re.findall(r"Error::(\w+).* => (\d+),", numbers)},
+        python()[3],
     ]
     for number in sorted(set().union(*sides), key=int):
         yield number, [side.get(number) for side in sides]
@@ -163,7 +197,17 @@ def main():
     for kind, told in named_numbers():
         check(told[0] and all(side == told[0] for side in told), f"numbers of {kind}: {told}")
     for number, told in words():
-        check(told[0] is not None and len(set(told)) == 1, f"refusal {number}: hub, header, crate: {told}")
+        check(told[0] is not None and len(set(told)) == 1, f"refusal {number}: hub, header, crate, module: {told}")
+    shapes, asked, sizes, _ = python()
+    for name, fields in sorted(shapes.items()):
+        right = [(field, wide(kind)) for field, kind in (header.get(name) or [[]])[0]]
+        check(fields == right, f"{name}: Python {fields}, header {right}")
+    for name, told in sorted(asked.items()):
+        arguments, result = prototypes.get(name, ([], ""))
+        right = ([wide(kind) for _, kind in arguments], wide(result))
+        check(told == right, f"{name}: Python {told}, header {right}")
+    for name, told in limits():
+        check(sizes.get(name, told[1]) == told[1], f"{name}: Python {sizes.get(name)}, header {told[1]}")
     test, stack = (Path(f"bindings/c/{name}.c").read_text() for name in ("test", "stack"))
     safe = Path("bindings/rust/src/ffi/safe.rs").read_text()
     sources = [p for folder in ("src", "tests") for p in Path("bindings/rust", folder).glob("*.rs")]
