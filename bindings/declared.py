@@ -5,7 +5,7 @@ import sys
 from pathlib import Path
 
 NUMBERS = {"u8": "uint8_t", "u16": "uint16_t", "u32": "uint32_t", "u64": "uint64_t", "i16": "int16_t", "usize": "size_t", "bool": "bool"}
-LIMITS = ["CODES_MAX", "LIST_MAX", "NAME_MAX", "LINE_MAX", "BUFFER_MAX", "BUTTONS", "AXES", "IDENT_MAX",
+LIMITS = ["CODES_MAX", "LIST_MAX", "NAME_MAX", "LINE_MAX", "INDEX_MAX", "TEXT_MAX", "BUTTONS", "AXES", "IDENT_MAX",
           "KEYS"]
 
 # Numbers of ctypes; size_t and uint64_t are the same one.

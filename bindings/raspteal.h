@@ -40,7 +40,8 @@ extern "C" {
 #define RASPTEAL_LIST_MAX 1024    /* codes in a list of buttons or axes */
 #define RASPTEAL_NAME_MAX 2048    /* bytes of a name */
 #define RASPTEAL_LINE_MAX 4096    /* bytes of a stored line */
-#define RASPTEAL_BUFFER_MAX 65535 /* bytes of an index or a text */
+#define RASPTEAL_INDEX_MAX 65535  /* bytes of an index */
+#define RASPTEAL_TEXT_MAX 65535   /* bytes of a text */
 #define RASPTEAL_BUTTONS 20       /* slots for buttons */
 #define RASPTEAL_AXES 9           /* slots for axes */
 #define RASPTEAL_IDENT_MAX 13     /* bytes of a key name */

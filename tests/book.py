@@ -7,7 +7,7 @@ import sys
 BUTTONS = [None, "a", "b", "c", "y", "x", "z", "leftshoulder", "rightshoulder", "lefttrigger", "righttrigger", "back",
            "start", "guide", "leftstick", "rightstick", "dpup", "dpdown", "dpleft", "dpright"]
 AXES = [None, "leftx", "lefty", "leftz", "rightx", "righty", "rightz"]
-BUFFER_MAX, LINE_MAX, NAME_MAX, LIST_MAX = 65535, 4096, 2048, 1024
+INDEX_MAX, TEXT_MAX, LINE_MAX, NAME_MAX, LIST_MAX = 65535, 65535, 4096, 2048, 1024
 
 
 # ---- text
@@ -50,7 +50,7 @@ def padded(s, n):
 
 def decode(index, text):
     """The list, or None where the store is not sound."""
-    if max(len(index), len(text)) > BUFFER_MAX:
+    if len(index) > INDEX_MAX or len(text) > TEXT_MAX:
         return None
     held, used = [], 0
     while index[21 * len(held):21 * len(held) + 1] == b"\1":
@@ -192,7 +192,7 @@ class Store:
         held = decode(self.index, self.text)
         sizes = len(self.index), len(self.text)
         if kind == "clear":
-            if max(sizes) > BUFFER_MAX:
+            if sizes[0] > INDEX_MAX or sizes[1] > TEXT_MAX:
                 return words[0] == "23"
             self.hold([])
             return words[0] == "0"

@@ -18,7 +18,7 @@ static const uint32_t axes[] = {RASPTEAL_NEC_AXIS_LSTICKX, RASPTEAL_NEC_AXIS_LST
 #define AXES axes, sizeof axes / sizeof axes[0]
 
 /* The largest store. Keep the two buffers between runs, e.g. in a file; fresh ones are all 0. */
-static uint8_t index_[RASPTEAL_BUFFER_MAX], text[RASPTEAL_BUFFER_MAX];
+static uint8_t index_[RASPTEAL_INDEX_MAX], text[RASPTEAL_TEXT_MAX];
 #define STORE index_, sizeof index_, text, sizeof text
 
 /* Ends the program where a call was refused. */

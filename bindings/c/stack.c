@@ -14,7 +14,7 @@
 #define LINES 2047 /* of 32 bytes each */
 #define TIMES 3    /* so that an insert files more lines than it keeps in mind at once */
 
-static uint8_t index_[RASPTEAL_BUFFER_MAX], text[RASPTEAL_BUFFER_MAX], out[RASPTEAL_LINE_MAX];
+static uint8_t index_[RASPTEAL_INDEX_MAX], text[RASPTEAL_TEXT_MAX], out[RASPTEAL_LINE_MAX];
 static uint32_t codes[RASPTEAL_LIST_MAX];
 static char list[TIMES * LINES * 33 + 1], pad_line[RASPTEAL_LINE_MAX];
 static raspteal_uuid pad;

@@ -20,7 +20,7 @@ from collections import namedtuple
 from ctypes import POINTER, c_bool, c_int16, c_size_t, c_uint8, c_uint16, c_uint32, c_uint64
 from pathlib import Path
 
-CODES_MAX, LINE_MAX, BUFFER_MAX, BUTTONS, AXES = 256, 4096, 65535, 20, 9
+CODES_MAX, LINE_MAX, INDEX_MAX, TEXT_MAX, BUTTONS, AXES = 256, 4096, 65535, 65535, 20, 9
 LOWER_HALF, UPPER_HALF, FULL = 0, 1, 2
 
 MEANINGS = {
@@ -327,7 +327,7 @@ class Store:
     """The lines held under their UUIDs, in an index and a text. Store() is fresh and as large as can be; Store(data)
     holds the bytes of a hub's store file: index and text, half each."""
 
-    def __init__(self, data=bytes(2 * BUFFER_MAX)):
+    def __init__(self, data=bytes(INDEX_MAX + TEXT_MAX)):
         if len(data) % 2:
             raise ValueError("index and text have half the bytes each")
         half = len(data) // 2

@@ -2,7 +2,7 @@
 //! pad's code lists, turn a code into an element, and save what staff have bound.
 //!
 //!     cargo run --example hub ../example/pads.txt
-use raspteal::{Axis, AxisOrBtn, Button, Code, Error as Refusal, Mapping, MappingData, Store, Uuid, BUFFER_MAX};
+use raspteal::{Axis, AxisOrBtn, Button, Code, Error as Refusal, Mapping, MappingData, Store, Uuid, INDEX_MAX, TEXT_MAX};
 use std::error::Error;
 
 // What the pad's driver reports, in its order: a line's `b1` is the second button of this list.
@@ -44,7 +44,7 @@ fn main() -> Result<(), Box<dyn Error>> {
     let path = std::env::args().nth(1).ok_or("usage: hub LIST")?;
 
     // The largest store. Keep its two buffers between runs, e.g. in a file.
-    let mut store = Store::new(BUFFER_MAX, BUFFER_MAX);
+    let mut store = Store::new(INDEX_MAX, TEXT_MAX);
     match store.insert(std::fs::read(path)?) {
         Ok(walked) => println!("{walked} lines"),
         Err(stopped) if stopped.error == Refusal::NoRoom => {

@@ -12,7 +12,8 @@ pub const KEYS: usize = 512;
 pub const LIST_MAX: usize = 1024;
 pub const NAME_MAX: usize = 2048;
 pub const LINE_MAX: usize = 4096;
-pub const BUFFER_MAX: usize = 65535;
+pub const INDEX_MAX: usize = 65535;
+pub const TEXT_MAX: usize = 65535;
 
 /// The kinds of a token.
 pub const END: u8 = 0;

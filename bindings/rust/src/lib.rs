@@ -58,8 +58,10 @@ pub const LIST_MAX: usize = ffi::LIST_MAX;
 pub const NAME_MAX: usize = ffi::NAME_MAX;
 /// The bytes that a stored line may have.
 pub const LINE_MAX: usize = ffi::LINE_MAX;
-/// The bytes that an index or a text may have.
-pub const BUFFER_MAX: usize = ffi::BUFFER_MAX;
+/// The bytes that an index may have.
+pub const INDEX_MAX: usize = ffi::INDEX_MAX;
+/// The bytes that a text may have.
+pub const TEXT_MAX: usize = ffi::TEXT_MAX;
 /// The key codes in the table of buttons.
 pub const KEYS: usize = ffi::KEYS;
 /// The first key code of the table.

@@ -87,8 +87,8 @@ fn as_in_c() {
     for row in &rows {
         c += &row.c;
     }
-    c += "printf(\"limits %d %d %d %d %d %d %d %d\\n\", RASPTEAL_CODES_MAX, RASPTEAL_LIST_MAX, RASPTEAL_NAME_MAX, \
-          RASPTEAL_LINE_MAX, RASPTEAL_BUFFER_MAX, RASPTEAL_BUTTONS, RASPTEAL_AXES, RASPTEAL_IDENT_MAX);\n";
+    c += "printf(\"limits %d %d %d %d %d %d %d %d %d\\n\", RASPTEAL_CODES_MAX, RASPTEAL_LIST_MAX, RASPTEAL_NAME_MAX, \
+          RASPTEAL_LINE_MAX, RASPTEAL_INDEX_MAX, RASPTEAL_TEXT_MAX, RASPTEAL_BUTTONS, RASPTEAL_AXES, RASPTEAL_IDENT_MAX);\n";
     c += "printf(\"kinds %d %d %d %d %d %d %d %d\\n\", RASPTEAL_END, RASPTEAL_REFUSED, RASPTEAL_UUID, \
           RASPTEAL_PLATFORM, RASPTEAL_NAME, RASPTEAL_AXIS, RASPTEAL_BUTTON, RASPTEAL_HAT);\n}\n";
     std::fs::write(&source, c).unwrap();
@@ -99,12 +99,13 @@ fn as_in_c() {
 
     let mut expected: Vec<String> = rows.into_iter().map(|row| row.rust).collect();
     expected.push(format!(
-        "limits {} {} {} {} {} {} {} {}",
+        "limits {} {} {} {} {} {} {} {} {}",
         ffi::CODES_MAX,
         ffi::LIST_MAX,
         ffi::NAME_MAX,
         ffi::LINE_MAX,
-        ffi::BUFFER_MAX,
+        ffi::INDEX_MAX,
+        ffi::TEXT_MAX,
         ffi::BUTTONS,
         ffi::AXES,
         ffi::IDENT_MAX

@@ -25,7 +25,6 @@ use Rattle.map.specs.Lists.{placeOf, inList}
 use Rattle.map.specs.Slots.{buttonOf, axisOf}
 use Rattle.map.specs.Build.{also, filledFrom, filledButtons, filledAxes, missingOf, checksOf, builtLine}
 use Rattle.map.specs.Build.{answerOf}
-use Rattle.map.specs.Bounds.{lineMax}
 use Rattle.map.specs.Inner.{pairMax, pairsMax, builtMax}
 use Rattle.map.specs.Inner.{pairLength, pairsLength, lineLength, BUILT_MAX, shortOf}
 use Rattle.map.proofs.CheckLaws.{Passed, passed}
@@ -100,16 +99,9 @@ pub built-max : builtMax ≡ 2400
 unfolding builtMax pairsMax decimal digits axesSdl axes elementRow elementFrom
 built-max = refl
 
--- "20: wanted line over 4096 bytes" never meets a built line
-pub line-fits : builtMax ≤ lineMax
-line-fits = omega (arith, built-max)
-
 module _ (d : MappingData) (buttons axes name : List ℕ) (uuid : Uuid) where
   pub built-length : checksOf d buttons axes name ≡ Accepted → length (builtLine d buttons axes name uuid) ≤ builtMax
   built-length h = built-most d buttons axes name (passed d buttons axes name _ refl h) uuid
-
-  pub built-fits : checksOf d buttons axes name ≡ Accepted → length (builtLine d buttons axes name uuid) ≤ lineMax
-  built-fits h = omega (arith, built-length h, line-fits)
 
   pub built-positive : 1 ≤ length (builtLine d buttons axes name uuid)
   built-positive = omega (arith, line-length d buttons axes name uuid)

@@ -6,7 +6,6 @@ pub mod Keys
 pub mod Default
 pub mod Refusals
 -- what the store's definitions cite
-pub mod Bounds
 pub mod Search
 -- what private functions and proofs need
 pub mod Inner

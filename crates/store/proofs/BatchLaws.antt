@@ -20,8 +20,7 @@ use Rattle.store.specs.declared.batch.Step.{Step}
 use Rattle.store.specs.declared.batch.Walked.{Walked}
 use Rattle.store.specs.Book.{under, Reached, after, stopped, reach, insertTurn, onReached, insertLines}
 use Rattle.store.specs.Decode.{decode}
-use Rattle.store.specs.Held.{Held, file, bufferMax}
-use Rattle.map.specs.Bounds.{lineMax}
+use Rattle.store.specs.Held.{Held, file, indexMax, textMax, lineMax}
 use Rattle.map.specs.Search.{lf}
 use Rattle.store.specs.Layout.{Bytes}
 use Rattle.store.specs.Inner.{Good, firstLine, known}
@@ -275,7 +274,7 @@ empty-long = record {
   lens = length-replicate {A = ℕ} slots 0;
 }
 
-pub both-most : (i t : List ℕ) → Bytes i → known (decode i t) ≡ true → (length i ≤ bufferMax) × (length t ≤ bufferMax)
+pub both-most : (i t : List ℕ) → Bytes i → known (decode i t) ≡ true → (length i ≤ indexMax) × (length t ≤ textMax)
 both-most i t b k =
     let q : (hs : List Held) × (decode i t ≡ some hs) = lines-of (decode i t) k in
     (laid i t (q .0) b (q .1) .index, laid i t (q .0) b (q .1) .text)

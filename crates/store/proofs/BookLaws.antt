@@ -16,8 +16,7 @@ use Rattle.store.specs.Book.{turn, noRoom, under, Reached, after, stoppe
 use Rattle.store.specs.Inner.{Good, room, Builds}
 use Rattle.store.specs.Book.{onReached, insertLines, bookInsert, Attempt, refused, files, Saving, bookAttempt}
 use Rattle.store.specs.Book.{Call, clear, insert, save, bookTurn, runBook}
-use Rattle.store.specs.Held.{Held, file, distinct}
-use Rattle.map.specs.Bounds.{lineMax}
+use Rattle.store.specs.Held.{Held, file, distinct, lineMax}
 use Rattle.store.specs.Layout.{Shape, records, texts}
 use Rattle.store.specs.Lines.{linesOf, wanted}
 use Rattle.store.proofs.HeldLaws.{distinct-file, shapes-file}

@@ -9,7 +9,7 @@ use lib.ListN.{length, replicate}
 use borrow.Author.Tests.{lt-leb, le-leb}
 use Rattle.text.specs.Bytes.{pick}
 use Rattle.store.specs.declared.calls.Answer.{Answer}
-use Rattle.store.specs.Held.{bufferMax}
+use Rattle.store.specs.Held.{indexMax, textMax}
 use Rattle.store.specs.Store.{Done, fitting, storeClear}
 use Rattle.store.proofs.BoolLaws.{and-both, and-false-left, and-false-right}
 use Rattle.store.specs.declared.calls.Answer.the-variants as A
@@ -25,15 +25,15 @@ module _ (i t : List ℕ) where
   cleared-if b e = ap (λ (c : Bool). pick c
       (record { answer = A.Done; index = replicate (length i) 0; text = replicate (length t) 0 }) kept) e
 
-  pub clear-index : bufferMax < length i → kept ≡ storeClear i t
-  clear-index l = sym (cleared-if false (and-false-left _ _ (lt-leb _ bufferMax l)))
+  pub clear-index : indexMax < length i → kept ≡ storeClear i t
+  clear-index l = sym (cleared-if false (and-false-left _ _ (lt-leb _ indexMax l)))
 
-  pub clear-text : bufferMax < length t → kept ≡ storeClear i t
-  clear-text l = sym (cleared-if false (and-false-right (leb (length i) bufferMax) _ (lt-leb _ bufferMax l)))
+  pub clear-text : textMax < length t → kept ≡ storeClear i t
+  clear-text l = sym (cleared-if false (and-false-right (leb (length i) indexMax) _ (lt-leb _ textMax l)))
 
-  pub clear-done : length i ≤ bufferMax → length t ≤ bufferMax → (i′ t′ : List ℕ) → i′ ≡ replicate (length i) 0
+  pub clear-done : length i ≤ indexMax → length t ≤ textMax → (i′ t′ : List ℕ) → i′ ≡ replicate (length i) 0
       → t′ ≡ replicate (length t) 0
       → record { answer = A.Done; index = i′; text = t′ } ≡ storeClear i t
   clear-done li lt i′ t′ ei et =
       ap₂ (λ (x y : List ℕ). record { answer = A.Done; index = x; text = y }) ei et
-      ∙ sym (cleared-if true (and-both _ _ (le-leb _ bufferMax li) (le-leb _ bufferMax lt)))
+      ∙ sym (cleared-if true (and-both _ _ (le-leb _ indexMax li) (le-leb _ textMax lt)))

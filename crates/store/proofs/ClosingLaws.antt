@@ -19,7 +19,7 @@ use Rattle.text.proofs.LentLaws.{tail-part, tail-back, tail-length}
 use Rattle.store.specs.declared.settle.Kept.{Kept}
 use Rattle.store.specs.declared.slots.Fill.{Fill}
 use Rattle.store.specs.Decode.{decode}
-use Rattle.store.specs.Held.{Held, bufferMax}
+use Rattle.store.specs.Held.{Held, indexMax, textMax}
 use Rattle.store.specs.Layout.{Bytes}
 use Rattle.store.specs.Inner.{Sized, sizes}
 use Rattle.store.specs.Keys.{slots, keyAt}
@@ -63,7 +63,7 @@ module _ (a : Table) (old at off k : ℕ) (w : Keeping a old at off k) where
     abbrev g : Keepable a old
     g = w .given
 
-    pub keep-fits : (at + size ≤ bufferMax) × (off + getD (a .lens) k 0 ≤ bufferMax)
+    pub keep-fits : (at + size ≤ indexMax) × (off + getD (a .lens) k 0 ≤ textMax)
     keep-fits =
         let b : k < g .c = omega (arith, g .tabled .olds) in
         let t : Takes-up (living (slotAt (g .t) (g .s) a old) k) at off =
@@ -291,7 +291,7 @@ module _ (i t s : List ℕ) (a : Table) (was : Fill) (c : ℕ) (b : Bytes i) (x 
     within-text : was .used ≤ length t
     within-text = omega (arith, x (fs ++ bs) d .1, long-text i t (fs ++ bs) l)
 
-    limits : (length i ≤ bufferMax) × (length t ≤ bufferMax)
+    limits : (length i ≤ indexMax) × (length t ≤ textMax)
     limits = (l .index, l .text)
 
   pub settle-keeps : Settles i t s a was c → Keepable a (was .count)

@@ -14,7 +14,7 @@ use Rattle.text.specs.Bytes.{pick}
 use Rattle.store.specs.declared.records.Head.{Head}
 use Rattle.store.specs.Decode.{headAt, heldOf, zeroes, headFits, consTo, walk, guarded, decode}
 use Rattle.store.specs.Inner.{Good, known, sizes}
-use Rattle.store.specs.Held.{Key, Held, distinct, bufferMax}
+use Rattle.store.specs.Held.{Key, Held, distinct, indexMax, textMax}
 use Rattle.store.specs.Layout.{Bytes}
 use Rattle.store.specs.Inner.{headOf, Lies}
 use Rattle.store.specs.Layout.{Shapes, recordOf, records, texts, padded, encodeIndex, encodeText}
@@ -132,7 +132,7 @@ pub record Rows (off : ℕ) (i t : List ℕ) (hs : List Held) : Type 0 where
   pub text : t ≡ texts hs ++ replicate more 0
 
 pub walk-rows : (f off : ℕ) (i t : List ℕ) (hs : List Held) → walk f off i t ≡ some hs → Bytes i
-    → off + length t ≤ bufferMax → Rows off i t hs
+    → off + length t ≤ textMax → Rows off i t hs
 unfolding walk
 walk-rows zero off i t hs e b l = absurd (never hs e)
 walk-rows (suc f) off i t hs e b l =
@@ -191,12 +191,12 @@ walk-rows (suc f) off i t hs e b l =
 pub record Laid (i t : List ℕ) (hs : List Held) : Type 0 where
   pub rows : Rows 0 i t hs
   pub once : distinct hs ≡ true
-  pub index : length i ≤ bufferMax
-  pub text : length t ≤ bufferMax
+  pub index : length i ≤ indexMax
+  pub text : length t ≤ textMax
 
 pub laid : (i t : List ℕ) (hs : List Held) → Bytes i → decode i t ≡ some hs → Laid i t hs
 unfolding decode
-laid i t hs b e = size (leb (length i) bufferMax && leb (length t) bufferMax) refl e
+laid i t hs b e = size (leb (length i) indexMax && leb (length t) textMax) refl e
   where
     once? : (t : Bool) (ks : List Held) → distinct ks ≡ t → pick t (some ks) none ≡ some hs
         → (ks ≡ hs) × (distinct ks ≡ true)
@@ -210,16 +210,16 @@ laid i t hs b e = size (leb (length i) bufferMax && leb (length t) bufferMax) re
         let r : (ks ≡ hs) × (distinct ks ≡ true) = once? (distinct ks) ks refl q in
         subst (λ (l : List Held). (walk (suc (length i)) 0 i t ≡ some l) × (distinct l ≡ true)) (r .0) (p, r .1)
 
-    size : (s : Bool) → leb (length i) bufferMax && leb (length t) bufferMax ≡ s
+    size : (s : Bool) → leb (length i) indexMax && leb (length t) textMax ≡ s
         → pick s (guarded (walk (suc (length i)) 0 i t)) none ≡ some hs → Laid i t hs
     size false p q = absurd (never hs q)
     size true p q =
         let r : (walk (suc (length i)) 0 i t ≡ some hs) × (distinct hs ≡ true) =
         lines (walk (suc (length i)) 0 i t) refl q in
-        let li : length i ≤ bufferMax =
-        leb-true _ bufferMax (and-left (leb (length i) bufferMax) (leb (length t) bufferMax) p) in
-        let lt : length t ≤ bufferMax =
-        leb-true _ bufferMax (and-right (leb (length i) bufferMax) (leb (length t) bufferMax) p) in
+        let li : length i ≤ indexMax =
+        leb-true _ indexMax (and-left (leb (length i) indexMax) (leb (length t) textMax) p) in
+        let lt : length t ≤ textMax =
+        leb-true _ textMax (and-right (leb (length i) indexMax) (leb (length t) textMax) p) in
         record { rows = walk-rows (suc (length i)) 0 i t hs (r .0) b (omega arith); once = r .1; index = li; text = lt }
 
 pub lines-of : (o : Option (List Held)) → known o ≡ true → (hs : List Held) × (o ≡ some hs)
@@ -268,7 +268,7 @@ module _ (n m : ℕ) (hs : List Held) (g : Good n m hs) where
   unfolding encodeText
   length-text = length-padded m (texts hs) (g .text)
 
-  pub lies-encoded : m ≤ bufferMax → Lies 0 hs (encodeIndex n hs)
+  pub lies-encoded : m ≤ textMax → Lies 0 hs (encodeIndex n hs)
   lies-encoded lm = record {
     more = n - sizes 0 hs;
     is = unfold encodeIndex padded in refl;
@@ -277,10 +277,10 @@ module _ (n m : ℕ) (hs : List Held) (g : Good n m hs) where
     below = omega (arith, g .text);
   }
 
-  pub decode-encoded : n ≤ bufferMax → m ≤ bufferMax → decode (encodeIndex n hs) (encodeText m hs) ≡ some hs
+  pub decode-encoded : n ≤ indexMax → m ≤ textMax → decode (encodeIndex n hs) (encodeText m hs) ≡ some hs
   unfolding decode
   decode-encoded ln lm =
-      rw (length-index, length-text, and-both _ _ (le-leb n bufferMax ln) (le-leb m bufferMax lm))
+      rw (length-index, length-text, and-both _ _ (le-leb n indexMax ln) (le-leb m textMax lm))
       (ap guarded walked ∙ ap (λ (b : Bool). pick b (some hs) none) (g .once))
     where
       walked : walk (suc n) 0 (encodeIndex n hs) (encodeText m hs) ≡ some hs

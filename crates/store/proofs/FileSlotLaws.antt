@@ -17,7 +17,7 @@ use Rattle.text.specs.Bytes.{pick}
 use Rattle.store.specs.declared.slots.Fill.{Fill}
 use Rattle.store.specs.Book.{under}
 use Rattle.store.specs.Decode.{decode}
-use Rattle.store.specs.Held.{Key, Held, sameKey, strike, file, bufferMax}
+use Rattle.store.specs.Held.{Key, Held, sameKey, strike, file}
 use Rattle.store.specs.Inner.{room, Sized, sizeOf, sizes}
 use Rattle.store.specs.Keys.{slots, keyAt, Chained, Sought}
 use Rattle.store.specs.Layout.{recordBytes, texts}

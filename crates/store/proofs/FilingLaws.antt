@@ -10,7 +10,7 @@ use lib.Dec.{leb}
 use lib.ListN.{length}
 use borrow.Author.Tests.{lt-leb, le-leb}
 use Rattle.store.specs.Inner.{room, sizes, Sized}
-use Rattle.store.specs.Held.{Key, Held, bufferMax, strike, file}
+use Rattle.store.specs.Held.{Key, Held, indexMax, textMax, strike, file}
 use Rattle.store.specs.Layout.{texts}
 use Rattle.store.proofs.BoolLaws.{and-both, and-false-left, and-false-right}
 use Rattle.store.proofs.RoomLaws.{room-fits}
@@ -22,8 +22,8 @@ pub record Counts (i t : List ℕ) (end used : ℕ) (k : Key) (hs : List Held) :
   pub text : used ≡ length (texts (strike k hs))
   pub small : sizes 0 (strike k hs) ≤ length i
   pub short : length (texts (strike k hs)) ≤ length t
-  pub most-index : length i ≤ bufferMax
-  pub most-text : length t ≤ bufferMax
+  pub most-index : length i ≤ indexMax
+  pub most-text : length t ≤ textMax
 
 -- room for a line behind those that are left
 module _ (i t : List ℕ) (h : Held) (hs : List Held) (end used : ℕ) (c : Counts i t end used (h .key) hs)

@@ -19,8 +19,7 @@ use Rattle.store.specs.Book.{onReached, insertLines, bookInsert, Attempt
 use Rattle.store.specs.Book.{Call, clear, insert, save, Reply, saved, bookTurn, runBook}
 use Rattle.store.specs.Filings.{Filing, filing, filedLine, filedLines, filedAttempt, filedAs, filedBy, since}
 use Rattle.store.specs.Filings.{filings, laterOr, lastFiled, lineFiled, nth}
-use Rattle.store.specs.Held.{Key, Held, sameKey, file, find}
-use Rattle.map.specs.Bounds.{lineMax}
+use Rattle.store.specs.Held.{Key, Held, sameKey, file, find, lineMax}
 use Rattle.store.specs.Lines.{linesOf, wanted}
 use Rattle.store.proofs.HeldLaws.{same-eq, find-file}
 use Rattle.store.specs.declared.calls.Answer.the-variants as A

@@ -19,11 +19,12 @@ use Rattle.map.specs.declared.error.MappingAnswer.{MappingAnswer}
 use Rattle.map.specs.declared.error.MappingAnswer.the-variants.{Accepted, Refused}
 use Rattle.map.specs.Build.{checksOf}
 use Rattle.map.specs.Search.{beginsText, firstText, platformKey, lf}
-use Rattle.map.proofs.BuiltLaws.{built-positive, built-fits}
+use Rattle.map.proofs.BuiltLaws.{built-positive}
+use Rattle.store.proofs.LimitLaws.{built-fits}
 use Rattle.map.proofs.ContentLaws.{built-platform, built-uuid, built-utf8, built-lf}
 use Rattle.store.specs.declared.calls.SaveAnswer.the-variants as Sv
 use Rattle.store.specs.declared.calls.Saved.{Saved}
-use Rattle.store.specs.Held.{Key, Held, sameKey, file, find, bufferMax}
+use Rattle.store.specs.Held.{Key, Held, sameKey, file, find, indexMax, textMax}
 use Rattle.store.specs.Lines.{linesOf, wanted}
 use Rattle.store.specs.Book.{turn, noRoom, under, insertLines, Attempt, refused, files, Saving, bookAttempt}
 use Rattle.store.specs.Book.{Call, clear, insert, save, Reply, saved, bookTurn, runBook}
@@ -108,7 +109,7 @@ module _ (c : SaveCall) (p : Passes (c .args)) where
       one-of (savedLine a) (built-positive (a .slots) (a .buttons) (a .axes) (a .name) (a .uuid))
       (built-lf (a .slots) (a .buttons) (a .axes) (a .name) (a .uuid) (p .build) no-lf)
 
-  module _ (n m : ℕ) (ln : n ≤ bufferMax) (lm : m ≤ bufferMax) (xs : Calls) where
+  module _ (n m : ℕ) (ln : n ≤ indexMax) (lm : m ≤ textMax) (xs : Calls) where
     abbrev lines : List Held
     lines = booked n m xs .held
 
@@ -228,7 +229,7 @@ accepts n m hs c v e d = checked (checksOf (a .slots) (a .buttons) (a .axes) (a 
     checked (Refused x) p w =
         absurd (refused-not-done x (ap (λ (y : Saved). y .answer) (same-saved (refusedSave (Sv.Refused x)) v w) ∙ d))
 
-module _ (n m : ℕ) (ln : n ≤ bufferMax) (lm : m ≤ bufferMax) where
+module _ (n m : ℕ) (ln : n ≤ indexMax) (lm : m ≤ textMax) where
   module _ (xs : Calls) (c : SaveCall) (v : Saved) (ok : Accepts n m (booked n m xs .held) c v) where
     abbrev before : List (Filing saving)
     before = filings 0 n m [] [] xs

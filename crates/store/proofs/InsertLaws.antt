@@ -19,8 +19,7 @@ use Rattle.store.specs.Book.{noRoom, Turn, under, after, stopped, reach,
 use Rattle.store.specs.Inner.{Good, room, known}
 use Rattle.store.specs.Book.{insertLines, bookInsert}
 use Rattle.store.specs.Decode.{decode}
-use Rattle.store.specs.Held.{Held, file, bufferMax}
-use Rattle.map.specs.Bounds.{lineMax}
+use Rattle.store.specs.Held.{Held, file, indexMax, textMax, lineMax}
 use Rattle.store.specs.Layout.{Bytes}
 use Rattle.store.specs.Layout.{encodeIndex, encodeText}
 use Rattle.store.specs.Lines.{linesOf, wanted}
@@ -113,7 +112,7 @@ pub record Inserting (i₀ t₀ s i t : List ℕ) (at count : ℕ) : Type 0 wher
   pub sound : known (decode i₀ t₀) ≡ true
   pub index : length i ≡ length i₀
   pub text : length t ≡ length t₀
-  pub small : (length i₀ ≤ bufferMax) × (length t₀ ≤ bufferMax)
+  pub small : (length i₀ ≤ indexMax) × (length t₀ ≤ textMax)
   pub inserts : (hs₀ : List Held) → decode i₀ t₀ ≡ some hs₀ → Inserts i₀ t₀ s i t at count hs₀
 
 pub insert-first : (i t s : List ℕ) → Bytes i → known (decode i t) ≡ true → Inserting i t s i t 0 0

@@ -2,6 +2,7 @@
 -- RefusedLaws, FoundLaws, Saves, Samples and History.
 pub mod BoolLaws
 pub mod HeldLaws
+pub mod LimitLaws
 pub mod BufferLaws
 pub mod EightLaws
 pub mod ChainLaws

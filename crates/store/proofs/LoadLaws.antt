@@ -17,7 +17,7 @@ use Rattle.text.specs.Bytes.{pick}
 use Rattle.store.specs.declared.records.Head.{Head}
 use Rattle.store.specs.declared.slots.Fill.{Fill}
 use Rattle.store.specs.Decode.{headAt, decode}
-use Rattle.store.specs.Held.{Key, Held, distinct, bufferMax}
+use Rattle.store.specs.Held.{Key, Held, distinct, indexMax}
 use Rattle.store.specs.Layout.{Bytes}
 use Rattle.store.specs.Inner.{Lies, sizeOf, sizes}
 use Rattle.store.specs.Keys.{slots, keyAt, Chained}
@@ -48,7 +48,7 @@ pub record Loaded (i : List ℕ) (at : ℕ) (a : Table) (n u : ℕ) (hs : List H
 
 pub record Loading (i : List ℕ) (at : ℕ) (a : Table) (heads next : List ℕ) (n used : ℕ) : Type 0 where
   pub many : 16 * n ≤ at
-  pub small : length i ≤ bufferMax
+  pub small : length i ≤ indexMax
   pub long : Long a
   pub chained : Chained (keyAt (a .highs) (a .lows)) heads next n
   pub listing : Listing i at (a .highs) (a .lows) n
@@ -57,7 +57,7 @@ pub record Loading (i : List ℕ) (at : ℕ) (a : Table) (heads next : List ℕ)
 pub loads-extend : (i t : List ℕ) (a : Table) (heads next : List ℕ) (f : Fill) → Loads i a heads next f → Extends i t f
 loads-extend i t a heads next f w hs d = (w t [] hs d .end, w t [] hs d .used)
 
-pub load-first : (i : List ℕ) (a : Table) (heads next : List ℕ) → length i ≤ bufferMax → Long a
+pub load-first : (i : List ℕ) (a : Table) (heads next : List ℕ) → length i ≤ indexMax → Long a
     → Chained (keyAt (a .highs) (a .lows)) heads next 0 → Loading i 0 a heads next 0 0
 load-first i a heads next m l c = record {
   many = omega arith;

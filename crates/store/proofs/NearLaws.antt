@@ -14,7 +14,7 @@ use Rattle.store.specs.declared.near.NearLook.the-variants as N
 use Rattle.store.specs.Decode.{decode}
 use Rattle.store.specs.Filings.{lineFiled}
 use Rattle.store.specs.Guarantee.{Calls, Guarantee, stored, lastOf}
-use Rattle.store.specs.Held.{Key, Held, find, bufferMax}
+use Rattle.store.specs.Held.{Key, Held, find, indexMax, textMax}
 use Rattle.store.specs.Inner.{known}
 use Rattle.store.specs.Near.{Nearby, exact, near, neither, damaged, nearIn, nearAt, nearUp, nearSays, nearLine}
 use Rattle.store.specs.Near.{Beside, BesideLookUp, NeverNear, NearAfter}
@@ -82,7 +82,7 @@ near-filed n m xs g k =
     near-found k (stored n m xs .index) (stored n m xs .text) (lineFiled (lastOf n m xs k))
     (lineFiled (lastOf n m xs (withoutChecksum k))) (g .finds k) (g .finds (withoutChecksum k))
 
-pub near-after : (n m : ℕ) → n ≤ bufferMax → m ≤ bufferMax → (xs : Calls) → NearAfter n m xs
+pub near-after : (n m : ℕ) → n ≤ indexMax → m ≤ textMax → (xs : Calls) → NearAfter n m xs
 near-after n m ln lm xs = near-filed n m xs (whole-guarantee n m ln lm xs)
 
 -- ---- what a look-up sees

@@ -16,8 +16,7 @@ use Rattle.store.specs.declared.calls.Inserted.{Inserted}
 use Rattle.store.specs.Book.{turn, noRoom, Turn, under, Reached, after, stopped, reach, insertTurn}
 use Rattle.store.specs.Book.{onReached, insertLines, bookInsert, Attempt, files, Saving, bookAttempt}
 use Rattle.store.specs.Book.{insert, save, Reply, inserted, saved, replied, bookTurn}
-use Rattle.store.specs.Held.{Held, file}
-use Rattle.map.specs.Bounds.{lineMax}
+use Rattle.store.specs.Held.{Held, file, lineMax}
 use Rattle.store.specs.Lines.{linesOf, wanted}
 use Rattle.store.specs.declared.calls.Answer.the-variants as A
 

@@ -12,8 +12,7 @@ use Rattle.text.specs.Bytes.{pick}
 use Rattle.store.specs.declared.slots.Fill.{Fill}
 use Rattle.store.specs.Book.{under}
 use Rattle.store.specs.Decode.{decode}
-use Rattle.store.specs.Held.{Key, Held, file}
-use Rattle.map.specs.Bounds.{lineMax}
+use Rattle.store.specs.Held.{Key, Held, file, lineMax}
 use Rattle.store.specs.Layout.{Bytes}
 use Rattle.store.specs.Inner.{known, room, Files}
 use Rattle.store.specs.Layout.{encodeIndex, encodeText}

@@ -16,8 +16,7 @@ use Rattle.text.specs.declared.uuid.Uuid.{Uuid}
 use Rattle.store.specs.declared.records.Body.{Body}
 use Rattle.store.specs.declared.records.Head.{Head}
 use Rattle.store.specs.Decode.{word, word4, word8, bodyAt, headWith, noHead, headAt, headFits}
-use Rattle.store.specs.Held.{Key, Held, recordSize}
-use Rattle.map.specs.Bounds.{lineMax}
+use Rattle.store.specs.Held.{Key, Held, recordSize, lineMax}
 use Rattle.store.specs.Layout.{Bytes}
 use Rattle.store.specs.Inner.{be2, be4, be8, bodySize, bodyBytes, headOf, Sized, sizeOf}
 use Rattle.store.specs.Layout.{Shape, recordBytes, recordOf}

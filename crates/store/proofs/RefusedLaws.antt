@@ -18,14 +18,13 @@ use Rattle.map.specs.declared.error.MappingError.{MappingError}
 use Rattle.map.specs.declared.error.MappingAnswer.{MappingAnswer}
 use Rattle.map.specs.declared.error.MappingAnswer.the-variants.{Accepted, Refused}
 use Rattle.map.specs.declared.mapping_data.MappingData.{MappingData}
-use Rattle.map.specs.Bounds.{lineMax}
+use Rattle.store.specs.Held.{lineMax, Held, file}
 use Rattle.map.specs.Build.{checksOf, answerOf, builtLine, builtMap, returned, left, buildOf, outputOf}
 use Rattle.store.specs.declared.calls.Answer.{Answer}
 use Rattle.store.specs.declared.calls.Answer.the-variants as A
 use Rattle.store.specs.declared.calls.Inserted.{Inserted}
 use Rattle.store.specs.declared.calls.SaveAnswer.the-variants as Sv
 use Rattle.store.specs.declared.calls.Saved.{Saved}
-use Rattle.store.specs.Held.{Held, file}
 use Rattle.store.specs.Layout.{Bytes, encodeIndex, encodeText}
 use Rattle.store.specs.Decode.{decode}
 use Rattle.store.specs.Lines.{linesOf, wanted}

@@ -23,7 +23,7 @@ use Rattle.store.specs.declared.calls.Answer.{Answer}
 use Rattle.store.specs.declared.calls.Answer.the-variants as A
 use Rattle.store.specs.declared.calls.SaveAnswer.the-variants as Sv
 use Rattle.store.specs.declared.calls.Saved.{Saved}
-use Rattle.map.specs.Bounds.{lineMax}
+use Rattle.store.specs.Held.{lineMax}
 use Rattle.map.specs.Search.{lf, firstText, platformKey}
 use Rattle.store.specs.Book.{under, refused, files}
 use Rattle.store.specs.Store.{Done, storeAttempt}
@@ -32,7 +32,8 @@ use Rattle.store.specs.Saves.{SaveArgs, unsavedName, refusedSave, accept
 use Rattle.store.specs.Saves.{storeSave}
 use Rattle.store.proofs.SaveLaws.{valueOf, attempt-files}
 use Rattle.map.proofs.LengthLaws.{line-length}
-use Rattle.map.proofs.BuiltLaws.{built-positive, built-fits}
+use Rattle.map.proofs.BuiltLaws.{built-positive}
+use Rattle.store.proofs.LimitLaws.{built-fits}
 
 -- 22
 module _ (name : List ℕ) (r : ℕ) (e : r ≡ firstOf lf name) where

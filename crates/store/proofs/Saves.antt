@@ -19,7 +19,7 @@ use Rattle.map.specs.declared.mapping_data.MappingData.{MappingData}
 use Rattle.map.specs.Build.{checksOf, filledButtons, filledAxes, ended, pairTexts, builtLine, nameStart, builtMap}
 use Rattle.store.specs.declared.calls.SaveAnswer.the-variants as Sv
 use Rattle.store.specs.declared.calls.Saved.{Saved}
-use Rattle.store.specs.Held.{Key, Held, find, bufferMax}
+use Rattle.store.specs.Held.{Key, Held, find, indexMax, textMax}
 use Rattle.store.specs.Layout.{Shape}
 use Rattle.store.specs.Book.{refused, files, Call, insert, save, saved, numberOf}
 use Rattle.store.specs.Store.{Runs, storeCall, answered, lookedIn}
@@ -28,7 +28,8 @@ use Rattle.store.specs.Guarantee.{Calls, stored, booked, builtHeld, buil
 use Rattle.store.specs.Inner.{Builds}
 use Rattle.store.specs.Saves.{SaveArgs, SaveCall, unsavedName, refusedSave, attemptAfter, attemptOf, storeSave}
 use Rattle.store.specs.Saves.{Passes, ReadsBack, saving}
-use Rattle.map.proofs.BuiltLaws.{built-positive, built-fits}
+use Rattle.map.proofs.BuiltLaws.{built-positive}
+use Rattle.store.proofs.LimitLaws.{built-fits}
 use Rattle.map.proofs.ReadBack.{reads-back}
 use Rattle.store.proofs.FilingsLaws.{says-run, SaveFiled, last-saved}
 use Rattle.store.proofs.StoreLaws.{whole, whole-held, whole-look-up, whole-next, next-held}
@@ -111,7 +112,7 @@ pub save-is : (i t : List ℕ) (c : SaveCall)
 unfolding storeCall storeSave
 save-is i t c = refl
 
-module _ (n m : ℕ) (ln : n ≤ bufferMax) (lm : m ≤ bufferMax) (xs : Calls) where
+module _ (n m : ℕ) (ln : n ≤ indexMax) (lm : m ≤ textMax) (xs : Calls) where
   from-save : (k : Key) (f : Filing saving) (c : SaveCall) → SaveFiled saving n m xs k f c → FromSave n m xs k f c
   from-save k f c w =
       let z : Files (c .args) (f .held) (w .value) = files-are (c .args) (f .held) (w .value) (w .attempted) in

@@ -14,7 +14,7 @@ use Rattle.text.specs.Bytes.{pick}
 use Rattle.store.specs.declared.records.Head.{Head}
 use Rattle.store.specs.Decode.{headAt, heldOf, zeroes, headFits, consTo, walk, guarded, decode}
 use Rattle.store.specs.Inner.{known}
-use Rattle.store.specs.Held.{Held, distinct, bufferMax}
+use Rattle.store.specs.Held.{Held, distinct, indexMax, textMax}
 use Rattle.store.specs.Layout.{Bytes}
 use Rattle.store.specs.Inner.{Once}
 use Rattle.store.proofs.BoolLaws.{and-both, and-false-left, and-false-right}
@@ -107,20 +107,20 @@ module _ (i t : List ℕ) (r : Bool) (at off : ℕ) (w : Walking i t r at off) (
 
 -- the tests of `take_stock`
 module _ (i t : List ℕ) where
-  oversized : leb (length i) bufferMax && leb (length t) bufferMax ≡ false → known (decode i t) ≡ false
+  oversized : leb (length i) indexMax && leb (length t) textMax ≡ false → known (decode i t) ≡ false
   unfolding decode
   oversized e = rw e
 
-  pub sound-index : bufferMax < length i → known (decode i t) ≡ false
-  sound-index l = oversized (and-false-left _ _ (lt-leb _ bufferMax l))
+  pub sound-index : indexMax < length i → known (decode i t) ≡ false
+  sound-index l = oversized (and-false-left _ _ (lt-leb _ indexMax l))
 
-  pub sound-text : bufferMax < length t → known (decode i t) ≡ false
-  sound-text l = oversized (and-false-right (leb (length i) bufferMax) _ (lt-leb _ bufferMax l))
+  pub sound-text : textMax < length t → known (decode i t) ≡ false
+  sound-text l = oversized (and-false-right (leb (length i) indexMax) _ (lt-leb _ textMax l))
 
-  module _ (li : length i ≤ bufferMax) (lt : length t ≤ bufferMax) where
+  module _ (li : length i ≤ indexMax) (lt : length t ≤ textMax) where
     sized : decode i t ≡ guarded (walk (suc (length i)) 0 i t)
     unfolding decode
-    sized = rw (and-both _ _ (le-leb _ bufferMax li) (le-leb _ bufferMax lt))
+    sized = rw (and-both _ _ (le-leb _ indexMax li) (le-leb _ textMax lt))
 
     pub sound-walk : known (walk (suc (length i)) 0 i t) ≡ false → known (decode i t) ≡ false
     sound-walk e = rw sized (go (walk (suc (length i)) 0 i t) e)

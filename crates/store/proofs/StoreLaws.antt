@@ -12,7 +12,7 @@ use Rattle.store.specs.Book.{clear, insert, save, Reply, inserted, saved
 use Rattle.store.specs.Decode.{decode}
 use Rattle.store.specs.Guarantee.{fresh}
 use Rattle.store.specs.Inner.{Good, Builds}
-use Rattle.store.specs.Held.{Key, Held, find, bufferMax}
+use Rattle.store.specs.Held.{Key, Held, find, indexMax, textMax}
 use Rattle.store.specs.Layout.{records, texts, padded, encodeIndex, encodeText}
 use Rattle.store.specs.Store.{Done, onLines, storeClear, storeInsert, storeAttempt, answered, storeCall, Runs}
 use Rattle.store.specs.Store.{andRuns, runStore, lookUp, lookedAt, lookedIn}
@@ -37,7 +37,7 @@ module _ (n m : ℕ) where
   unfolding encodeText texts padded
   fresh-text = rw sub-zero
 
-  module _ (ln : n ≤ bufferMax) (lm : m ≤ bufferMax) where
+  module _ (ln : n ≤ indexMax) (lm : m ≤ textMax) where
     module _ (hs : List Held) (g : Good n m hs) where
       on-lines : {A : Type 0} (e : A) (f : ℕ → ℕ → List Held → Turn A)
           → onLines (encodeIndex n hs) (encodeText m hs) (decode (encodeIndex n hs) (encodeText m hs)) e
@@ -51,7 +51,7 @@ module _ (n m : ℕ) where
           rw (
             length-index n m hs g,
             length-text n m hs g,
-            and-both _ _ (le-leb n bufferMax ln) (le-leb m bufferMax lm),
+            and-both _ _ (le-leb n indexMax ln) (le-leb m textMax lm),
             ← fresh-index,
             ← fresh-text,
           )

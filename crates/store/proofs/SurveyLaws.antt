@@ -12,7 +12,7 @@ use Rattle.store.specs.declared.records.Head.{Head}
 use Rattle.store.specs.declared.slots.Fill.{Fill}
 use Rattle.store.specs.declared.soundness.Stock.{Stock}
 use Rattle.store.specs.Decode.{noHead, headAt, headFits, walk, decode, zeroes}
-use Rattle.store.specs.Held.{Key, bufferMax, recordSize}
+use Rattle.store.specs.Held.{Key, indexMax, recordSize}
 use Rattle.store.specs.Layout.{Bytes}
 use Rattle.store.specs.Inner.{known}
 use Rattle.store.specs.Keys.{slots, keyAt, Says, toldOf, Chained, Sought}
@@ -32,7 +32,7 @@ pub record Surveying (i t : List ℕ) (at : ℕ) (a : Table) (heads next : List 
   pub loading : Loading i at a heads next n used
   pub says : Says (keyAt (a .highs) (a .lows)) n v
 
-pub survey-first : (i t : List ℕ) (a : Table) (heads next : List ℕ) → length i ≤ bufferMax → Long a
+pub survey-first : (i t : List ℕ) (a : Table) (heads next : List ℕ) → length i ≤ indexMax → Long a
     → Chained (keyAt (a .highs) (a .lows)) heads next 0 → Surveying i t 0 a heads next 0 0 Vd.Apart
 survey-first i t a heads next m l c = record {
   walks = walking i t;

@@ -34,7 +34,7 @@ use Rattle.map.specs.Build.{filledFrom, missingOf, axisChecks, slotChecks, chec
 use Rattle.map.specs.Build.{builtLine, builtMap}
 use Rattle.map.specs.Search.{firstText}
 use Rattle.store.specs.declared.calls.Look.the-variants as L
-use Rattle.store.specs.Held.{Key, strike, distinct, bufferMax, recordSize}
+use Rattle.store.specs.Held.{Key, strike, distinct, indexMax, textMax, recordSize}
 use Rattle.store.specs.Decode.{bodyAt, noHead, headWith, headAt, zeroes, walk, guarded, decode}
 use Rattle.store.specs.Book.{lengths, noRoom}
 use Rattle.store.specs.Store.{Looked, unsound, lookUp, saysOf, lineOf}
@@ -129,7 +129,7 @@ walk-nine f off i t = rw (head-nine i) refl
 decode-nine : (i t : List ℕ) → decode (9 ∷ i) t ≡ none
 unfolding decode
 decode-nine i t =
-    rw (walk-nine (length (9 ∷ i)) 0 i t) (by (leb (length (9 ∷ i)) bufferMax && leb (length t) bufferMax))
+    rw (walk-nine (length (9 ∷ i)) 0 i t) (by (leb (length (9 ∷ i)) indexMax && leb (length t) textMax))
   where
     by : (b : Bool) → pick b (guarded none) none ≡ none
     by true = refl

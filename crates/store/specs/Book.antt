@@ -14,8 +14,7 @@ use Rattle.text.specs.declared.uuid.UuidParse.the-variants.{Parsed, Invalid}
 use Rattle.store.specs.declared.calls.Answer.{Answer}
 use Rattle.store.specs.declared.calls.Answer.the-variants as A
 use Rattle.store.specs.declared.calls.Inserted.{Inserted}
-use Rattle.store.specs.Held.{Held, strike, file, recordSize}
-use Rattle.map.specs.Bounds.{lineMax}
+use Rattle.store.specs.Held.{Held, strike, file, recordSize, lineMax}
 use Rattle.store.specs.Lines.{linesOf, wanted}
 use Rattle.store.specs.Answers.{number}
 

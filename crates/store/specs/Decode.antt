@@ -10,8 +10,7 @@ use lib.ListN.{length, getD, take, drop}
 use Rattle.text.specs.Bytes.{pick}
 use Rattle.store.specs.declared.records.Head.{Head}
 use Rattle.store.specs.declared.records.Body.{Body}
-use Rattle.store.specs.Held.{Held, distinct, bufferMax, recordSize}
-use Rattle.map.specs.Bounds.{lineMax}
+use Rattle.store.specs.Held.{Held, distinct, indexMax, textMax, recordSize, lineMax}
 
 -- the numbers in the two, four and eight bytes at k, high byte first
 abbrev pub word : List ℕ → ℕ → ℕ
@@ -72,4 +71,4 @@ guarded (some hs) = pick (distinct hs) (some hs) none
 
 -- the lines of a sound store, and none of another one (19); "An index or text over 65535 is 19"
 unfoldable pub decode : List ℕ → List ℕ → Option (List Held)
-decode i t = pick (leb (length i) bufferMax && leb (length t) bufferMax) (guarded (walk (suc (length i)) 0 i t)) none
+decode i t = pick (leb (length i) indexMax && leb (length t) textMax) (guarded (walk (suc (length i)) 0 i t)) none

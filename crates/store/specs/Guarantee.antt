@@ -11,13 +11,12 @@ use Rattle.text.specs.Bytes.{pick}
 use Rattle.text.specs.Utf8.{isUtf8}
 use Rattle.text.specs.declared.uuid.Uuid.{Uuid}
 use Rattle.text.specs.declared.uuid.UuidParse.the-variants.{Parsed}
-use Rattle.map.specs.Bounds.{lineMax}
+use Rattle.store.specs.Held.{lineMax, Key, Held, file}
 use Rattle.map.specs.Build.{builtLine, builtMap}
 use Rattle.store.specs.declared.calls.Answer.the-variants as A
 use Rattle.store.specs.declared.calls.SaveAnswer.the-variants as Sv
 use Rattle.store.specs.declared.calls.Saved.{Saved}
 use Rattle.store.specs.Lines.{linesOf, wanted}
-use Rattle.store.specs.Held.{Key, Held, file}
 use Rattle.store.specs.Decode.{decode}
 use Rattle.store.specs.Book.{noRoom, under, insertTurn, insertLines, Call, insert, save, Reply}
 use Rattle.store.specs.Book.{inserted, saved, numberOf, Run, runBook}

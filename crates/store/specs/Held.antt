@@ -9,8 +9,15 @@ use Rattle.text.specs.declared.uuid.Uuid.{Uuid}
 use Rattle.text.specs.Bytes.{pick}
 
 -- "two lent buffers, index and text, each of at most 65535 bytes"
-abbrev pub bufferMax : ℕ
-bufferMax = 65535
+abbrev pub indexMax : ℕ
+indexMax = 65535
+
+abbrev pub textMax : ℕ
+textMax = 65535
+
+-- "each length from 1 to 4096", "wanted line over 4096 bytes"
+abbrev pub lineMax : ℕ
+lineMax = 4096
 
 -- "a kind byte 1, then 20 bytes"
 abbrev pub recordSize : ℕ

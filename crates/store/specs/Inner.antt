@@ -15,7 +15,7 @@ use Rattle.store.specs.declared.calls.Answer.{Answer}
 use Rattle.store.specs.declared.calls.Answer.the-variants as A
 use Rattle.store.specs.declared.calls.SaveAnswer.the-variants as Sv
 use Rattle.store.specs.declared.calls.Saved.{Saved}
-use Rattle.store.specs.Held.{Key, Held, sameKey, strike, file, holds, distinct, bufferMax, recordSize}
+use Rattle.store.specs.Held.{Key, Held, sameKey, strike, file, holds, distinct, textMax, recordSize}
 use Rattle.store.specs.Layout.{Shape, Shapes, recordBytes, recordOf, records, texts, padded, encodeIndex}
 use Rattle.store.specs.Layout.{encodeText}
 use Rattle.store.specs.Decode.{headAt, decode}
@@ -86,7 +86,7 @@ pub record Lies (off : ℕ) (hs : List Held) (s : List ℕ) : Type 0 where
   pub more : ℕ
   pub is : s ≡ records off hs ++ replicate more 0
   pub shapes : Shapes hs
-  pub below : off + length (texts hs) ≤ bufferMax
+  pub below : off + length (texts hs) ≤ textMax
 
 -- lines that two buffers of n and m bytes can hold
 pub record Good (n m : ℕ) (hs : List Held) : Type 0 where

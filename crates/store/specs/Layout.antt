@@ -8,8 +8,7 @@ use mathlib.Core.List.{List, [], _∷_, _++_}
 use Prim.Native.Nat.{ℕ, _+_, _-_, _≤_, _<_}
 use lib.ListN.{length, replicate, getD}
 use Rattle.text.specs.Uuid.{bigEndian, uuidBytes, Small}
-use Rattle.store.specs.Held.{Key, Held, distinct, bufferMax}
-use Rattle.map.specs.Bounds.{lineMax}
+use Rattle.store.specs.Held.{Key, Held, distinct, indexMax, textMax, lineMax}
 
 -- a list of bytes: each number is below 256. A lent buffer always is one
 abbrev pub Bytes : List ℕ → Type 0
@@ -61,5 +60,5 @@ pub record Encodes (i t : List ℕ) (hs : List Held) : Type 0 where
   pub text : t ≡ encodeText (length t) hs
   pub once : distinct hs ≡ true
   pub shapes : Shapes hs
-  pub index-most : length i ≤ bufferMax
-  pub text-most : length t ≤ bufferMax
+  pub index-most : length i ≤ indexMax
+  pub text-most : length t ≤ textMax

@@ -16,7 +16,7 @@ use Rattle.store.specs.declared.soundness.Stock.{Stock}
 use Rattle.store.specs.declared.look.Seen.{Seen}
 use Rattle.store.specs.declared.batch.Step.{Step}
 use Rattle.store.specs.declared.batch.Walked.{Walked}
-use Rattle.store.specs.Held.{Key, Held, file, bufferMax}
+use Rattle.store.specs.Held.{Key, Held, file, indexMax, textMax, lineMax}
 use Rattle.store.specs.Decode.{walk, decode}
 use Rattle.store.specs.Book.{under, after, stopped, reach, insertTurn, insertLines}
 use Rattle.store.specs.Lines.{linesOf}
@@ -24,7 +24,6 @@ use Rattle.store.specs.Layout.{recordBytes, records, texts, encodeIndex,
 use Rattle.store.specs.Keys.{slots, keyAt, Says, Lists, Chained}
 use Rattle.store.specs.Inner.{known, Good, Fitted, room, sizes}
 use Rattle.store.specs.Store.{lookUp, saysOf, lineOf}
-use Rattle.map.specs.Bounds.{lineMax}
 
 -- the lines of the first n numbers, each of which gives one line or none
 unfoldable pub living : (ℕ → List Held) → ℕ → List Held
@@ -95,8 +94,8 @@ pub record Keepable (a : Table) (old : ℕ) : Type 0 where
   pub c : ℕ
   pub hs : List Held
   pub tabled : Tabled i t s a old c hs
-  pub index : length i ≤ bufferMax
-  pub text : length t ≤ bufferMax
+  pub index : length i ≤ indexMax
+  pub text : length t ≤ textMax
 
 abbrev pub Takes-up : List Held → ℕ → ℕ → Type 0
 Takes-up hs end used = (end ≡ sizes 0 hs) × (used ≡ length (texts hs))
@@ -158,7 +157,7 @@ pub record Slotted (i t s : List ℕ) (a : Table) (heads next : List ℕ) (old :
   pub chained : Chained (keyAt (a .highs) (a .lows)) heads next (f .count)
   pub end : f .end ≡ sizes 0 hs
   pub used : f .used ≡ length (texts hs)
-  pub limits : (length i ≤ bufferMax) × (length t ≤ bufferMax)
+  pub limits : (length i ≤ indexMax) × (length t ≤ textMax)
 
 -- the lines of a sound store are written down, all of them old
 abbrev pub Loads : List ℕ → Table → List ℕ → List ℕ → Fill → Type 0

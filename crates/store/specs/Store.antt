@@ -12,7 +12,7 @@ use Rattle.store.specs.declared.calls.Answer.the-variants as A
 use Rattle.store.specs.declared.calls.Inserted.{Inserted}
 use Rattle.store.specs.declared.calls.Look.{Look}
 use Rattle.store.specs.declared.calls.Look.the-variants as L
-use Rattle.store.specs.Held.{Key, Held, find, bufferMax}
+use Rattle.store.specs.Held.{Key, Held, find, indexMax, textMax}
 use Rattle.store.specs.Layout.{encodeIndex, encodeText}
 use Rattle.store.specs.Decode.{decode}
 use Rattle.store.specs.Book.{Turn, bookInsert, bookAttempt, Attempt, refused, files, Saving, Call}
@@ -43,7 +43,7 @@ onLines i t (some hs) e f = holding i t (f hs)
 
 -- both buffers are within the limit
 abbrev pub fitting : List ℕ → List ℕ → Bool
-fitting i t = leb (length i) bufferMax && leb (length t) bufferMax
+fitting i t = leb (length i) indexMax && leb (length t) textMax
 
 -- "Clear sets every byte of both buffers to 0, whether the store was sound or not."; "a buffer over 65535": 23
 unfoldable pub storeClear : List ℕ → List ℕ → Done Answer

@@ -6,8 +6,9 @@ use crate::saving::file_built;
 use crate::saving::refused_save;
 use crate::saving::saved_as;
 use crate::saving::unsaved_name;
-use crate::soundness::BUFFER_MAX;
+use crate::soundness::INDEX_MAX;
 use crate::soundness::LINE_MAX;
+use crate::soundness::TEXT_MAX;
 use crate::soundness::sound;
 use line::mapping::Mapping;
 use map::error::MappingAnswer;
@@ -83,10 +84,10 @@ pub fn clear(index: &mut [u8], text: &mut [u8]) -> Answer
         record { answer = r; index = now (index .exit); text = now (text .exit) }
         ≡ storeClear (now (index .entry)) (now (text .entry)) ⌝ }
 {
-    if BUFFER_MAX < index.len() {
+    if INDEX_MAX < index.len() {
         return Answer::BufferTooLarge;
     }
-    if BUFFER_MAX < text.len() {
+    if TEXT_MAX < text.len() {
         return Answer::BufferTooLarge;
     }
     zero_all(index);

@@ -8,7 +8,7 @@ ghost use mathlib.Core.Path.{_≡_};
 ghost use mathlib.Core.Bool.{true};
 ghost use Prim.Native.Nat.{ℕ, suc, _+_, _-_, _≤_, _<_};
 ghost use lib.ListN.{length, take, drop};
-ghost use Rattle.map.specs.Bounds.{lineMax};
+ghost use Rattle.store.specs.Held.{lineMax};
 ghost use Rattle.store.specs.Book.{under};
 ghost use Rattle.store.specs.Decode.{decode};
 ghost use Rattle.store.specs.Inner.{known, Files};

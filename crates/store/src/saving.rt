@@ -12,7 +12,7 @@ use text::uuid::Uuid;
 ghost use mathlib.Core.Path.{_≡_};
 ghost use Prim.Native.Nat.{_≤_};
 ghost use lib.ListN.{length};
-ghost use Rattle.map.specs.Bounds.{lineMax};
+ghost use Rattle.store.specs.Held.{lineMax};
 ghost use Rattle.store.specs.Book.{under};
 ghost use Rattle.store.specs.Inner.{storeFile, saidBy};
 ghost use Rattle.store.specs.Saves.{unsavedName, refusedSave};

@@ -8,7 +8,7 @@ ghost use mathlib.Core.Path.{_≡_};
 ghost use mathlib.Core.List.{List};
 ghost use Prim.Native.Nat.{ℕ, suc, _+_, _-_, _≤_, _<_};
 ghost use lib.ListN.{length, take, drop};
-ghost use Rattle.store.specs.Held.{bufferMax};
+ghost use Rattle.store.specs.Held.{indexMax};
 ghost use Rattle.store.specs.Keys.{slots, keyAt, Chained, Sought};
 ghost use Rattle.store.specs.Slots.{more, lenBefore, struckBefore, Ends, Fileable, FilesSlot};
 
@@ -84,7 +84,7 @@ fn strike_slot(lens: &mut [usize; SLOTS], r: usize)
 
 // Where the records end with one more of that key; a line of length `had` is struck out for it, or none where it is 0.
 fn end_with(end: usize, had: usize, key: Uuid) -> usize
-    requires { ⌜ end ≤ bufferMax ⌝ }
+    requires { ⌜ end ≤ indexMax ⌝ }
     ensures { λ r. ⌜ Ends end had key r ⌝ }
 {
     if had == 0 {

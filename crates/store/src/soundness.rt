@@ -16,15 +16,17 @@ ghost use mathlib.Core.List.{List, _∷_, _++_};
 ghost use Prim.Native.Nat.{ℕ, suc, _+_, _-_, _≤_, _<_};
 ghost use lib.ListN.{length, take, drop};
 ghost use Rattle.store.specs.Decode.{headFits, zeroes, decode};
-ghost use Rattle.store.specs.Held.{bufferMax};
+ghost use Rattle.store.specs.Held.{indexMax, textMax};
 ghost use Rattle.store.specs.Inner.{known};
 ghost use Rattle.store.specs.Keys.{keyAt, Chained};
 ghost use Rattle.store.specs.Slots.{Long, Surveys, Stocks};
 
-// The most bytes of a line, and of a buffer.
+// The most bytes of a line, of an index and of a text.
 pub const LINE_MAX: usize = 4096;
 
-pub const BUFFER_MAX: usize = 65535;
+pub const INDEX_MAX: usize = 65535;
+
+pub const TEXT_MAX: usize = 65535;
 
 // What a walk over a store shows: whether records and lines are those of some list, in which a key may stand twice;
 // whether one does, as far as chains told; and how much is in use.
@@ -78,7 +80,7 @@ pub fn survey(
     heads: &mut [u16; SLOTS],
     next: &mut [u16; SLOTS],
 ) -> Surveyed
-    requires { ⌜ (length (now index) ≤ bufferMax) × (length (now text) ≤ bufferMax) ⌝ }
+    requires { ⌜ (length (now index) ≤ indexMax) × (length (now text) ≤ textMax) ⌝ }
     requires { ⌜ Chained (keyAt (now highs) (now lows)) (now heads) (now next) 0 ⌝ }
     requires { ⌜ Long (record { highs = now highs; lows = now lows; starts = now starts; lens = now lens }) ⌝ }
     ensures { λ r. ⌜
@@ -172,10 +174,10 @@ pub fn take_stock(
           lens = now (lens .exit);
         }) (now (heads .exit)) (now (next .exit)) r ⌝ }
 {
-    if BUFFER_MAX < index.len() {
+    if INDEX_MAX < index.len() {
         return unsound();
     }
-    if BUFFER_MAX < text.len() {
+    if TEXT_MAX < text.len() {
         return unsound();
     }
     let seen = survey(index, text, highs, lows, starts, lens, heads, next);

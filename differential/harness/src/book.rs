@@ -2,7 +2,8 @@
 use crate::doc01;
 use crate::plain::{refusal, refusal_at, Map, Refusal, Slots, Uuid};
 
-pub const BUFFER_MAX: usize = 65535;
+pub const INDEX_MAX: usize = 65535;
+pub const TEXT_MAX: usize = 65535;
 pub const LINE_MAX: usize = 4096;
 pub const RECORD: usize = 21;
 
@@ -112,7 +113,7 @@ impl Book {
 
     /// The list that two buffers encode, or None where the store is not sound.
     pub fn of(index: &[u8], text: &[u8]) -> Option<Book> {
-        if index.len() > BUFFER_MAX || text.len() > BUFFER_MAX {
+        if index.len() > INDEX_MAX || text.len() > TEXT_MAX {
             return None;
         }
         let mut b = Book::new(index.len(), text.len());

@@ -1,5 +1,5 @@
 //! Histories of a store: each call's answer, both buffers after it, and the look-ups.
-use crate::book::{Book, BUFFER_MAX};
+use crate::book::{Book, INDEX_MAX, TEXT_MAX};
 use crate::check::{shown, Group, Tally};
 use crate::compare::{number, rust, AllSlots};
 use crate::near;
@@ -33,7 +33,7 @@ impl Sides {
 
     /// Whether the lengths are those of a store.
     pub fn sized(&self) -> bool {
-        self.book.index <= BUFFER_MAX && self.book.text <= BUFFER_MAX
+        self.book.index <= INDEX_MAX && self.book.text <= TEXT_MAX
     }
 
     fn buffers(&self, t: &mut Tally) {
