@@ -38,8 +38,8 @@ extern "C" {
 
 #define RASPTEAL_CODES_MAX 256    /* codes in a map */
 #define RASPTEAL_LIST_MAX 1024    /* codes in a list of buttons or axes */
-#define RASPTEAL_NAME_MAX 2048    /* bytes of a name */
-#define RASPTEAL_LINE_MAX 4096    /* bytes of a stored line */
+#define RASPTEAL_NAME_MAX 8192    /* bytes of a name */
+#define RASPTEAL_LINE_MAX 16384   /* bytes of a stored line */
 #define RASPTEAL_INDEX_MAX 65535  /* bytes of an index */
 #define RASPTEAL_TEXT_MAX 65535   /* bytes of a text */
 #define RASPTEAL_BUTTONS 20       /* slots for buttons */
@@ -404,7 +404,7 @@ raspteal_changed raspteal_data_remove_button(raspteal_data data, uint16_t button
 raspteal_changed raspteal_data_remove_axis(raspteal_data data, uint16_t axis);
 
 /* Builds the line of the filled slots and writes it at the start of out; later bytes of out stay as they are, and all
- * of them do on a refusal: 10, 17, 12, 13, 14, 15, 16, 18. 2400 bytes hold every line. */
+ * of them do on a refusal: 10, 17, 12, 13, 14, 15, 16, 18. 8544 bytes hold every line. */
 raspteal_built raspteal_from_data(raspteal_data data, const uint32_t *buttons, size_t buttons_len,
                                   const uint32_t *axes, size_t axes_len, const uint8_t *name, size_t name_len,
                                   raspteal_uuid id, uint8_t *out, size_t out_len);

@@ -102,10 +102,10 @@ static inline const char *raspteal_meaning(uint8_t number) {
     case 14: return "the element is Unknown";
     case 15: return "the code is not in its list";
     case 16: return "no mapping line can name this axis";
-    case 17: return "the name has more than 2048 bytes";
+    case 17: return "the name has more than 8192 bytes";
     case 18: return "the output is too short";
     case 19: return "not a sound store";
-    case 20: return "a wanted line of more than 4096 bytes";
+    case 20: return "a wanted line of more than 16384 bytes";
     case 21: return "no room in the store";
     case 22: return "the name has a line end or platform:";
     case 23: return "a buffer of more than 65535 bytes";

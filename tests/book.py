@@ -7,7 +7,7 @@ import sys
 BUTTONS = [None, "a", "b", "c", "y", "x", "z", "leftshoulder", "rightshoulder", "lefttrigger", "righttrigger", "back",
            "start", "guide", "leftstick", "rightstick", "dpup", "dpdown", "dpleft", "dpright"]
 AXES = [None, "leftx", "lefty", "leftz", "rightx", "righty", "rightz"]
-INDEX_MAX, TEXT_MAX, LINE_MAX, NAME_MAX, LIST_MAX = 65535, 65535, 4096, 2048, 1024
+INDEX_MAX, TEXT_MAX, LINE_MAX, NAME_MAX, LIST_MAX = 65535, 65535, 16384, 8192, 1024
 
 
 # ---- text

@@ -20,7 +20,7 @@ from collections import namedtuple
 from ctypes import POINTER, c_bool, c_int16, c_size_t, c_uint8, c_uint16, c_uint32, c_uint64
 from pathlib import Path
 
-CODES_MAX, LINE_MAX, INDEX_MAX, TEXT_MAX, BUTTONS, AXES = 256, 4096, 65535, 65535, 20, 9
+CODES_MAX, LINE_MAX, INDEX_MAX, TEXT_MAX, BUTTONS, AXES = 256, 16384, 65535, 65535, 20, 9
 LOWER_HALF, UPPER_HALF, FULL = 0, 1, 2
 
 MEANINGS = {
@@ -40,10 +40,10 @@ MEANINGS = {
     14: "the element is Unknown",
     15: "the code is not in its list",
     16: "no mapping line can name this axis",
-    17: "the name has more than 2048 bytes",
+    17: "the name has more than 8192 bytes",
     18: "the output is too short",
     19: "not a sound store",
-    20: "a wanted line of more than 4096 bytes",
+    20: "a wanted line of more than 16384 bytes",
     21: "no room in the store",
     22: "the name has a line end or platform:",
     23: "a buffer of more than 65535 bytes",

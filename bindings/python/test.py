@@ -76,7 +76,7 @@ class Cases(unittest.TestCase):
         self.refused(14, build, {Element(False, 0): 5}, [5], [], "T", ONE)
         self.refused(15, build, {"a": 5}, [], [], "T", ONE, code=5)
         self.refused(16, build, {Element(True, 7): 5}, [], [5], "T", ONE)
-        self.refused(17, build, {}, [], [], "n" * 2049, ONE)
+        self.refused(17, build, {}, [], [], "n" * 8193, ONE)
 
     def test_store(self):
         store = Store()
@@ -118,7 +118,7 @@ class Cases(unittest.TestCase):
         self.refused(10, store.insert, b"\xff", place=0)
         stopped = self.refused(21, store.insert, f"{U}\n{ONE}\n{Uuid('2' * 32)}")
         self.assertEqual((stopped.count, store.found(ONE)), (1, False))
-        self.refused(20, Store().insert, U + "," + "n" * 4064)
+        self.refused(20, Store().insert, U + "," + "n" * 16352)
         self.refused(23, Store(bytes(2 * 65536)).clear)
         self.assertRaises(ValueError, Store, b"x")
 

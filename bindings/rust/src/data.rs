@@ -4,7 +4,7 @@ use crate::ffi::{self, safe};
 use crate::{Axis, Button, Code, Mapping, Uuid};
 
 /// The longest line that a build makes fits.
-const BUILT_MAX: usize = 2400;
+const BUILT_MAX: usize = 8544;
 
 /// The bindings of a pad: for each button and axis the code of its slot, if it is filled.
 ///
@@ -85,7 +85,7 @@ impl MappingData {
     }
 
     /// Builds the line at the start of a buffer, and hands back its length; later bytes stay as they are, and all do
-    /// on a refusal. Refusals: those of [`MappingData::build`], then 18. 2400 bytes hold every line.
+    /// on a refusal. Refusals: those of [`MappingData::build`], then 18. 8544 bytes hold every line.
     pub fn build_into(
         &self,
         buttons: &[Code],

@@ -81,13 +81,13 @@ pub enum Error {
     InvalidCode(Code),
     /// 16: axis slot 7 or 8 is filled.
     NotSdl2Compatible,
-    /// 17: a name of more than 2048 bytes.
+    /// 17: a name of more than 8192 bytes.
     NameTooLong,
     /// 18: an output shorter than the line.
     OutputTooShort,
     /// 19: the store is not sound, or a buffer has more than 65535 bytes.
     Unsound,
-    /// 20: a wanted line of more than 4096 bytes.
+    /// 20: a wanted line of more than 16384 bytes.
     LineTooLong,
     /// 21: no room.
     NoRoom,
@@ -204,10 +204,10 @@ impl Error {
             Error::UnknownElement => "the element is Unknown",
             Error::InvalidCode(_) => "the code is not in its list",
             Error::NotSdl2Compatible => "no mapping line can name this axis",
-            Error::NameTooLong => "the name has more than 2048 bytes",
+            Error::NameTooLong => "the name has more than 8192 bytes",
             Error::OutputTooShort => "the output is too short",
             Error::Unsound => "not a sound store",
-            Error::LineTooLong => "a wanted line of more than 4096 bytes",
+            Error::LineTooLong => "a wanted line of more than 16384 bytes",
             Error::NoRoom => "no room in the store",
             Error::UnsavedName => "the name has a line end or platform:",
             Error::BufferTooLarge => "a buffer of more than 65535 bytes",

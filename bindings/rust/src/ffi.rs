@@ -10,8 +10,8 @@ pub const AXES: usize = 9;
 pub const IDENT_MAX: usize = 13;
 pub const KEYS: usize = 512;
 pub const LIST_MAX: usize = 1024;
-pub const NAME_MAX: usize = 2048;
-pub const LINE_MAX: usize = 4096;
+pub const NAME_MAX: usize = 8192;
+pub const LINE_MAX: usize = 16384;
 pub const INDEX_MAX: usize = 65535;
 pub const TEXT_MAX: usize = 65535;
 

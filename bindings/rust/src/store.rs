@@ -84,7 +84,7 @@ impl<B: AsRef<[u8]>> Store<B> {
             return Ok(None);
         }
         let mut line = vec![0; LINE_MAX];
-        let len = self.get_into(id, &mut line).expect("a held line has at most 4096 bytes");
+        let len = self.get_into(id, &mut line).expect("a held line has at most 16384 bytes");
         line.truncate(len);
         Ok(Some(line))
     }
@@ -113,7 +113,7 @@ impl<B: AsRef<[u8]>> Store<B> {
             return Ok(None);
         };
         let mut line = vec![0; LINE_MAX];
-        let len = self.get_near_into(id, &mut line).expect("a held line has at most 4096 bytes");
+        let len = self.get_near_into(id, &mut line).expect("a held line has at most 16384 bytes");
         line.truncate(len);
         Ok(Some(match found {
             Match::Exact(()) => Match::Exact(line),

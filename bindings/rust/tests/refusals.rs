@@ -122,8 +122,8 @@ fn builds_13_to_18() {
         expect(build(&pad, &buttons, &axes, "T"), 16, None, None);
     }
 
-    expect(build(&south(5), &buttons, &axes, "n".repeat(2049)), 17, None, None);
-    assert!(south(5).build(&buttons, &axes, "n".repeat(2048), Uuid::NIL).is_ok());
+    expect(build(&south(5), &buttons, &axes, "n".repeat(8193)), 17, None, None);
+    assert!(south(5).build(&buttons, &axes, "n".repeat(8192), Uuid::NIL).is_ok());
 
     let mut out = [7; 39];
     expect(south(5).build_into(&buttons, &axes, "T", Uuid::NIL, &mut []).unwrap_err(), 18, None, None);
@@ -155,15 +155,15 @@ fn stores_19() {
 #[test]
 fn inserts_20_and_21() {
     let mut store = Store::new(63, 65535);
-    let long = format!("{U},{}", "n".repeat(4097 - 33));
+    let long = format!("{U},{}", "n".repeat(16385 - 33));
     let refused =
         store.insert(format!("# list\n00000000000000000000000000000001,T\n{long}\nnever reached")).unwrap_err();
     expect(refused.error, 20, None, None);
     assert_eq!(refused.count, 2);
     assert!(store.found(Uuid::from_u128(1)).unwrap() && !store.found(Uuid::NIL).unwrap());
-    assert_eq!(refused.to_string(), "refused 20: a wanted line of more than 4096 bytes, after 2 lines");
+    assert_eq!(refused.to_string(), "refused 20: a wanted line of more than 16384 bytes, after 2 lines");
     assert_eq!(std::error::Error::source(&refused).unwrap().to_string(), refused.error.to_string());
-    assert_eq!(store.insert(&long[..4096]), Ok(1));
+    assert_eq!(store.insert(&long[..16384]), Ok(1));
 
     let mut store = Store::new(20, 100);
     expect(store.insert(format!("{U},T")).unwrap_err().error, 21, None, None);

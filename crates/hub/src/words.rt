@@ -33,10 +33,10 @@ the name has a comma
 the element is Unknown
 the code is not in its list
 no mapping line can name this axis
-the name has more than 2048 bytes
+the name has more than 8192 bytes
 the output is too short
 not a sound store
-a wanted line of more than 4096 bytes
+a wanted line of more than 16384 bytes
 no room in the store
 the name has a line end or platform:
 a buffer of more than 65535 bytes",

@@ -1,4 +1,4 @@
--- How long a built line is, where build's checks pass: at most 2400 bytes, a bound made of the limits by name.
+-- How long a built line is, where build's checks pass: at most 8544 bytes, a bound made of the limits by name.
 -- Assumes nothing.
 use Prim.Native.Nat.{ℕ, zero, suc, _+_, _-_, _<_, _≤_}
 use mathlib.Core.Path.{_≡_, refl}
@@ -94,8 +94,8 @@ module _ (d : MappingData) (buttons axes name : List ℕ) (p : Passed d buttons 
   built-most uuid =
       omega (arith, line-length d buttons axes name uuid, p .short, buttons-most, axes-most)
 
--- 34 + 2048 + 143 + 25 × 7
-pub built-max : builtMax ≡ 2400
+-- 34 + 8192 + 143 + 25 × 7
+pub built-max : builtMax ≡ 8544
 unfolding builtMax pairsMax decimal digits axesSdl axes elementRow elementFrom
 built-max = refl
 

@@ -88,9 +88,9 @@ builtMap d name = toMap (builtView d name)
 
 -- ---- the checks: "Build 10, 17, 12, 13, 14 for the button, 15 for buttons ascending, 14 for the axis, 15 ascending,
 -- 16, 18", one line for each below; 18 stands in `answerOf`
--- 17: "name over 2048 bytes"
+-- 17, "name over 2048 bytes"; P6: "the name limit from 2048 to 8192"
 abbrev pub NAME_MAX : ℕ
-NAME_MAX = 2048
+NAME_MAX = 8192
 
 -- a check: refused with e unless (when) the test holds, else as the rest says
 abbrev pub unless : Bool → MappingError → MappingAnswer → MappingAnswer

@@ -110,7 +110,7 @@ lengthOf buttons first axes last name =
 
 -- an output of `room` bytes is too short for n, unless it holds every line
 abbrev pub BUILT_MAX : ℕ
-BUILT_MAX = 2400
+BUILT_MAX = 8544
 
 abbrev pub shortOf : ℕ → ℕ → Bool
 shortOf room n = pick (leb BUILT_MAX room) false (ltb room n)

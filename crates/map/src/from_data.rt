@@ -19,7 +19,7 @@ ghost use mathlib.Core.Path.{_≡_};
 ghost use Rattle.map.specs.Build.{refusedBuild, Builds};
 
 // The longest name, in bytes.
-pub const NAME_MAX: usize = 2048;
+pub const NAME_MAX: usize = 8192;
 
 // The place of the name in a line: after 32 digits and a comma.
 const NAME_START: usize = 33;

@@ -115,7 +115,7 @@ pub fn first(s: &[u8], n: usize) -> &[u8] {
 pub fn build_case(args: &[u8]) -> bool {
     let uuid = rest(args);
     let slots = rest(uuid);
-    let mut line = [0u8; 4096];
+    let mut line = [0u8; 16384];
     let built = from_data(
         slots_of(word(slots)),
         &BUTTONS,

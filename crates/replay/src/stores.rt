@@ -12,7 +12,7 @@ use text::bytes::same_bytes;
 use text::bytes::write_bytes;
 
 // The most bytes of a text that is inserted.
-const TEXT_MAX: usize = 8192;
+const TEXT_MAX: usize = 20480;
 
 fn is_done(a: Answer) -> bool {
     match a {

@@ -24,7 +24,7 @@ use text::uuid::Uuid;
 use text::uuid::UuidParse;
 
 // The output is the end of so many dots.
-const DOTS: usize = 4096;
+const DOTS: usize = 16384;
 
 // A name of so many times one byte.
 fn repeated(n: usize, b: u8) -> Text {
@@ -43,7 +43,7 @@ fn first_byte(s: &[u8]) -> u8 {
     space[0]
 }
 
-// The name that a case spells: as it stands; `*2048 6E` is 2048 times the byte 6E; `\2CFF` is those bytes.
+// The name that a case spells: as it stands; `*8192 6E` is 8192 times the byte 6E; `\2CFF` is those bytes.
 fn name_of(s: &[u8]) -> Text {
     if s.len() == 0 {
         return Text::new();

@@ -1,8 +1,8 @@
-// A text of at most 4096 bytes that is written piece by piece: what the library answered, or a line of a case.
+// A text of at most 8704 bytes that is written piece by piece: what the library answered, or a line of a case.
 use line::ev::AxisOrBtn;
 use text::bytes::same_bytes;
 
-const ROOM: usize = 4096;
+const ROOM: usize = 8704;
 
 pub struct Text {
     pub bytes: [u8; ROOM],

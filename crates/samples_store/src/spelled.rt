@@ -6,7 +6,7 @@ use crate::fields::part_at;
 use crate::fields::unhex;
 use crate::fields::uuid;
 
-const ROOM: usize = 8192;
+const ROOM: usize = 16640;
 
 pub struct Text {
     pub bytes: [u8; ROOM],

@@ -33,6 +33,7 @@ pub mod BatchLaws
 pub mod OneLaws
 pub mod SaveLaws
 pub mod EncodesLaws
+pub mod OlderLaws
 pub mod StoreLaws
 pub mod FilingsLaws
 pub mod NextLaws

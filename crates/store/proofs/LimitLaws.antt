@@ -1,4 +1,4 @@
--- "20: wanted line over 4096 bytes" never meets a save: the longest line that is built is within the limit of a line.
+-- 20, a wanted line over the limit, never meets a save: the longest line that is built has 8544 bytes.
 -- Assumes nothing.
 use mathlib.Core.List.{List}
 use mathlib.Core.Path.{_≡_}

@@ -203,13 +203,14 @@ module _ where
   unfolding decode walk headAt headFits bodyAt zeroes distinct recordBytes bigEndian rec one
   length-zero = refl
 
-  length-4097 : decode (rec one 0 4097) (replicate 4097 97) ≡ none
+  length-16385 : decode (rec one 0 16385) (replicate 16385 97) ≡ none
   unfolding decode walk headAt headFits bodyAt zeroes distinct recordBytes bigEndian rec one
-  length-4097 = refl
+  length-16385 = refl
 
-  length-4096 : decode (rec one 0 4096) (replicate 4096 97) ≡ some (under one (replicate 4096 97) ∷ [])
+  -- one byte more than the first hub took
+  length-4097 : decode (rec one 0 4097) (replicate 4097 97) ≡ some (under one (replicate 4097 97) ∷ [])
   unfolding decode walk headAt headFits bodyAt zeroes distinct holds recordBytes bigEndian rec one
-  length-4096 = refl
+  length-4097 = refl
 
 -- ---- inserts
 

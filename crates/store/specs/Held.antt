@@ -15,9 +15,19 @@ indexMax = 65535
 abbrev pub textMax : ℕ
 textMax = 65535
 
--- "each length from 1 to 4096", "wanted line over 4096 bytes"
+-- P6: "The line limit goes from 4096 to 16384": of "each length from 1 to 4096" and "wanted line over 4096 bytes"
 abbrev pub lineMax : ℕ
-lineMax = 4096
+lineMax = 16384
+
+-- the limits of a store as one value: the most bytes of a line, an index and a text
+pub record Limits : Type 0 where
+  pub line : ℕ
+  pub index : ℕ
+  pub text : ℕ
+
+-- those of this hub
+abbrev pub current : Limits
+current = record { line = lineMax; index = indexMax; text = textMax }
 
 -- "a kind byte 1, then 20 bytes"
 abbrev pub recordSize : ℕ

@@ -136,7 +136,7 @@ saidBy m A.LineTooLong = refusedSave Sv.Unsound
 saidBy m A.NoRoom = refusedSave Sv.NoRoom
 saidBy m A.BufferTooLarge = refusedSave Sv.Unsound
 
--- what the layer that builds owes: a line that is attempted has from 1 to 4096 bytes, and reads back
+-- what the layer that builds owes: a line that is attempted has from 1 to `lineMax` bytes, and reads back
 pub record Builds (S : Saving) : Type 0 where
   pub shape : (a : S .Args) (h : Held) (v : S .Value) → S .attempt a ≡ files h v → Shape h
   pub reads : (a : S .Args) (h : Held) (v : S .Value) → S .attempt a ≡ files h v → S .Reads a (h .line) v

@@ -8,7 +8,7 @@ use mathlib.Core.List.{List, [], _∷_, _++_}
 use Prim.Native.Nat.{ℕ, _+_, _-_, _≤_, _<_}
 use lib.ListN.{length, replicate, getD}
 use Rattle.text.specs.Uuid.{bigEndian, uuidBytes, Small}
-use Rattle.store.specs.Held.{Key, Held, distinct, indexMax, textMax, lineMax}
+use Rattle.store.specs.Held.{Key, Held, distinct, lineMax, Limits, current}
 
 -- a list of bytes: each number is below 256. A lent buffer always is one
 abbrev pub Bytes : List ℕ → Type 0
@@ -43,22 +43,32 @@ encodeIndex n hs = padded n (records 0 hs)
 unfoldable pub encodeText : ℕ → List Held → List ℕ
 encodeText m hs = padded m (texts hs)
 
--- "each length from 1 to 4096", and a UUID of 128 bits
-pub record Shape (h : Held) : Type 0 where
+-- "each length from 1 to" the limit of a line, and a UUID of 128 bits
+pub record ShapeWithin (limit : ℕ) (h : Held) : Type 0 where
   pub key : Small (h .key)
   pub some : 1 ≤ length (h .line)
-  pub most : length (h .line) ≤ lineMax
+  pub most : length (h .line) ≤ limit
 
-abbrev pub Shapes : List Held → Type 0
-Shapes [] = Unit {0}
-Shapes (h ∷ hs) = Shape h × Shapes hs
+abbrev pub ShapesWithin : ℕ → List Held → Type 0
+ShapesWithin limit [] = Unit {0}
+ShapesWithin limit (h ∷ hs) = ShapeWithin limit h × ShapesWithin limit hs
 
--- "A store is sound exactly when it encodes some list with no UUID twice and each length from 1 to 4096.": it encodes
--- this one
-pub record Encodes (i t : List ℕ) (hs : List Held) : Type 0 where
+-- "A store is sound exactly when it encodes some list with no UUID twice and each length from 1 to" the limit, "index
+-- and text, each of at most" so many bytes: within these limits it encodes this list
+pub record EncodesWithin (w : Limits) (i t : List ℕ) (hs : List Held) : Type 0 where
   pub index : i ≡ encodeIndex (length i) hs
   pub text : t ≡ encodeText (length t) hs
   pub once : distinct hs ≡ true
-  pub shapes : Shapes hs
-  pub index-most : length i ≤ indexMax
-  pub text-most : length t ≤ textMax
+  pub shapes : ShapesWithin (w .line) hs
+  pub index-most : length i ≤ w .index
+  pub text-most : length t ≤ w .text
+
+-- the same within the limits of this hub
+abbrev pub Shape : Held → Type 0
+Shape h = ShapeWithin lineMax h
+
+abbrev pub Shapes : List Held → Type 0
+Shapes hs = ShapesWithin lineMax hs
+
+abbrev pub Encodes : List ℕ → List ℕ → List Held → Type 0
+Encodes i t hs = EncodesWithin current i t hs

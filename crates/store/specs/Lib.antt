@@ -11,6 +11,7 @@ pub mod Saves
 pub mod Filings
 pub mod Guarantee
 pub mod Promises
+pub mod Older
 pub mod Near
 -- what private functions and proofs need
 pub mod Inner

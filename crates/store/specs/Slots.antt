@@ -196,7 +196,7 @@ struckBefore lens r = pick (eqb r 0) lens (set lens (r - 1) 0)
 abbrev pub Ends : ℕ → ℕ → Key → ℕ → Type 0
 Ends end had u r = (off len : ℕ) → r ≡ pick (eqb had 0) (end + length (recordBytes u off len)) end
 
--- "each length from 1 to 4096"
+-- "each length from 1 to" the limit of a line
 pub record Short (l : List ℕ) : Type 0 where
   pub some : 1 ≤ length l
   pub most : length l ≤ lineMax

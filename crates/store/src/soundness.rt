@@ -22,7 +22,7 @@ ghost use Rattle.store.specs.Keys.{keyAt, Chained};
 ghost use Rattle.store.specs.Slots.{Long, Surveys, Stocks};
 
 // The most bytes of a line, of an index and of a text.
-pub const LINE_MAX: usize = 4096;
+pub const LINE_MAX: usize = 16384;
 
 pub const INDEX_MAX: usize = 65535;
 

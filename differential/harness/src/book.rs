@@ -4,7 +4,7 @@ use crate::plain::{refusal, refusal_at, Map, Refusal, Slots, Uuid};
 
 pub const INDEX_MAX: usize = 65535;
 pub const TEXT_MAX: usize = 65535;
-pub const LINE_MAX: usize = 4096;
+pub const LINE_MAX: usize = 16384;
 pub const RECORD: usize = 21;
 
 /// The lines of a text: cut at LF, one CR before it dropped, nothing after a final LF.

@@ -4,7 +4,7 @@ use crate::plain::{refusal, refusal_at, Entry, Map, Refusal, Slots, Tok, Uuid, A
 
 pub const CODES_MAX: usize = 256;
 pub const LIST_MAX: usize = 1024;
-pub const NAME_MAX: usize = 2048;
+pub const NAME_MAX: usize = 8192;
 
 pub const NAMES: [(&str, u16); 35] = [
     ("a", 1), ("b", 2), ("back", 11), ("c", 3), ("dpdown", 17), ("dpleft", 18), ("dpright", 19), ("dpup", 16),

@@ -244,12 +244,14 @@ pub fn damage_bytes(r: &mut Rng, s: &mut [u8]) {
     }
 }
 
-/// A text for insert, at times not UTF-8, at times with a line about as long as the limit.
+/// A text for insert, at times not UTF-8, at times with a line about as long as the limit, or as the first hub's.
 pub fn bytes(r: &mut Rng) -> Vec<u8> {
     let mut t = text(r).into_bytes();
     if r.one_in(20) {
         let mut l = format!("{:032x},", r.below(6)).into_bytes();
-        l.resize(4094 + r.below(5), b'n');
+        let between = 4097 + r.below(12288);
+        let len = r.pick(&[4094, 16382, between]) + r.below(5);
+        l.resize(len, b'n');
         t.push(b'\n');
         t.extend_from_slice(&l);
     }
@@ -289,8 +291,8 @@ pub fn any_bytes(r: &mut Rng) -> Vec<u8> {
 /// A name for build and save: good, or with what is refused.
 pub fn name(r: &mut Rng) -> Vec<u8> {
     let mut s = match r.below(12) {
-        0 => "n".repeat(2047 + r.below(3)),
-        1 => "é".repeat(1023 + r.below(3)),
+        0 => "n".repeat(r.pick(&[2047, 4096, 8191]) + r.below(3)),
+        1 => "é".repeat(r.pick(&[1023, 4095]) + r.below(3)),
         2 => r.pick(&["platform:", "xplatform:Linux", "platform", "Pad\nTwo", "Pad\rTwo", "platform:Linux", ":platform"]).into(),
         3 => soup(r, 10),
         _ => r.pick(&["Pad", "", "Pad é", "a:b1", "xinput", "𝄞", "0"]).into(),

@@ -1,4 +1,5 @@
 //! The look-up of a UUID that may carry a checksum (document 02, P5), of the port and over each store of a history.
+use crate::book::LINE_MAX;
 use crate::check::{Group, Tally};
 use crate::compare::number;
 use crate::doc02;
@@ -10,7 +11,7 @@ use crate::stores::Sides;
 /// How a line is held under a UUID (0 not, 1 exact, 2 near), and the line, by both calls.
 pub fn look_near(store: &Store, uuid: Uuid) -> Result<(u8, Vec<u8>), Refusal> {
     let (i, t) = (&store.index, &store.text);
-    let mut out = [0xee; 4100];
+    let mut out = [0xee; LINE_MAX + 4];
     let (look, line) = unsafe {
         (
             ffi::raspteal_store_found_near(i.as_ptr(), i.len(), t.as_ptr(), t.len(), id(uuid)),

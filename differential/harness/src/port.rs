@@ -1,4 +1,5 @@
 //! The proved library on plain data, through bindings/raspteal.h.
+use crate::book::LINE_MAX;
 use crate::ffi;
 use crate::plain::{Entry, Map, Refusal, Slots, Tok, Uuid, AXIS, FULL};
 
@@ -368,7 +369,7 @@ impl Store {
     /// The line under a UUID, by both calls.
     pub fn look_up(&self, uuid: Uuid) -> Result<Option<Vec<u8>>, Refusal> {
         let (i, t) = (&self.index, &self.text);
-        let mut out = [0xee; 4100];
+        let mut out = [0xee; LINE_MAX + 4];
         let (look, line) = unsafe {
             (
                 ffi::raspteal_store_found(i.as_ptr(), i.len(), t.as_ptr(), t.len(), id(uuid)),
@@ -394,7 +395,7 @@ impl Store {
 
 /// The length of a line that was copied to the start of a buffer of ee; the bytes after it are as they were.
 pub fn copied(w: ffi::Written, out: &[u8]) -> usize {
-    let len = written(w).expect("a line over 4100 bytes");
+    let len = written(w).expect("a line over the limit");
     assert!(out[len..].iter().all(|b| *b == 0xee), "bytes after the line changed");
     len
 }

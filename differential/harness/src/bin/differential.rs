@@ -99,14 +99,14 @@ fn one_build(t: &mut Tally, r: &mut Rng, b: &[u32], a: &[u32]) {
     if r.one_in(10) {
         s.read(t);
     }
-    let room = if r.one_in(8) { r.below(120) } else { 2500 };
+    let room = if r.one_in(8) { r.below(120) } else { 9000 };
     compare::build(t, &s, b, a, &gen::name(r), [r.next() as u8; 16], room);
 }
 
 /// A history of clear, insert and save calls from a fresh store, with look-ups.
 fn one_store(t: &mut Tally, r: &mut Rng) {
     let (index, text) = if r.one_in(2) {
-        (r.pick(&[2100, 4200]), r.pick(&[4096, 8000]))
+        (r.pick(&[2100, 4200]), r.pick(&[4096, 8000, 20000, 40000]))
     } else {
         (r.pick(&[0, 20, 21, 41, 42, 63, 84, 210]), r.pick(&[0, 33, 40, 100, 400, 1000]))
     };
@@ -254,7 +254,7 @@ mod fixed {
                 compare::default(t, b, a);
                 let mut s = AllSlots::new();
                 s.insert(t, 1, 0x10100 + 1022);
-                for name in [&b"T"[..], b",", b"\xff", &[b'n'; 2049]] {
+                for name in [&b"T"[..], b",", b"\xff", &[b'n'; 8193]] {
                     compare::build(t, &s, b, a, name, [1; 16], 3000);
                 }
             }
@@ -273,9 +273,9 @@ mod fixed {
             full.insert(t, AXIS + k, 0x200 + k as u32);
         }
         full.read(t);
-        for n in [0, 1, 2047, 2048, 2049] {
+        for n in [0, 1, 2047, 2048, 2049, 8191, 8192, 8193] {
             let name = vec![b'n'; n];
-            compare::build(t, &full, &b, &a, &name, [0xab; 16], 4000);
+            compare::build(t, &full, &b, &a, &name, [0xab; 16], 9000);
             let len = 34 + n + 143 + 25 * 4;
             for room in [0, len - 26, len - 17, len - 16, len - 15, len - 1, len, len + 1] {
                 compare::build(t, &full, &b, &a, &name, [0xab; 16], room);
@@ -297,12 +297,12 @@ mod fixed {
     /// Lengths of lines and buffers, filing twice, and names that are not saved.
     fn stores(t: &mut Tally) {
         let id = |k: usize| format!("{k:032x}");
-        for n in [4095, 4096, 4097] {
+        for n in [4095, 4096, 4097, 16383, 16384, 16385] {
             for end in ["", "\r", "\n", "\r\n", "\r\r\n", "\nx"] {
                 for platform in ["", ",platform:Linux", ",platform:Windows"] {
                     let mut l = format!("{},{}", id(1), "n".repeat(n - 33 - platform.len()));
                     l += platform;
-                    let mut s = Sides::fresh(63, 9000);
+                    let mut s = Sides::fresh(63, 33000);
                     s.insert(t, format!("{},a\n{l}{end}", id(2)).as_bytes());
                     s.look_up(t);
                 }
