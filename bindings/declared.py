@@ -6,7 +6,7 @@ from pathlib import Path
 
 NUMBERS = {"u8": "uint8_t", "u16": "uint16_t", "u32": "uint32_t", "u64": "uint64_t", "i16": "int16_t", "usize": "size_t", "bool": "bool"}
 LIMITS = ["CODES_MAX", "LIST_MAX", "NAME_MAX", "LINE_MAX", "INDEX_MAX", "TEXT_MAX", "BUTTONS", "AXES", "IDENT_MAX",
-          "KEYS"]
+          "KEYS", "HELD_MAX", "ELEMENTS"]
 
 # Numbers of ctypes; size_t and uint64_t are the same one.
 PLAIN = {ctypes.c_uint8: "uint8_t", ctypes.c_uint16: "uint16_t", ctypes.c_uint32: "uint32_t", ctypes.c_int16: "int16_t"}
@@ -100,11 +100,10 @@ def python():
     place where it loads the library is read."""
     names = {}
     exec(Path("bindings/python/raspteal.py").read_text().split("\ndef library():", 1)[0], names)
-    sizes = {f"[{names[n]}]": f"[{n}]" for n in ("CODES_MAX", "BUTTONS", "AXES")} | {"[13]": "[IDENT_MAX]"}
 
     def kind(c):
         if hasattr(c, "_length_"):
-            return kind(c._type_) + sizes[f"[{c._length_}]"]
+            return kind(c._type_) + f"[{c._length_}]"
         if hasattr(c, "contents"):
             return kind(c._type_) + " *"
         if issubclass(c, ctypes.Structure):
@@ -119,14 +118,15 @@ def python():
     return structs, calls, limits, {str(number): told for number, told in names["MEANINGS"].items()}
 
 
-def wide(kind):
-    """A type as Python tells it: size_t and uint64_t are one there, and it knows no const."""
+def wide(kind, sizes):
+    """A type as Python tells it: size_t and uint64_t are one there, it knows no const, and a length is a number."""
+    kind = re.sub(r"\[(\w+)\]", lambda m: f"[{sizes.get(m[1], m[1])}]", kind)
     return kind.replace("const ", "").replace("size_t", "uint64_t")
 
 
 def limits():
     """Each limit as the crates, the header and the Rust crate have it."""
-    sources = [p for layer in ("line", "map", "store") for p in Path(f"crates/{layer}/src").rglob("*.rt")]
+    sources = [p for layer in ("line", "map", "store", "pad") for p in Path(f"crates/{layer}/src").rglob("*.rt")]
     crates = "\n".join(p.read_text() for p in sources)
     header, ffi = Path("bindings/raspteal.h").read_text(), Path("bindings/rust/src/ffi.rs").read_text()
     for name in LIMITS:
@@ -199,12 +199,13 @@ def main():
     for number, told in words():
         check(told[0] is not None and len(set(told)) == 1, f"refusal {number}: hub, header, crate, module: {told}")
     shapes, asked, sizes, _ = python()
+    lengths = {name: "".join(told[1]) for name, told in limits()}
     for name, fields in sorted(shapes.items()):
-        right = [(field, wide(kind)) for field, kind in (header.get(name) or [[]])[0]]
+        right = [(field, wide(kind, lengths)) for field, kind in (header.get(name) or [[]])[0]]
         check(fields == right, f"{name}: Python {fields}, header {right}")
     for name, told in sorted(asked.items()):
         arguments, result = prototypes.get(name, ([], ""))
-        right = ([wide(kind) for _, kind in arguments], wide(result))
+        right = ([wide(kind, lengths) for _, kind in arguments], wide(result, lengths))
         check(told == right, f"{name}: Python {told}, header {right}")
     for name, told in limits():
         check(sizes.get(name, told[1]) == told[1], f"{name}: Python {sizes.get(name)}, header {told[1]}")

@@ -20,7 +20,7 @@
  *   A code is an event code of the pad, 32 bits (10130 hexadecimal is the first gamepad button of Linux).
  *   A button number is 0 to 19 and an axis number 0 to 8; 0 is unknown. An element is a button or an axis.
  *   raspteal_numbers.h has them by name, and the native codes.
- *   A refusal number is one of 1 to 23; 0 means that nothing was refused. raspteal_meaning says what it means.
+ *   A refusal number is one of 1 to 23, or 27; 0 means that nothing was refused. raspteal_meaning says what it means.
  *   Where a struct has a flag beside a value (`found`, `valid`, `has_place`), the value is 0 while the flag is false.
  */
 #ifndef RASPTEAL_H
@@ -48,6 +48,8 @@ extern "C" {
 #define RASPTEAL_KEYS 512         /* key codes in the table of buttons */
 #define RASPTEAL_KEY_FIRST 0x10100 /* the first of them */
 #define RASPTEAL_STACK 262144     /* bytes of stack that a call takes at most */
+#define RASPTEAL_HELD_MAX 256     /* codes that a pad holds */
+#define RASPTEAL_ELEMENTS 27      /* elements that have events: buttons 1 to 19, axes 1 to 8 */
 
 /* ---- What crosses ---------------------------------------------------------------------------------------------- */
 
@@ -140,6 +142,33 @@ typedef struct {
     raspteal_element element;
     int16_t value;
 } raspteal_emitted;
+
+/* A pad while a game runs: the first count of held are the codes that it has reported, in the order of their first
+ * events, and the first entry_count of entries are those of its map (numbers of raspteal_entry_number). A held code is
+ * the code times 2^32 and its last raw value: 0 released, 1 pressed, from 2 on an axis value v as v + 32770. Start with
+ * raspteal_pad_new, and hand each call the pad that the last one gave; any other numbers mean something too, and a count
+ * over 256 is read as 256. */
+typedef struct {
+    size_t count;
+    uint64_t held[RASPTEAL_HELD_MAX];
+    size_t entry_count;
+    uint64_t entries[RASPTEAL_CODES_MAX];
+} raspteal_pad;
+
+/* An element's value. */
+typedef struct {
+    raspteal_element element;
+    int16_t value;
+} raspteal_event;
+
+/* A pad after a call, and the first count events: one for each element whose value changed, buttons then axes,
+ * ascending. The others are button 0 with value 0. On a refusal the pad is as it was, and there is no event. */
+typedef struct {
+    raspteal_refusal refusal;
+    raspteal_pad pad;
+    size_t count;
+    raspteal_event events[RASPTEAL_ELEMENTS];
+} raspteal_told;
 
 /* A map from codes to elements: the first count entries, ascending by code, the others unused: code 0, button 0, input
  * and output 2, not inverted. An unused entry is not all 0. The name is name_len bytes at name_start of the line that
@@ -466,6 +495,24 @@ raspteal_value raspteal_entry_value(raspteal_entry e, uint8_t raw, int16_t v);
 /* The same by the first entry of a code, with its element; none where the map has no such code. A program that keeps
  * its map asks raspteal_entry_value of the entry itself, and hands over no map. */
 raspteal_emitted raspteal_mapping_event(raspteal_mapping map, uint32_t code, uint8_t raw, int16_t v);
+
+/* ---- A pad while a game runs ---------------------------------------------------------------------------------------
+ * The value of an element is, of the values that the pad's held codes give it by the current map, the one farthest from
+ * zero, between equal distances that of the smallest code, and 0 if there is none. A program that starts with every
+ * element at 0 and takes each event's value holds the values of all elements, after any raw events and changes of map. */
+
+/* No codes and the empty map. */
+raspteal_pad raspteal_pad_new(void);
+
+/* A raw value of a code: raw and v as in raspteal_entry_value. It is held from now on, also where it gives no value or
+ * the map lacks the code. At most one event. Refusal: 27, a 257th code. */
+raspteal_told raspteal_pad_raw_event(raspteal_pad pad, uint32_t code, uint8_t raw, int16_t v);
+
+/* Another map: the held codes count by it from now on. */
+raspteal_told raspteal_pad_change_map(raspteal_pad pad, raspteal_mapping map);
+
+/* The value of an element; 0 for one other than buttons 1 to 19 and axes 1 to 8. */
+int16_t raspteal_pad_value(raspteal_pad pad, raspteal_element e);
 
 /* ---- Refusals by number: raspteal_meaning in raspteal_numbers.h has their words ------------------------------------
  * Only the walker says 8 and 9, only clear 23; 19 is also said where a buffer has more than 65535 bytes; 15 carries its

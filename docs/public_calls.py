@@ -24,7 +24,7 @@ CROSSES_AS = {
 NAMED = {"event": "raspteal_mapping_event"}
 
 # The definitions that give an answer its number.
-REFUSING = re.compile(r"^(kindNumber|putOutcome|readingRefusal|mappingRefusal|number|lookNumber|saveNumber) :")
+REFUSING = re.compile(r"^(kindNumber|putOutcome|readingRefusal|mappingRefusal|number|lookNumber|saveNumber|padOutcome) :")
 
 # A promise of an answer and a buffer at once; a C function says the two apart.
 PARTS = {"Wrote": ["writeAnswer", "writeBuffer"], "Builds": ["buildOf", "outputOf"]}

@@ -1,9 +1,10 @@
-//! Raw values: the library alone, since the Rust has no such call.
+//! Raw values and pads: the library alone, since the Rust has no such call.
 use crate::measure::{Case, Side, Work};
-use harness::doc02::Raw;
+use harness::doc02;
 use harness::ffi;
 use harness::gen::Rng;
 use harness::pads;
+use harness::plain::Entry;
 use harness::port::{self, AnyMap};
 use std::hint::black_box;
 
@@ -29,11 +30,7 @@ impl Work for Values {
 }
 
 fn raw(r: &mut Rng) -> (u8, i16) {
-    match pads::raw(r) {
-        Raw::Released => (0, 0),
-        Raw::Pressed => (1, 0),
-        Raw::Axis(v) => (2, v),
-    }
+    pads::flat(pads::raw(r))
 }
 
 /// A value of an entry: as a pad reports them, 64 values of one code after the other; and every one of another code.
@@ -93,4 +90,79 @@ pub fn event() -> Vec<Case> {
     };
     let raws = (0..CALLS).map(one).collect();
     case("20 entries".to_string(), Events { map: AnyMap::new(20, &entries), raws })
+}
+
+/// Raw events of a pad, which goes in and comes back.
+struct RawEvents {
+    pad: ffi::Pad,
+    raws: Vec<(u32, u8, i16)>,
+}
+
+impl Work for RawEvents {
+    fn calls(&self) -> usize {
+        self.raws.len()
+    }
+    fn go(&mut self) {
+        for (code, raw, v) in &self.raws {
+            self.pad = black_box(unsafe { ffi::raspteal_pad_raw_event(self.pad, *code, *raw, *v) }).pad;
+        }
+    }
+}
+
+/// Changes between two maps, with codes held.
+struct Changes {
+    pad: ffi::Pad,
+    maps: [AnyMap; 2],
+}
+
+impl Work for Changes {
+    fn calls(&self) -> usize {
+        64
+    }
+    fn go(&mut self) {
+        for k in 0..64 {
+            self.pad = black_box(unsafe { ffi::raspteal_pad_change_map(self.pad, self.maps[k % 2].0) }).pad;
+        }
+    }
+}
+
+/// Entries of n codes to the elements in turn, with halves of all kinds.
+fn entries(r: &mut Rng, n: usize) -> Vec<Entry> {
+    let elements: Vec<u16> = doc02::elements().collect();
+    (0..n).map(|k| (k as u32, elements[k % 27], pads::entry(r, 1).2)).collect()
+}
+
+/// A pad that holds n codes under a map of n entries.
+fn held(r: &mut Rng, n: usize) -> ffi::Pad {
+    let map = AnyMap::new(n, &entries(r, n));
+    let mut pad = unsafe { ffi::raspteal_pad_change_map(ffi::raspteal_pad_new(), map.0) }.pad;
+    for code in 0..n as u32 {
+        let (raw, v) = raw(r);
+        pad = unsafe { ffi::raspteal_pad_raw_event(pad, code, raw, v) }.pad;
+    }
+    assert_eq!((pad.count, pad.entry_count), (n, n));
+    pad
+}
+
+/// A raw event of a pad with n codes and n entries.
+pub fn raw_event(n: usize) -> Vec<Case> {
+    let mut r = Rng::new(5);
+    let pad = held(&mut r, n);
+    let one = |_| {
+        let (raw, v) = raw(&mut r);
+        (r.below(n) as u32, raw, v)
+    };
+    let raws = (0..CALLS / 8).map(one).collect();
+    case(format!("{n} codes, {n} entries"), RawEvents { pad, raws })
+}
+
+/// A change of map of a pad with n codes, between two maps of n entries.
+pub fn change_map(n: usize) -> Vec<Case> {
+    let mut r = Rng::new(6);
+    let pad = held(&mut r, n);
+    let mut other = entries(&mut r, n);
+    other.reverse();
+    other.iter_mut().zip(0..).for_each(|(e, code)| e.0 = code);
+    let maps = [AnyMap::new(n, &other), AnyMap::new(n, &entries(&mut r, n))];
+    case(format!("{n} codes, {n} entries"), Changes { pad, maps })
 }

@@ -83,6 +83,10 @@ static raspteal_element element;
     X(default, (CODES, CODES))                                                                                         \
     X(entry_value, (entry, 2, 5))                                                                                      \
     X(mapping_event, (map, 5, 2, 5))                                                                                   \
+    X(pad_new, ())                                                                                                     \
+    X(pad_raw_event, (raspteal_pad_new(), 5, 2, 5))                                                                    \
+    X(pad_change_map, (raspteal_pad_new(), map))                                                                       \
+    X(pad_value, (raspteal_pad_new(), element))                                                                        \
     X(store_insert, (STORE, (const uint8_t *)list, strlen(list)))                                                      \
     X(store_found, (STORE, pad))                                                                                       \
     X(store_get, (STORE, pad, OUT))                                                                                    \

@@ -43,6 +43,11 @@ static void layout(void) {
     CHECK(offsetof(raspteal_entered, entry) == 4);
     CHECK(sizeof(raspteal_value) == 4);
     CHECK(sizeof(raspteal_emitted) == 8);
+    CHECK(sizeof(raspteal_pad) == 16 + 512 * 8);
+    CHECK(offsetof(raspteal_pad, entry_count) == 8 + 256 * 8);
+    CHECK(sizeof(raspteal_event) == 6);
+    CHECK(offsetof(raspteal_told, pad) == 24);
+    CHECK(offsetof(raspteal_told, events) == 24 + sizeof(raspteal_pad) + 8);
     CHECK(offsetof(raspteal_mapping, name_start) == 8 + 256 * 12);
     CHECK(offsetof(raspteal_mapping, hats_mapped) == 8 + 256 * 12 + 17);
     CHECK(sizeof(raspteal_mapping) == 8 + 256 * 12 + 24);
@@ -293,6 +298,36 @@ static void pads(void) {
     CHECK(!raspteal_mapping_event(map, 9, 1, 0).found);
 }
 
+static bool told_one(raspteal_told t, bool is_axis, uint16_t number, int16_t value) {
+    return t.refusal.number == 0 && t.count == 1 && t.events[0].element.is_axis == is_axis &&
+           t.events[0].element.number == number && t.events[0].value == value && t.events[1].element.number == 0;
+}
+
+/* The stuck trigger: pressed under one map, let go under another, and back. */
+static void games(void) {
+    raspteal_element trigger = {false, 10}, south = {false, 1};
+    raspteal_mapping a = raspteal_mapping_put(raspteal_mapping_new(), raspteal_entry_new(7, trigger)).map;
+    raspteal_mapping b = raspteal_mapping_put(raspteal_mapping_new(), raspteal_entry_new(7, south)).map;
+    raspteal_told t = raspteal_pad_change_map(raspteal_pad_new(), a);
+    CHECK(t.refusal.number == 0 && t.count == 0 && t.pad.count == 0 && t.pad.entry_count == 1);
+    t = raspteal_pad_raw_event(t.pad, 7, 1, 0);
+    CHECK(told_one(t, false, 10, 32767) && t.pad.held[0] == ((uint64_t)7 << 32) + 1);
+    CHECK(raspteal_pad_value(t.pad, trigger) == 32767 && raspteal_pad_value(t.pad, south) == 0);
+    t = raspteal_pad_change_map(t.pad, b);
+    CHECK(t.count == 2 && t.events[0].element.number == 1 && t.events[0].value == 32767);
+    CHECK(t.events[1].element.number == 10 && t.events[1].value == 0);
+    CHECK(told_one(raspteal_pad_raw_event(t.pad, 7, 2, -32768), false, 1, 0));
+    t = raspteal_pad_raw_event(t.pad, 7, 0, 0);
+    CHECK(told_one(t, false, 1, 0));
+    t = raspteal_pad_change_map(t.pad, a);
+    CHECK(t.count == 0 && raspteal_pad_value(t.pad, trigger) == 0);
+    raspteal_pad p = t.pad;
+    for (uint32_t code = 0; code < 256; code++) p = raspteal_pad_raw_event(p, code, 1, 0).pad;
+    t = raspteal_pad_raw_event(p, 256, 1, 0);
+    CHECK(p.count == 256 && t.refusal.number == 27 && !t.refusal.has_place && t.count == 0);
+    CHECK(memcmp(&t.pad, &p, sizeof p) == 0);
+}
+
 int main(void) {
     layout();
     numbers();
@@ -303,6 +338,7 @@ int main(void) {
     stores();
     near_stores();
     pads();
+    games();
     printf("%d passed, %d failed\n", passed, failed);
     return failed != 0;
 }

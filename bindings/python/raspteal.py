@@ -21,6 +21,7 @@ from ctypes import POINTER, c_bool, c_int16, c_size_t, c_uint8, c_uint16, c_uint
 from pathlib import Path
 
 CODES_MAX, LINE_MAX, INDEX_MAX, TEXT_MAX, BUTTONS, AXES = 256, 16384, 65535, 65535, 20, 9
+HELD_MAX, ELEMENTS = 256, 27
 LOWER_HALF, UPPER_HALF, FULL = 0, 1, 2
 
 MEANINGS = {
@@ -47,6 +48,7 @@ MEANINGS = {
     21: "no room in the store",
     22: "the name has a line end or platform:",
     23: "a buffer of more than 65535 bytes",
+    27: "more than 256 codes held by a pad",
 }
 
 # ---- What crosses: the structs of raspteal.h, under their names there
@@ -72,6 +74,10 @@ emitted = struct("emitted", ("found", c_bool), ("element", element), ("value", c
 mapping = struct("mapping", ("count", c_size_t), ("entries", entry * CODES_MAX), ("name_start", c_size_t),
                  ("name_len", c_size_t), ("is_default", c_bool), ("hats_mapped", c_uint8))
 answer = struct("answer", ("refusal", refusal), ("map", mapping))
+pad = struct("pad", ("count", c_size_t), ("held", c_uint64 * HELD_MAX), ("entry_count", c_size_t),
+             ("entries", c_uint64 * CODES_MAX))
+event = struct("event", ("element", element), ("value", c_int16))
+told = struct("told", ("refusal", refusal), ("pad", pad), ("count", c_size_t), ("events", event * ELEMENTS))
 slot = struct("slot", ("filled", c_bool), ("code", c_uint32))
 data = struct("data", ("buttons", slot * BUTTONS), ("axes", slot * AXES))
 changed = struct("changed", ("former", code), ("slots", data))
@@ -108,6 +114,10 @@ CALLS = {
     "store_get_near": (written, [*STORE, uuid, *BYTES]),
     "entry_value": (value, [entry, c_uint8, c_int16]),
     "mapping_event": (emitted, [mapping, c_uint32, c_uint8, c_int16]),
+    "pad_new": (pad, []),
+    "pad_raw_event": (told, [pad, c_uint32, c_uint8, c_int16]),
+    "pad_change_map": (told, [pad, mapping]),
+    "pad_value": (c_int16, [pad, element]),
 }
 
 
@@ -303,6 +313,31 @@ class Mapping:
         return isinstance(other, Mapping) and self.told == other.told
 
     __hash__ = None
+
+
+class Pad:
+    """A pad while a game runs: the codes that it has reported, with their last raw values, and its current map. Each
+    call gives the events: (element, value) for each element whose value changed."""
+
+    def __init__(self):
+        self.flat = call("pad_new")
+
+    def after(self, t):
+        accepted(t.refusal)
+        self.flat = t.pad
+        return [(plain(e.element), e.value) for e in t.events[: t.count]]
+
+    def raw_event(self, n, raw):
+        """A raw value of a code. Refusal: 27, a 257th code."""
+        return self.after(call("pad_raw_event", self.flat, within(n, 0, 2**32 - 1, "a code"), *raw))
+
+    def change_map(self, map):
+        """Another map: the held codes count by it from now on."""
+        return self.after(call("pad_change_map", self.flat, map.flat))
+
+    def value(self, e):
+        """The value of an element; 0 for one other than buttons 1 to 19 and axes 1 to 8."""
+        return call("pad_value", self.flat, e.flat)
 
 
 def slots_of(bound):

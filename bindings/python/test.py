@@ -4,7 +4,7 @@ import unittest
 
 import raspteal
 from raspteal import FULL, LOWER_HALF, PRESSED, RELEASED, UPPER_HALF
-from raspteal import Element, Entry, Mapping, Refused, Store, Uuid, axis, build
+from raspteal import Element, Entry, Mapping, Pad, Refused, Store, Uuid, axis, build
 
 U = "0" * 32
 ONE = Uuid("0" * 31 + "1")
@@ -139,6 +139,22 @@ class Cases(unittest.TestCase):
         self.assertEqual(map.event(0x10130, PRESSED), (SOUTH, 32767))
         self.assertEqual(map.event(0x30000, axis(100)), (Element(False, 10), 100))
         self.assertEqual((map.event(0x30000, axis(-1)), map.event(5, PRESSED)), (None, None))
+
+    def test_pad(self):
+        pad, other = Pad(), Element(False, 2)
+        maps = [Mapping(), Mapping()]
+        for map, e in zip(maps, (SOUTH, other)):
+            map.put(Entry(5, e))
+        self.assertEqual(pad.raw_event(5, PRESSED), [])
+        self.assertEqual(pad.change_map(maps[0]), [(SOUTH, 32767)])
+        self.assertEqual(pad.change_map(maps[1]), [(SOUTH, 0), (other, 32767)])
+        self.assertEqual((pad.value(SOUTH), pad.value(other), pad.value(Element(False, 0))), (0, 32767, 0))
+        self.assertEqual(pad.raw_event(5, RELEASED), [(other, 0)])
+        self.assertEqual(pad.change_map(maps[0]), [])
+        for n in range(6, 261):
+            pad.raw_event(n, axis(n))
+        self.refused(27, pad.raw_event, 261, PRESSED)
+        self.assertEqual(pad.raw_event(5, PRESSED), [(SOUTH, 32767)])
 
     def test_threads(self):
         """Look-ups of one store at the same time."""

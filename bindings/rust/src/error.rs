@@ -3,7 +3,7 @@ use crate::ffi;
 use crate::Code;
 use std::fmt;
 
-/// A refusal of document 01, number 1 to 23. A place is a byte's place in the line, name or text that was given.
+/// A refusal of document 01, number 1 to 23, or of document 02, number 27. A place is a byte's place in the line, name or text that was given.
 ///
 /// ```
 /// use raspteal::{Error, Mapping};
@@ -95,6 +95,8 @@ pub enum Error {
     UnsavedName,
     /// 23: a clear of a buffer with more than 65535 bytes.
     BufferTooLarge,
+    /// 27: a raw event for a 257th code of a pad.
+    PadFull,
 }
 
 impl Error {
@@ -126,11 +128,12 @@ impl Error {
             21 => Error::NoRoom,
             22 => Error::UnsavedName,
             23 => Error::BufferTooLarge,
+            27 => Error::PadFull,
             n => unreachable!("the library has no refusal {n}"),
         })
     }
 
-    /// Document 01's number.
+    /// The number, document 01's or document 02's.
     pub fn number(&self) -> u8 {
         match self {
             Error::InvalidGuid { .. } => 1,
@@ -156,10 +159,11 @@ impl Error {
             Error::NoRoom => 21,
             Error::UnsavedName => 22,
             Error::BufferTooLarge => 23,
+            Error::PadFull => 27,
         }
     }
 
-    /// The byte's place that the refusal is about; 12 to 23 have none.
+    /// The byte's place that the refusal is about; 12 to 27 have none.
     pub fn place(&self) -> Option<usize> {
         match *self {
             Error::InvalidGuid { place }
@@ -211,6 +215,7 @@ impl Error {
             Error::NoRoom => "no room in the store",
             Error::UnsavedName => "the name has a line end or platform:",
             Error::BufferTooLarge => "a buffer of more than 65535 bytes",
+            Error::PadFull => "more than 256 codes held by a pad",
         }
     }
 }

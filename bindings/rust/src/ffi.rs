@@ -14,6 +14,8 @@ pub const NAME_MAX: usize = 8192;
 pub const LINE_MAX: usize = 16384;
 pub const INDEX_MAX: usize = 65535;
 pub const TEXT_MAX: usize = 65535;
+pub const HELD_MAX: usize = 256;
+pub const ELEMENTS: usize = 27;
 
 /// The kinds of a token.
 pub const END: u8 = 0;
@@ -121,6 +123,31 @@ pub struct Emitted {
     pub found: bool,
     pub element: Element,
     pub value: i16,
+}
+
+#[repr(C)]
+#[derive(Clone, Copy, Debug, PartialEq, Eq)]
+pub struct Pad {
+    pub count: usize,
+    pub held: [u64; HELD_MAX],
+    pub entry_count: usize,
+    pub entries: [u64; CODES_MAX],
+}
+
+#[repr(C)]
+#[derive(Clone, Copy, Debug, PartialEq, Eq)]
+pub struct Event {
+    pub element: Element,
+    pub value: i16,
+}
+
+#[repr(C)]
+#[derive(Clone, Copy, Debug, PartialEq, Eq)]
+pub struct Told {
+    pub refusal: Refusal,
+    pub pad: Pad,
+    pub count: usize,
+    pub events: [Event; ELEMENTS],
 }
 
 #[repr(C)]
@@ -379,4 +406,8 @@ extern "C" {
     ) -> Written;
     pub fn raspteal_entry_value(e: Entry, raw: u8, v: i16) -> Value;
     pub fn raspteal_mapping_event(map: Mapping, code: u32, raw: u8, v: i16) -> Emitted;
+    pub fn raspteal_pad_new() -> Pad;
+    pub fn raspteal_pad_raw_event(pad: Pad, code: u32, raw: u8, v: i16) -> Told;
+    pub fn raspteal_pad_change_map(pad: Pad, map: Mapping) -> Told;
+    pub fn raspteal_pad_value(pad: Pad, e: Element) -> i16;
 }

@@ -45,7 +45,7 @@ pub use data::{Built, MappingData};
 pub use element::{Axis, AxisOrBtn, Button, Code};
 pub use error::{Error, InsertError, ParseUuidError};
 pub use mapping::{Entry, Lookup, Mapping};
-pub use pad::{Event, Raw};
+pub use pad::{Event, Events, Pad, Raw};
 pub use parser::{count_tokens, first_token, AxisRange, Parser, Token};
 pub use store::{Match, Store};
 pub use uuid::Uuid;
@@ -66,5 +66,7 @@ pub const TEXT_MAX: usize = ffi::TEXT_MAX;
 pub const KEYS: usize = ffi::KEYS;
 /// The first key code of the table.
 pub const KEY_FIRST: Code = Code(0x10100);
+/// The codes that a pad holds.
+pub const HELD_MAX: usize = ffi::HELD_MAX;
 /// The bytes of the index that a line takes.
 pub const RECORD_LEN: usize = 21;

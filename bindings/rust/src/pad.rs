@@ -1,6 +1,8 @@
-//! From raw values to element values.
-use crate::ffi::safe;
+//! From raw values to element values, and a pad while a game runs.
+use crate::error::Error;
+use crate::ffi::{self, safe};
 use crate::{AxisOrBtn, Code, Entry, Mapping};
+use std::fmt;
 
 /// What a pad reports of a code: the event says whether it is a button's or an axis's, not the code.
 #[derive(Clone, Copy, Debug, PartialEq, Eq, Hash)]
@@ -19,6 +21,15 @@ impl Raw {
             Raw::ButtonReleased => (0, 0),
             Raw::ButtonPressed => (1, 0),
             Raw::AxisValueChanged(v) => (2, v),
+        }
+    }
+
+    /// As a pad holds it: 0 released, 1 pressed, from 2 on an axis value counted from -32768.
+    fn of_number(x: u32) -> Raw {
+        match x {
+            0 => Raw::ButtonReleased,
+            1 => Raw::ButtonPressed,
+            x => Raw::AxisValueChanged(((x - 2) as u16 ^ 0x8000) as i16),
         }
     }
 }
@@ -59,3 +70,105 @@ impl Mapping {
         r.found.then(|| Event { element: r.element.into(), value: r.value })
     }
 }
+
+/// A pad while a game runs: the codes that it has reported with their last raw values, and its map.
+///
+/// The value of an element is, of the values that the held codes give it by the map, the one farthest from zero, between
+/// equal distances that of the smallest code, and 0 if there is none. A raw event and a change of map give an event for
+/// each element whose value changed: a program that starts with every element at 0 and takes each event's value holds
+/// the values of all elements. Elements other than buttons 1 to 19 and axes 1 to 8 are left out.
+///
+/// ```
+/// use raspteal::{Button, Code, Mapping, Pad, Raw};
+///
+/// let mut game = Mapping::new();
+/// game.put(Code(0x10137), Button::RightTrigger).unwrap();
+/// let mut pad = Pad::new();
+/// assert_eq!(pad.change_map(&game).count(), 0);
+/// let pressed: Vec<_> = pad.raw_event(Code(0x10137), Raw::ButtonPressed).unwrap().collect();
+/// assert_eq!((pressed[0].element, pressed[0].value), (Button::RightTrigger.into(), 32767));
+/// // another map, while the button is held: the trigger is let go
+/// let changed: Vec<_> = pad.change_map(&Mapping::new()).collect();
+/// assert_eq!((changed[0].element, changed[0].value), (Button::RightTrigger.into(), 0));
+/// ```
+#[derive(Clone, PartialEq, Eq)]
+pub struct Pad(ffi::Pad);
+
+impl Pad {
+    /// No codes and the empty map.
+    pub fn new() -> Pad {
+        Pad(safe::pad_new())
+    }
+
+    /// A raw value of a code, and the event of its element, if that has another value now. Refusal: 27, a 257th code,
+    /// the pad as it was.
+    pub fn raw_event(&mut self, code: Code, raw: Raw) -> Result<Events, Error> {
+        let (raw, v) = raw.flat();
+        let told = safe::pad_raw_event(self.0, code.0, raw, v);
+        Error::check(told.refusal)?;
+        Ok(self.told(told))
+    }
+
+    /// Another map, and an event for each element that has another value now.
+    pub fn change_map(&mut self, map: &Mapping) -> Events {
+        let told = safe::pad_change_map(self.0, map.flat());
+        self.told(told)
+    }
+
+    fn told(&mut self, told: ffi::Told) -> Events {
+        self.0 = told.pad;
+        Events { list: told.events, next: 0, count: told.count }
+    }
+
+    /// The value of an element; 0 for one that is left out.
+    pub fn value(&self, element: impl Into<AxisOrBtn>) -> i16 {
+        safe::pad_value(self.0, element.into().into())
+    }
+
+    /// The codes that the pad has reported, in the order of their first events, with their last raw values.
+    pub fn held(&self) -> impl Iterator<Item = (Code, Raw)> + '_ {
+        self.0.held.iter().take(self.0.count).map(|x| (Code((x >> 32) as u32), Raw::of_number(*x as u32)))
+    }
+
+    /// The entries of the map.
+    pub fn entries(&self) -> impl Iterator<Item = Entry> + '_ {
+        self.0.entries.iter().take(self.0.entry_count).map(|x| Entry::of_number(*x))
+    }
+}
+
+impl Default for Pad {
+    fn default() -> Pad {
+        Pad::new()
+    }
+}
+
+impl fmt::Debug for Pad {
+    fn fmt(&self, f: &mut fmt::Formatter) -> fmt::Result {
+        let (held, entries): (Vec<_>, Vec<_>) = (self.held().collect(), self.entries().collect());
+        f.debug_struct("Pad").field("held", &held).field("entries", &entries).finish()
+    }
+}
+
+/// The events of a call: one for each element whose value changed, buttons then axes, ascending.
+#[derive(Clone, Debug)]
+pub struct Events {
+    list: [ffi::Event; ffi::ELEMENTS],
+    next: usize,
+    count: usize,
+}
+
+impl Iterator for Events {
+    type Item = Event;
+
+    fn next(&mut self) -> Option<Event> {
+        let e = self.list[..self.count].get(self.next)?;
+        self.next += 1;
+        Some(Event { element: e.element.into(), value: e.value })
+    }
+
+    fn size_hint(&self) -> (usize, Option<usize>) {
+        (self.count - self.next, Some(self.count - self.next))
+    }
+}
+
+impl ExactSizeIterator for Events {}

@@ -39,6 +39,7 @@ fn rows() -> Vec<Row> {
     let inserted = safe::store_insert(&mut [], &mut [], b"");
     let look = safe::store_found(&[], &[], ffi::Uuid { high: 0, low: 0 });
     let near = safe::store_found_near(&[], &[], ffi::Uuid { high: 0, low: 0 });
+    let told = safe::pad_raw_event(safe::pad_new(), 0, 0, 0);
     vec![
         row!(Refusal, "raspteal_refusal", built.refusal, number, has_place, place, has_code, code),
         row!(Written, "raspteal_written", safe::write_bytes(&mut [], 0, b""), fits, next),
@@ -56,6 +57,9 @@ fn rows() -> Vec<Row> {
         row!(Entered, "raspteal_entered", safe::mapping_entry(built.map, 0), found, entry),
         row!(Value, "raspteal_value", safe::entry_value(built.map.entries[0], 0, 0), found, value),
         row!(Emitted, "raspteal_emitted", safe::mapping_event(built.map, 0, 0, 0), found, element, value),
+        row!(Pad, "raspteal_pad", safe::pad_new(), count, held, entry_count, entries),
+        row!(Event, "raspteal_event", told.events[0], element, value),
+        row!(Told, "raspteal_told", told, refusal, pad, count, events),
         row!(Mapping, "raspteal_mapping", built.map, count, entries, name_start, name_len, is_default, hats_mapped),
         row!(Keys, "raspteal_keys", safe::key_table(), buttons),
         row!(Answer, "raspteal_answer", safe::default(&[], &[]), refusal, map),
@@ -87,8 +91,9 @@ fn as_in_c() {
     for row in &rows {
         c += &row.c;
     }
-    c += "printf(\"limits %d %d %d %d %d %d %d %d %d\\n\", RASPTEAL_CODES_MAX, RASPTEAL_LIST_MAX, RASPTEAL_NAME_MAX, \
-          RASPTEAL_LINE_MAX, RASPTEAL_INDEX_MAX, RASPTEAL_TEXT_MAX, RASPTEAL_BUTTONS, RASPTEAL_AXES, RASPTEAL_IDENT_MAX);\n";
+    c += "printf(\"limits %d %d %d %d %d %d %d %d %d %d %d\\n\", RASPTEAL_CODES_MAX, RASPTEAL_LIST_MAX, RASPTEAL_NAME_MAX, \
+          RASPTEAL_LINE_MAX, RASPTEAL_INDEX_MAX, RASPTEAL_TEXT_MAX, RASPTEAL_BUTTONS, RASPTEAL_AXES, RASPTEAL_IDENT_MAX, \
+          RASPTEAL_HELD_MAX, RASPTEAL_ELEMENTS);\n";
     c += "printf(\"kinds %d %d %d %d %d %d %d %d\\n\", RASPTEAL_END, RASPTEAL_REFUSED, RASPTEAL_UUID, \
           RASPTEAL_PLATFORM, RASPTEAL_NAME, RASPTEAL_AXIS, RASPTEAL_BUTTON, RASPTEAL_HAT);\n}\n";
     std::fs::write(&source, c).unwrap();
@@ -99,7 +104,7 @@ fn as_in_c() {
 
     let mut expected: Vec<String> = rows.into_iter().map(|row| row.rust).collect();
     expected.push(format!(
-        "limits {} {} {} {} {} {} {} {} {}",
+        "limits {} {} {} {} {} {} {} {} {} {} {}",
         ffi::CODES_MAX,
         ffi::LIST_MAX,
         ffi::NAME_MAX,
@@ -108,7 +113,9 @@ fn as_in_c() {
         ffi::TEXT_MAX,
         ffi::BUTTONS,
         ffi::AXES,
-        ffi::IDENT_MAX
+        ffi::IDENT_MAX,
+        ffi::HELD_MAX,
+        ffi::ELEMENTS
     ));
     expected.push(format!(
         "kinds {} {} {} {} {} {} {} {}",

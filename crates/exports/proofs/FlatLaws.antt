@@ -7,6 +7,7 @@ use native.Mathlib.Numerals.{add-one}
 use lib.ListN.{length, getD, set, take, drop, replicate, drop-of-length-le, take-append-drop, length-append}
 use lib.Seq.{take-all, drop-append-seam}
 use mathlib.Core.Bool.{false}
+use lib.IntN.{pos}
 use Rattle.text.specs.declared.uuid.Uuid.{Uuid}
 use Rattle.line.specs.declared.mapping.Entry.{Entry}
 use Rattle.line.specs.Maps.{CODES_MAX, MapView, unusedEntry, toMap, emptyView, emptyMap}
@@ -20,6 +21,7 @@ use Rattle.map.proofs.PutsLaws.{puts-few}
 use Rattle.exports.specs.FlatMaps.{flatEntry, Unused}
 use Rattle.exports.specs.declared.flat_mapping.FlatEntry.{FlatEntry}
 use Rattle.exports.specs.declared.flat_data.FlatSlot.{FlatSlot}
+use Rattle.exports.specs.declared.state_calls.FlatEvent.{FlatEvent}
 
 -- an entry that is not used
 abbrev pub flatUnused : FlatEntry
@@ -30,6 +32,10 @@ flatUnused =
 abbrev pub flatPast : FlatEntry
 flatPast =
     record { code = 0; element = record { «is_axis» = false; number = 0 }; input = 0; output = 0; inverted = false }
+
+-- what stands where no event is
+abbrev pub flatNoEvent : FlatEvent
+flatNoEvent = record { element = record { «is_axis» = false; number = 0 }; value = pos 0 }
 
 -- a slot that is not filled
 abbrev pub flatEmpty : FlatSlot

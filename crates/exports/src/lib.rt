@@ -12,5 +12,6 @@ mod mapping_calls;
 mod near_calls;
 mod pad_calls;
 mod parser_calls;
+mod state_calls;
 mod store_calls;
 mod text_calls;

@@ -34,7 +34,7 @@ pub struct FlatEmitted {
 }
 
 // What a pad reports: 1 is a button pressed, 2 the axis value v, another number a button released.
-fn raw_of(raw: u8, v: i16) -> Raw
+pub fn raw_of(raw: u8, v: i16) -> Raw
     ensures { λ r. ⌜ r ≡ rawOf raw v ⌝ }
 {
     if raw == 1 {

@@ -39,7 +39,11 @@ not a sound store
 a wanted line of more than 16384 bytes
 no room in the store
 the name has a line end or platform:
-a buffer of more than 65535 bytes",
+a buffer of more than 65535 bytes
+
+
+
+more than 256 codes held by a pad",
             number,
             b'\n',
         ),

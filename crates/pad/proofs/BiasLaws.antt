@@ -16,7 +16,7 @@ use Rattle.line.specs.declared.parser.AxisRange.{AxisRange}
 use Rattle.line.specs.declared.parser.AxisRange.the-variants as Ar
 use Rattle.pad.specs.declared.numbers.Part.the-variants as Pt
 
-lt-or-le : (a b : ℕ) → (a < b) ⊎ (b ≤ a)
+pub lt-or-le : (a b : ℕ) → (a < b) ⊎ (b ≤ a)
 lt-or-le a b = by (ltb a b) refl
   where
     by : (t : Bool) → ltb a b ≡ t → (a < b) ⊎ (b ≤ a)

@@ -2,4 +2,15 @@ pub mod ShareLaws
 pub mod BiasLaws
 pub mod ValueLaws
 pub mod OrderLaws
+pub mod PlaceLaws
+pub mod TouchLaws
+pub mod ReaderLaws
+pub mod NumberLaws
+pub mod OwnLaws
+pub mod EventLaws
+pub mod StateLaws
+pub mod ListLaws
+pub mod PadLaws
+pub mod FitLaws
 pub mod Samples
+pub mod PadSamples

@@ -91,7 +91,7 @@ pub within-fits : (v : ℤ) → Within v → SFits w16 v
 within-fits (pos k) w = let l : k ≤ 32767 = leb→le k 32767 (w .1 .le) in record { sfits = omega arith }
 within-fits (negsuc k) w = let l : k ≤ 32767 = leb→le k 32767 (w .0 .le) in record { sfits = omega arith }
 
-fits-within : (v : ℤ) → SFits w16 v → Within v
+pub fits-within : (v : ℤ) → SFits w16 v → Within v
 fits-within (pos k) f =
     let h : k < 32768 = f .sfits in (record { le = tt }, record { le = le→leb k 32767 (omega arith) })
 fits-within (negsuc k) f =

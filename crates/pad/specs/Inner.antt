@@ -1,15 +1,32 @@
 -- Values counted from the least one: what private functions compute with. No public contract cites these.
 -- Assumes nothing.
-use Prim.Native.Nat.{ℕ, _+_, _-_, _*_, _/_, _≤_, _<_}
-use lib.Dec.{ltb}
+use Prim.Native.Nat.{ℕ, suc, _+_, _-_, _*_, _/_, _≤_, _<_}
+use mathlib.Core.Path.{_≡_}
+use mathlib.Core.Bool.{Bool, true, false}
+use mathlib.Core.List.{List, [], _∷_, _++_, map}
+use lib.Dec.{eqb, ltb}
+use lib.ListN.{length, take, drop, replicate}
+use mir.Syntax.{w16}
+use mir.Val.{SFits}
 use lib.IntN.{ℤ, pos, negsuc, _-ℤ_}
-use Rattle.text.specs.Bytes.{pick}
+use Rattle.text.specs.Bytes.{pick, both}
 use Rattle.line.specs.declared.ev.AxisOrBtn.{AxisOrBtn}
 use Rattle.line.specs.declared.ev.AxisOrBtn.the-variants as El
 use Rattle.line.specs.declared.parser.AxisRange.{AxisRange}
 use Rattle.line.specs.declared.parser.AxisRange.the-variants as Ar
+use Rattle.line.specs.declared.ev.Code.{Code}
+use Rattle.line.specs.declared.mapping.Entry.{Entry}
+use Rattle.line.specs.Elements.{sameElement}
+use Rattle.line.specs.Numbers.{CODE_UNIT, entryIn}
 use Rattle.pad.specs.declared.numbers.Part.{Part}
 use Rattle.pad.specs.declared.numbers.Part.the-variants as Pt
+use Rattle.pad.specs.declared.value.ElementValue.{ElementValue}
+use Rattle.pad.specs.declared.value.ElementValue.the-variants as Ev
+use Rattle.pad.specs.declared.events.Held.{Held}
+use Rattle.pad.specs.declared.events.Event.{Event}
+use Rattle.pad.specs.declared.choice.Best.{Best}
+use Rattle.pad.specs.Pads.{HELD_MAX, putHeld, Chosen, none, chosen, choose, tabulate, changes}
+use Rattle.pad.specs.States.{heldIn, unusedEvent}
 
 -- a value counted from the least one, and back
 abbrev pub shifted : ℤ → ℕ
@@ -40,3 +57,106 @@ pub record Proper (n d : ℕ) : Type 0 where
 abbrev pub ProperPart : Part → Type 0
 ProperPart (Pt.Of n d) = Proper n d
 ProperPart Pt.Nothing = Unit {0}
+
+-- ---- a pad's state in numbers
+-- a value counted from the least one; 65536 is none
+abbrev pub valueNumber : ElementValue → ℕ
+valueNumber (Ev.Is v) = shifted v
+valueNumber Ev.Nothing = 65536
+
+-- the first n held codes, and the first m entries
+abbrev pub heldsIn : ℕ → List ℕ → List Held
+heldsIn n xs = take n (map heldIn xs)
+
+abbrev pub entriesIn : ℕ → List ℕ → List Entry
+entriesIn m xs = take m (map entryIn xs)
+
+-- how far the value of a number is from zero
+abbrev pub distanceOf : ℕ → ℕ
+distanceOf x = pick (ltb x 32768) (32768 - x) (x - 32768)
+
+-- as `prefer`, on numbers
+abbrev pub preferNumber : ℕ → ℕ → Best → Best
+preferNumber code number rest =
+    pick (eqb number 65536) rest
+    (pick (eqb (rest .number) 65536) (record { code = code; number = number })
+    (pick (ltb (distanceOf (rest .number)) (distanceOf number)) (record { code = code; number = number })
+    (pick (ltb (distanceOf number) (distanceOf (rest .number))) rest
+    (pick (ltb code (rest .code)) (record { code = code; number = number }) rest))))
+
+-- a code and a number are what was chosen
+pub record Some (b : Best) (c : ℕ) (v : ℤ) : Type 0 where
+  pub code : b .code ≡ c
+  pub number : b .number ≡ shifted v
+  pub fits : SFits w16 v
+
+abbrev pub Holds : Best → Chosen → Type 0
+Holds b none = b .number ≡ 65536
+Holds b (chosen c v) = Some b c v
+
+-- the place of the first number of a code, or how many there are where there is none
+unfoldable pub placeIn : ℕ → List ℕ → ℕ
+placeIn c [] = 0
+placeIn c (y ∷ ys) = pick (eqb (y / CODE_UNIT) c) 0 (suc (placeIn c ys))
+
+-- no number of a code is among these
+unfoldable pub unseen : ℕ → List ℕ → Bool
+unseen c [] = true
+unseen c (y ∷ ys) = pick (eqb (y / CODE_UNIT) c) false (unseen c ys)
+
+-- an entry counts for an element: it is of that element, and the first of its code
+unfoldable pub counted : AxisOrBtn → List ℕ → ℕ → Bool
+counted el seen x = both (sameElement (entryIn x .element) el) (unseen (x / CODE_UNIT) seen)
+
+-- those that count, after the ones that were seen
+unfoldable pub ownFrom : AxisOrBtn → List ℕ → List ℕ → List ℕ
+ownFrom el seen [] = []
+ownFrom el seen (x ∷ xs) =
+    pick (counted el seen x) (x ∷ ownFrom el (seen ++ x ∷ []) xs) (ownFrom el (seen ++ x ∷ []) xs)
+
+-- those of the first j stand in list, count of them
+pub record Gathered (el : AxisOrBtn) (es : List ℕ) (m : ℕ) (list : List ℕ) (count j : ℕ) : Type 0 where
+  pub within : j ≤ m
+  pub few : count ≤ j
+  pub long : length list ≡ 256
+  pub told : take count list ++ ownFrom el (take j es) (drop j (take m es)) ≡ ownFrom el [] (take m es)
+
+-- from hs to ks no element but el takes another value
+abbrev pub OnlyOf : List Held → List Held → List Entry → AxisOrBtn → Type 0
+OnlyOf hs ks es el = (other : AxisOrBtn) → sameElement el other ≡ false → choose ks es other ≡ choose hs es other
+
+-- from hs to ks a raw value of the code has been put
+pub record Touched (hs ks : List Held) (c : Code) : Type 0 where
+  pub put : Held
+  pub of : put .code ≡ c
+  pub is : ks ≡ putHeld put hs
+
+abbrev pub oneEvent : AxisOrBtn → ℤ → Event
+oneEvent el v = record { element = el; value = v }
+
+-- a count over the most is read as the most
+abbrev pub cappedOf : ℕ → ℕ
+cappedOf count = pick (ltb count HELD_MAX) count HELD_MAX
+
+-- how many codes are held after a put at place i of n
+abbrev pub grownOf : ℕ → ℕ → ℕ
+grownOf i n = pick (ltb i n) n (n + 1)
+
+-- every number is a value's
+unfoldable pub Small : List ℕ → Type 0
+Small [] = Unit {0}
+Small (x ∷ xs) = (x < 65536) × Small xs
+
+-- the first k numbers of out are the values of f
+pub record Filled (f : ℕ → ℤ) (k : ℕ) (out : List ℕ) : Type 0 where
+  pub values : map unshifted (take k out) ≡ tabulate f k 0
+  pub small : Small (take k out)
+
+-- the events of the first k places stand in list, count of them, and unused ones after them
+pub record Listed (bs cs : List ℕ) (list : List Event) (count k : ℕ) : Type 0 where
+  pub within : k ≤ 27
+  pub few : count ≤ k
+  pub long : length list ≡ 27
+  pub rest : drop count list ≡ replicate (27 - count) unusedEvent
+  pub told : take count list ++ changes k (drop k (map unshifted bs)) (drop k (map unshifted cs))
+      ≡ changes 0 (map unshifted bs) (map unshifted cs)

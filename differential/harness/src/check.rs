@@ -29,9 +29,11 @@ pub enum Group {
     Buffers,
     Values,
     Events,
+    Pads,
+    Reader,
 }
 
-pub const GROUPS: [(&str, &str); 24] = [
+pub const GROUPS: [(&str, &str); 26] = [
     ("utf8", "the longest valid run of UTF-8, with Rust's own reader"),
     ("uuid", "UUID texts, with the crate uuid"),
     ("index", "index numbers, with Rust's own reader"),
@@ -56,6 +58,8 @@ pub const GROUPS: [(&str, &str); 24] = [
     ("buffers", "both buffers after each call, byte by byte, by the book (document 01 alone)"),
     ("values", "what every raw value gives to every kind of entry (document 02, P3, alone)"),
     ("events", "raw values of codes by maps of any content (document 02, P3, alone)"),
+    ("pads", "a pad's raw events and changes of map: refusal, events, state and values (document 02, P13, alone)"),
+    ("reader", "what an outside reader of a pad's events holds, beside the values worked out afresh (P13 alone)"),
 ];
 
 /// How many kinds of answer are told apart: 0 for an answer, else the refusal's number.

@@ -4,6 +4,7 @@ pub mod check;
 pub mod compare;
 pub mod doc01;
 pub mod doc02;
+pub mod games;
 pub mod gen;
 pub mod near;
 pub mod pads;

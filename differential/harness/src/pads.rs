@@ -7,7 +7,7 @@ use crate::plain::{Entry, AXIS};
 use crate::port;
 
 /// A raw value as the C side has it.
-fn flat(raw: Raw) -> (u8, i16) {
+pub fn flat(raw: Raw) -> (u8, i16) {
     match raw {
         Raw::Released => (0, 0),
         Raw::Pressed => (1, 0),

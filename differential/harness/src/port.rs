@@ -3,7 +3,7 @@ use crate::book::LINE_MAX;
 use crate::ffi;
 use crate::plain::{Entry, Map, Refusal, Slots, Tok, Uuid, AXIS, FULL};
 
-fn element(e: u16) -> ffi::Element {
+pub fn element(e: u16) -> ffi::Element {
     ffi::Element { is_axis: e >= AXIS, number: e % AXIS }
 }
 

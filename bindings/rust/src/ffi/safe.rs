@@ -279,3 +279,19 @@ pub fn entry_value(e: Entry, raw: u8, v: i16) -> Value {
 pub fn mapping_event(map: Mapping, code: u32, raw: u8, v: i16) -> Emitted {
     unsafe { raspteal_mapping_event(map, code, raw, v) }
 }
+
+pub fn pad_new() -> Pad {
+    unsafe { raspteal_pad_new() }
+}
+
+pub fn pad_raw_event(pad: Pad, code: u32, raw: u8, v: i16) -> Told {
+    unsafe { raspteal_pad_raw_event(pad, code, raw, v) }
+}
+
+pub fn pad_change_map(pad: Pad, map: Mapping) -> Told {
+    unsafe { raspteal_pad_change_map(pad, map) }
+}
+
+pub fn pad_value(pad: Pad, e: Element) -> i16 {
+    unsafe { raspteal_pad_value(pad, e) }
+}

@@ -2,6 +2,7 @@
 //! Arguments: seconds, seed, corpus files. The last line is the summary; status 0 only without a difference or a panic.
 use harness::check::{Tally, GROUPS};
 use harness::compare::{self, AllSlots};
+use harness::games;
 use harness::gen::{self, Rng};
 use harness::pads;
 use harness::plain::AXIS;
@@ -58,6 +59,7 @@ fn random(t: &mut Tally, lines: &[&[u8]], secs: u64, seed: u64) {
             if k % 10 == 0 {
                 compare::any_map(t, &mut r);
                 pads::events(t, &mut r);
+                games::history(t, &mut r);
                 let (room, at, n) = (r.below(60), r.below(64), r.next() as usize >> r.below(64));
                 compare::writers(t, room, at, n, (r.next() as u128 * r.next() as u128).to_be_bytes());
             }
@@ -156,6 +158,7 @@ mod fixed {
         t.progress("element calls on every number", true);
         pads::values(t);
         t.progress("every raw value on every kind of entry", true);
+        games::many_codes(t);
         corpora(t, corpus);
         t.progress("both corpora", true);
         boundaries(t);

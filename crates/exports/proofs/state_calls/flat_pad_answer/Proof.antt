@@ -1,0 +1,33 @@
+-- Each variant by its own arm. Assumes nothing.
+use borrow.Author.Needs.{needs}
+use Rattle.exports.proofs.state_calls.flat_pad_answer.Statement.{statement}
+use Rattle.exports.proofs.state_calls.flat_pad_answer.Tie as tie
+
+enum-told : tie.Need-enum-told
+enum-told c = search needs
+
+flat-no-refusal-requires : tie.Need-flat-no-refusal-requires
+flat-no-refusal-requires c κs = search needs
+
+enum-told-2 : tie.Need-enum-told-2
+enum-told-2 c = search needs
+
+flat-refusal-requires : tie.Need-flat-refusal-requires
+flat-refusal-requires c κs = search needs
+
+returns : tie.Need-returns
+returns c = simp (c .before .enum-told .given .1, c .flat-no-refusal .ensures)
+
+returns-2 : tie.Need-returns-2
+returns-2 c = simp (c .before .enum-told2 .given .1, c .flat-refusal .ensures)
+
+pub flat-pad-answer-spec : {M : Type 1} → statement M
+flat-pad-answer-spec =
+    tie.close
+    (tie.spec
+    enum-told
+    flat-no-refusal-requires
+    enum-told-2
+    flat-refusal-requires
+    returns
+    returns-2)

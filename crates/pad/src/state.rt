@@ -1,0 +1,177 @@
+// A pad while a game runs: the codes that it has reported with their last raw values, and the current map.
+use crate::choice::element_number;
+use crate::choice::held_place;
+use crate::events::ELEMENTS;
+use crate::events::Events;
+use crate::events::Raw;
+use crate::numbers::held_number;
+use crate::numbers::unbiased;
+use crate::telling::all_numbers;
+use crate::telling::code_events;
+use crate::telling::differences;
+use crate::telling::no_events;
+use crate::telling::place_of;
+use line::ev::AxisOrBtn;
+use line::ev::Code;
+use line::mapping::CODES_MAX;
+use line::mapping::Mapping;
+ghost use mathlib.Core.Path.{_≡_};
+ghost use Prim.Native.Nat.{_≤_};
+ghost use Rattle.pad.specs.ValueClaims.{RawWithin};
+ghost use Rattle.pad.specs.Pads.{HELD_MAX};
+ghost use Rattle.pad.specs.States.{newPad, rawEventOf, changeMapOf, refusedOf, padValue, entryNumbers};
+ghost use Rattle.pad.specs.PadGuarantee.{ShortAll};
+ghost use Rattle.line.specs.Maps as specs;
+ghost use Rattle.pad.specs.Inner.{cappedOf, grownOf};
+
+// The most codes that a pad holds.
+pub const HELD_MAX: usize = 256;
+
+// Held codes and the entries of the map, as numbers. Any numbers mean something: counts over 256 are read as 256.
+pub struct Pad {
+    pub count: usize,
+    pub held: [u64; HELD_MAX],
+    pub entry_count: usize,
+    pub entries: [u64; CODES_MAX],
+}
+
+pub enum PadAnswer {
+    Done,
+    // A raw event for a 257th code.
+    TooManyCodes,
+}
+
+// What a call answers: the state after it, and the events.
+pub struct Told {
+    pub answer: PadAnswer,
+    pub pad: Pad,
+    pub events: Events,
+}
+
+impl Pad {
+    // No codes and the empty map.
+    pub fn new() -> Pad
+        ensures { λ r. ⌜ r ≡ newPad ⌝ }
+    {
+        Pad {
+            count: 0,
+            held: [0; HELD_MAX],
+            entry_count: 0,
+            entries: [0; CODES_MAX],
+        }
+    }
+
+    // A raw value of a code: the state that holds it, and the event of its element, if that has another value now.
+    // A 257th code is refused, and nothing is changed.
+    pub fn raw_event(self, code: Code, raw: Raw) -> Told
+        ensures { λ r. ⌜ (r ≡ rawEventOf self code raw) × RawWithin raw ⌝ }
+    {
+        let x = held_number(code, raw);
+        let held = self.held;
+        let entries = self.entries;
+        let n = capped(self.count);
+        let i = held_place(&held, n, code);
+        if i == HELD_MAX {
+            return refused(self);
+        }
+        let mut later = held;
+        later[i] = x;
+        let many = grown(i, n);
+        let m = capped(self.entry_count);
+        let events = code_events(&held, n, &later, many, &entries, m, code);
+        Told {
+            answer: PadAnswer::Done,
+            pad: Pad {
+                count: many,
+                held: later,
+                entry_count: self.entry_count,
+                entries,
+            },
+            events,
+        }
+    }
+
+    // Another map: the state with it, and an event for each element that has another value now.
+    pub fn change_map(self, map: Mapping) -> Told
+        ensures { λ r. ⌜ (r ≡ changeMapOf self map) × ShortAll (specs.held map) ⌝ }
+    {
+        let held = self.held;
+        let entries = self.entries;
+        let n = capped(self.count);
+        let before = all_numbers(&held, n, &entries, capped(self.entry_count));
+        let many = capped(map.count);
+        let later = entry_numbers(map);
+        let after = all_numbers(&held, n, &later, many);
+        Told {
+            answer: PadAnswer::Done,
+            pad: Pad {
+                count: self.count,
+                held,
+                entry_count: many,
+                entries: later,
+            },
+            events: differences(&before, &after),
+        }
+    }
+
+    // The value of an element; 0 for one that is left out.
+    pub fn value(self, element: AxisOrBtn) -> i16
+        ensures { λ r. ⌜ r ≡ padValue self element ⌝ }
+    {
+        if place_of(element) == ELEMENTS {
+            return 0;
+        }
+        let held = self.held;
+        let entries = self.entries;
+        let n = capped(self.count);
+        let m = capped(self.entry_count);
+        unbiased(element_number(&held, n, &entries, m, element))
+    }
+}
+
+// A count over the most is read as the most.
+fn capped(count: usize) -> usize
+    ensures { λ r. ⌜ (r ≡ cappedOf count) × (r ≤ HELD_MAX) ⌝ }
+{
+    if count < HELD_MAX {
+        return count;
+    }
+    HELD_MAX
+}
+
+// How many codes are held after a put at place i of n.
+fn grown(i: usize, n: usize) -> usize
+    requires { ⌜ n ≤ HELD_MAX ⌝ }
+    ensures { λ r. ⌜ r ≡ grownOf i n ⌝ }
+{
+    if i < n {
+        return n;
+    }
+    n + 1
+}
+
+// A 257th code.
+fn refused(pad: Pad) -> Told
+    ensures { λ r. ⌜ r ≡ refusedOf pad ⌝ }
+{
+    Told {
+        answer: PadAnswer::TooManyCodes,
+        pad,
+        events: no_events(),
+    }
+}
+
+// The entries of a map as numbers, and 0 up to 256 of them.
+fn entry_numbers(map: Mapping) -> [u64; CODES_MAX]
+    ensures { λ r. ⌜ (r ≡ entryNumbers (specs.held map)) × ShortAll (specs.held map) ⌝ }
+{
+    let n = capped(map.count);
+    let mut out = [0u64; CODES_MAX];
+    let mut i: usize = 0;
+    while i < n {
+        let e = map.entries[i];
+        out[i] = e.number();
+        i += 1;
+    }
+    out
+}
