@@ -134,7 +134,8 @@ fn put_test(fd: i32) {
   event for a code that is not in the map, for a value that the line gives none (the half of an
   axis that it leaves out) and for a button that is held and repeats. A value that no button or
   axis has gives none either, and the status is then 1: a recording does not say which range a
-  pad's axes have, so nothing is scaled. 'hub help save' says how CODES are written.
+  pad's axes have, so nothing is scaled. Where only the UUID without its checksum is held, it
+  goes by that line, and says so as find does. 'hub help save' says how CODES are written.
 ",
     );
 }

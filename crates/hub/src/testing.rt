@@ -14,6 +14,7 @@ use crate::help::wrong_use;
 use crate::holding::no_uuid;
 use crate::input_events::NextInput;
 use crate::input_events::next_input;
+use crate::near::complain_near;
 use crate::say::DONE;
 use crate::say::ERR;
 use crate::say::TROUBLE;
@@ -32,9 +33,9 @@ use crate::words::refused;
 use line::mapping::Mapping;
 use line::reading::SdlAnswer;
 use line::reading::parse_sdl_mapping;
-use store::calls::Look;
-use store::calls::found;
-use store::calls::get;
+use store::near::NearLook;
+use store::near::found_near;
+use store::near::get_near;
 use text::bytes::same_bytes;
 use text::uuid::Uuid;
 use text::uuid::UuidParse;
@@ -187,11 +188,15 @@ fn test_held(store: &[u8], id: Uuid, asked: Request) -> u8 {
     if status != DONE {
         return status;
     }
-    let look = found(&index, &text, id);
+    let look = found_near(&index, &text, id);
     match look {
-        Look::Found => test_line(get(&index, &text, id), asked),
-        Look::Missing => none(),
-        Look::Unsound => refused(19),
+        NearLook::Exact => test_line(get_near(&index, &text, id), asked),
+        NearLook::Near => {
+            complain_near(id);
+            test_line(get_near(&index, &text, id), asked)
+        }
+        NearLook::Missing => none(),
+        NearLook::Unsound => refused(19),
     }
 }
 
