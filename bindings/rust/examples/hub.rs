@@ -66,7 +66,7 @@ fn main() -> Result<(), Box<dyn Error>> {
 
     // Staff bind South and East anew.
     let mut bound = MappingData::new();
-    for (code, element) in map.iter() {
+    for (code, element) in &map {
         match element {
             AxisOrBtn::Btn(b) if BUTTONS.contains(&code) => bound.insert_btn(code, b),
             AxisOrBtn::Axis(a) if AXES.contains(&code) => bound.insert_axis(code, a),

@@ -14,10 +14,16 @@ impl Code {
     }
 }
 
-/// In hexadecimal.
+/// In hexadecimal, with the width, fill and zeros that are asked for.
+///
+/// ```
+/// use raspteal::Code;
+///
+/// assert_eq!(format!("{} {:>6} {:08}", Code(0x10130), Code(0x10130), Code(0x10130)), "10130  10130 00010130");
+/// ```
 impl fmt::Display for Code {
     fn fmt(&self, f: &mut fmt::Formatter) -> fmt::Result {
-        write!(f, "{:x}", self.0)
+        fmt::LowerHex::fmt(&self.0, f)
     }
 }
 
@@ -226,12 +232,12 @@ impl AxisOrBtn {
     }
 }
 
-/// The source's name of the button or axis.
+/// The source's name of the button or axis, with the width that is asked for.
 impl fmt::Display for AxisOrBtn {
     fn fmt(&self, f: &mut fmt::Formatter) -> fmt::Result {
         match self {
-            AxisOrBtn::Axis(a) => write!(f, "{a:?}"),
-            AxisOrBtn::Btn(b) => write!(f, "{b:?}"),
+            AxisOrBtn::Axis(a) => f.pad(&format!("{a:?}")),
+            AxisOrBtn::Btn(b) => f.pad(&format!("{b:?}")),
         }
     }
 }

@@ -3,7 +3,8 @@ use crate::ffi;
 use crate::Code;
 use std::fmt;
 
-/// A refusal of document 01, number 1 to 23, or of document 02, number 27. A place is a byte's place in the line, name or text that was given.
+/// A refusal of document 01, number 1 to 23, or of document 02, number 27. A place is a byte's place in the line, name or
+/// text that was given. Requests of the customers bring further numbers, so that a `match` has to have an arm for those.
 ///
 /// ```
 /// use raspteal::{Error, Mapping};
@@ -12,9 +13,11 @@ use std::fmt;
 /// let refused = Mapping::parse_sdl_mapping(line, &[], &[]).unwrap_err();
 /// assert_eq!(refused, Error::InvalidValue { place: 35 });
 /// assert_eq!((refused.number(), refused.place(), refused.code()), (4, Some(35), None));
-/// assert_eq!(refused.to_string(), "refused 4: a pair's value is none: aN, bN or hH.D with numbers up to 65535");
+/// let text = "refused 4: a pair's value is none: aN, bN or hH.D with numbers up to 65535 (place 35)";
+/// assert_eq!(refused.to_string(), text);
 /// ```
 #[derive(Clone, Copy, Debug, PartialEq, Eq, Hash)]
+#[non_exhaustive]
 pub enum Error {
     /// 1: the first field of a line is no UUID. The place is 0.
     InvalidGuid {
@@ -220,9 +223,17 @@ impl Error {
     }
 }
 
+/// Number and meaning, with the place or the code where there is one.
 impl fmt::Display for Error {
     fn fmt(&self, f: &mut fmt::Formatter) -> fmt::Result {
-        write!(f, "refused {}: {}", self.number(), self.meaning())
+        let mut text = format!("refused {}: {}", self.number(), self.meaning());
+        if let Some(place) = self.place() {
+            text += &format!(" (place {place})");
+        }
+        if let Some(code) = self.code() {
+            text += &format!(" (code {code})");
+        }
+        f.pad(&text)
     }
 }
 
@@ -239,7 +250,7 @@ pub struct InsertError {
 
 impl fmt::Display for InsertError {
     fn fmt(&self, f: &mut fmt::Formatter) -> fmt::Result {
-        write!(f, "{}, after {} lines", self.error, self.count)
+        f.pad(&format!("{}, after {} lines", self.error, self.count))
     }
 }
 
@@ -255,7 +266,7 @@ pub struct ParseUuidError;
 
 impl fmt::Display for ParseUuidError {
     fn fmt(&self, f: &mut fmt::Formatter) -> fmt::Result {
-        f.write_str("no UUID: neither 32 hexadecimal digits nor a form with hyphens")
+        f.pad("no UUID: neither 32 hexadecimal digits nor a form with hyphens")
     }
 }
 

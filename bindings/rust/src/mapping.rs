@@ -160,8 +160,8 @@ impl Mapping {
     }
 
     /// The entries without their ranges, ascending by code.
-    pub fn iter(&self) -> impl ExactSizeIterator<Item = (Code, AxisOrBtn)> + '_ {
-        self.0.entries[..self.len()].iter().map(|e| (Code(e.code), e.element.into()))
+    pub fn iter(&self) -> Iter<'_> {
+        Iter(self.0.entries[..self.len()].iter())
     }
 
     /// The number of codes.
@@ -205,6 +205,55 @@ impl Mapping {
 
     pub(crate) fn of(map: ffi::Mapping) -> Mapping {
         Mapping(map)
+    }
+}
+
+/// The entries of a map without their ranges, ascending by code; made by [`Mapping::iter`] and by a `for` over a map.
+///
+/// ```
+/// use raspteal::{Button, Code, Mapping};
+///
+/// let mut map = Mapping::new();
+/// map.put(Code(0x10130), Button::East).unwrap();
+/// for (code, element) in &map {
+///     println!("{code:>8}  {element:<12}|");
+/// }
+/// ```
+#[derive(Clone, Debug)]
+pub struct Iter<'a>(std::slice::Iter<'a, ffi::Entry>);
+
+fn pair(e: &ffi::Entry) -> (Code, AxisOrBtn) {
+    (Code(e.code), e.element.into())
+}
+
+impl Iterator for Iter<'_> {
+    type Item = (Code, AxisOrBtn);
+
+    fn next(&mut self) -> Option<(Code, AxisOrBtn)> {
+        self.0.next().map(pair)
+    }
+
+    fn size_hint(&self) -> (usize, Option<usize>) {
+        self.0.size_hint()
+    }
+}
+
+impl DoubleEndedIterator for Iter<'_> {
+    fn next_back(&mut self) -> Option<(Code, AxisOrBtn)> {
+        self.0.next_back().map(pair)
+    }
+}
+
+impl ExactSizeIterator for Iter<'_> {}
+
+impl std::iter::FusedIterator for Iter<'_> {}
+
+impl<'a> IntoIterator for &'a Mapping {
+    type Item = (Code, AxisOrBtn);
+    type IntoIter = Iter<'a>;
+
+    fn into_iter(self) -> Iter<'a> {
+        self.iter()
     }
 }
 

@@ -86,7 +86,7 @@ impl fmt::Display for Uuid {
     fn fmt(&self, f: &mut fmt::Formatter) -> fmt::Result {
         let mut digits = [0; 32];
         self.write_simple(&mut digits, 0);
-        digits.iter().try_for_each(|&d| fmt::Write::write_char(f, char::from(d)))
+        f.pad(std::str::from_utf8(&digits).unwrap_or_default())
     }
 }
 

@@ -1,5 +1,5 @@
 //! Raw values and pads, by the rows that document 02 gives.
-use raspteal::{Axis, AxisOrBtn, AxisRange, Button, Code, Entry, Event, Mapping, Pad, Raw};
+use raspteal::{Axis, AxisOrBtn, AxisRange, Button, Code, Entry, Event, Mapping, Raw};
 
 const HALVES: [AxisRange; 3] = [AxisRange::Full, AxisRange::UpperHalf, AxisRange::LowerHalf];
 const EDGES: [i16; 5] = [-32768, -1, 0, 1, 32767];

@@ -9,7 +9,13 @@ fn read(line: &str) -> Error {
 
 fn expect(e: Error, number: u8, place: Option<usize>, code: Option<Code>) {
     assert_eq!((e.number(), e.place(), e.code()), (number, place, code), "{e}");
-    assert_eq!(e.to_string(), format!("refused {number}: {}", e.meaning()));
+    let about = match (place, code) {
+        (Some(place), _) => format!(" (place {place})"),
+        (None, Some(code)) => format!(" (code {code})"),
+        (None, None) => String::new(),
+    };
+    assert_eq!(e.to_string(), format!("refused {number}: {}{about}", e.meaning()));
+    assert_eq!(format!("{e:>100}").len(), 100);
 }
 
 fn south(code: u32) -> MappingData {
@@ -198,6 +204,6 @@ fn as_errors() {
         Mapping::parse_sdl_mapping(U, &[], &[])?;
         Ok(())
     }
-    assert_eq!(boxed().unwrap_err().to_string(), "refused 2: no comma follows the UUID");
+    assert_eq!(boxed().unwrap_err().to_string(), "refused 2: no comma follows the UUID (place 0)");
     assert!("".parse::<Uuid>().unwrap_err().to_string().starts_with("no UUID"));
 }
