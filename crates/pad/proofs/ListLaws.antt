@@ -19,7 +19,7 @@ use Rattle.pad.specs.declared.events.Event.{Event}
 use Rattle.pad.specs.declared.events.Events.{Events}
 use Rattle.pad.specs.Pads.{elementAt, sameℤ, changes, tabulate}
 use Rattle.pad.specs.States.{unusedEvent, eventsIn, entryNumbers}
-use Rattle.pad.specs.Inner.{shifted, unshifted, Small, oneEvent, Filled, Listed}
+use Rattle.pad.specs.Inner.{shifted, unshifted, Small, oneEvent, Filled, Filling, Listed}
 use Rattle.pad.proofs.EventLaws.{back}
 use Rattle.pad.proofs.ReaderLaws.{same-value}
 use Rattle.pad.proofs.TouchLaws.{same-refl}
@@ -93,6 +93,36 @@ small-at (x ∷ xs) (suc k) s h = small-at xs k (s .1) (omega arith)
 pub small-nth : (xs : List ℕ) (k : ℕ) → Small xs → k < length xs → getD xs k 0 < 65536
 small-nth = small-at
 
+-- ---- a list of events that is filled
+pub filling-none : Filling (replicate 27 unusedEvent) 0
+filling-none = record { long = refl; rest = refl }
+
+module _ (list : List Event) (count : ℕ) (v : Event) (h : Filling list count) (few : count < 27) where
+  pub filling-taken : take (count + 1) (set list count v) ≡ take count list ++ v ∷ []
+  filling-taken = rw (add-one count) (take-suc-set list count v (omega (arith, h .long)))
+
+  pub filling-more : Filling (set list count v) (count + 1)
+  filling-more =
+      let e : 27 - count ≡ suc (27 - (count + 1)) = omega arith in
+      let r : replicate (27 - count) unusedEvent ≡ unusedEvent ∷ replicate (27 - (count + 1)) unusedEvent =
+      ap (λ (j : ℕ). replicate j unusedEvent) e in
+      record {
+        long = length-set list count v ∙ h .long;
+        rest =
+            rw (add-one count) (drop-set list count v ∙ drop-more list count)
+            ∙ ap (λ (l : List Event). drop 1 l) (h .rest ∙ r);
+      }
+
+pub filling-shape : (list : List Event) (count : ℕ) → Filling list count → count ≤ 27
+    → record { count = count; list = list } ≡ eventsIn (take count list)
+unfolding eventsIn
+filling-shape list count h few =
+    let n : length (take count list) ≡ count = length-take-le count list (omega (arith, h .long)) in
+    ap (λ (l : List Event). record { count = count; list = l })
+    (sym (take-append-drop count list) ∙ ap (λ (l : List Event). take count list ++ l) (h .rest))
+    ∙ ap (λ (j : ℕ). record { count = j; list = take count list ++ replicate (27 - j) unusedEvent }) (sym n)
+
+-- ---- the events between values
 module _ (bs cs : List ℕ) (k : ℕ) (lb : length bs ≡ 27) (la : length cs ≡ 27) (lt : k < 27) where
   next-of : (xs : List ℕ) → length xs ≡ 27
       → drop k (map unshifted xs) ≡ unshifted (getD xs k 0) ∷ drop (k + 1) (map unshifted xs)
@@ -142,8 +172,7 @@ module _ (bs cs : List ℕ) (k : ℕ) (lb : length bs ≡ 27) (la : length cs �
       record {
         within = omega arith;
         few = omega (arith, h .few);
-        long = h .long;
-        rest = h .rest;
+        fill = h .fill;
         told = ap (λ (l : List Event). take count list ++ l) (sym (changes-same e)) ∙ h .told;
       }
 
@@ -152,32 +181,20 @@ module _ (bs cs : List ℕ) (k : ℕ) (lb : length bs ≡ 27) (la : length cs �
       → Listed bs cs (set list count v) (count + 1) (k + 1)
   listed-other list count v h hb ha d ev =
       let few : count < 27 = omega (arith, h .few) in
-      let t : take (count + 1) (set list count v) ≡ take count list ++ v ∷ [] =
-      rw (add-one count) (take-suc-set list count v (omega (arith, h .long))) in
       let more : List Event = changes (k + 1) (drop (k + 1) (map unshifted bs)) (drop (k + 1) (map unshifted cs)) in
-      let r : replicate (27 - count) unusedEvent ≡ unusedEvent ∷ replicate (27 - (count + 1)) unusedEvent =
-      one-less count few in
       record {
         within = omega arith;
         few = omega (arith, h .few);
-        long = length-set list count v ∙ h .long;
-        rest =
-            rw (add-one count) (drop-set list count v ∙ drop-more list count)
-            ∙ ap (λ (l : List Event). drop 1 l) (h .rest ∙ r);
+        fill = filling-more list count v (h .fill) few;
         told =
-            ap (λ (l : List Event). l ++ more) t ∙ append-assoc (take count list) (v ∷ []) more
+            ap (λ (l : List Event). l ++ more) (filling-taken list count v (h .fill) few)
+            ∙ append-assoc (take count list) (v ∷ []) more
             ∙ ap (λ (w : Event). take count list ++ w ∷ more) ev
             ∙ ap (λ (l : List Event). take count list ++ l) (sym (changes-other hb ha d)) ∙ h .told;
       }
-    where
-      one-less : (n : ℕ) → n < 27
-          → replicate (27 - n) unusedEvent ≡ unusedEvent ∷ replicate (27 - (n + 1)) unusedEvent
-      one-less n l =
-          let e : 27 - n ≡ suc (27 - (n + 1)) = omega arith in
-          ap (λ (j : ℕ). replicate j unusedEvent) e
 
 pub none-listed : (bs cs : List ℕ) → Listed bs cs (replicate 27 unusedEvent) 0 0
-none-listed bs cs = record { within = omega arith; few = omega arith; long = refl; rest = refl; told = refl }
+none-listed bs cs = record { within = omega arith; few = omega arith; fill = filling-none; told = refl }
 
 nothing-left : (xs ys : List ℤ) → length xs ≡ 27 → changes 27 (drop 27 xs) ys ≡ []
 unfolding changes
@@ -189,19 +206,13 @@ nothing-left xs ys l = ap (λ (z : List ℤ). changes 27 z ys) (none-after xs l)
 pub all-listed : (bs cs : List ℕ) (list : List Event) (count k : ℕ) → length bs ≡ 27 → k ≡ 27
     → Listed bs cs list count k
     → record { count = count; list = list } ≡ eventsIn (changes 0 (map unshifted bs) (map unshifted cs))
-unfolding eventsIn
 all-listed bs cs list count k lb e h =
     let none : changes k (drop k (map unshifted bs)) (drop k (map unshifted cs)) ≡ [] =
     ap (λ (j : ℕ). changes j (drop j (map unshifted bs)) (drop j (map unshifted cs))) e
     ∙ nothing-left (map unshifted bs) (drop 27 (map unshifted cs)) (length-map bs unshifted ∙ lb) in
     let all : take count list ≡ changes 0 (map unshifted bs) (map unshifted cs) =
     sym (append-nil (take count list)) ∙ ap (λ (l : List Event). take count list ++ l) (sym none) ∙ h .told in
-    let n : length (take count list) ≡ count = length-take-le count list (omega (arith, h .few, h .within, h .long)) in
-    let shape : record { count = count; list = list } ≡ eventsIn (take count list) =
-    ap (λ (l : List Event). record { count = count; list = l })
-    (sym (take-append-drop count list) ∙ ap (λ (l : List Event). take count list ++ l) (h .rest))
-    ∙ ap (λ (j : ℕ). record { count = j; list = take count list ++ replicate (27 - j) unusedEvent }) (sym n) in
-    shape ∙ ap (λ (l : List Event). eventsIn l) all
+    filling-shape list count (h .fill) (omega (arith, h .few, h .within)) ∙ ap (λ (l : List Event). eventsIn l) all
   where
     append-nil : (l : List Event) → l ++ [] ≡ l
     append-nil [] = refl

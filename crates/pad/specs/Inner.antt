@@ -152,11 +152,15 @@ pub record Filled (f : ℕ → ℤ) (k : ℕ) (out : List ℕ) : Type 0 where
   pub values : map unshifted (take k out) ≡ tabulate f k 0
   pub small : Small (take k out)
 
--- the events of the first k places stand in list, count of them, and unused ones after them
+-- events stand in list, count of them, and unused ones after them
+pub record Filling (list : List Event) (count : ℕ) : Type 0 where
+  pub long : length list ≡ 27
+  pub rest : drop count list ≡ replicate (27 - count) unusedEvent
+
+-- they are those of the first k places
 pub record Listed (bs cs : List ℕ) (list : List Event) (count k : ℕ) : Type 0 where
   pub within : k ≤ 27
   pub few : count ≤ k
-  pub long : length list ≡ 27
-  pub rest : drop count list ≡ replicate (27 - count) unusedEvent
+  pub fill : Filling list count
   pub told : take count list ++ changes k (drop k (map unshifted bs)) (drop k (map unshifted cs))
       ≡ changes 0 (map unshifted bs) (map unshifted cs)
