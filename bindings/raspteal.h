@@ -170,6 +170,20 @@ typedef struct {
     raspteal_event events[RASPTEAL_ELEMENTS];
 } raspteal_told;
 
+/* Two pads for one player. */
+typedef struct {
+    raspteal_pad first;
+    raspteal_pad second;
+} raspteal_pads;
+
+/* Two pads after a call, and the first count events, as in raspteal_told. */
+typedef struct {
+    raspteal_refusal refusal;
+    raspteal_pads pads;
+    size_t count;
+    raspteal_event events[RASPTEAL_ELEMENTS];
+} raspteal_pads_told;
+
 /* A map from codes to elements: the first count entries, ascending by code, the others unused: code 0, button 0, input
  * and output 2, not inverted. An unused entry is not all 0. The name is name_len bytes at name_start of the line that
  * the map was read from. hats_mapped has a bit for each direction of hat 0. */
@@ -513,6 +527,23 @@ raspteal_told raspteal_pad_change_map(raspteal_pad pad, raspteal_mapping map);
 
 /* The value of an element; 0 for one other than buttons 1 to 19 and axes 1 to 8. */
 int16_t raspteal_pad_value(raspteal_pad pad, raspteal_element e);
+
+/* ---- Two pads for one player ---------------------------------------------------------------------------------------
+ * A second pad plays along. The value of an element is, of the two pads' values, the one farther from zero, and the first
+ * pad's between equal distances. The events are those of these values. second says which pad a call is for: false the
+ * first one, true the second. */
+
+/* No codes and the empty map, on both pads. */
+raspteal_pads raspteal_pads_new(void);
+
+/* A raw value of a code of one pad, as raspteal_pad_raw_event. Refusal: 27, a 257th code of that pad. */
+raspteal_pads_told raspteal_pads_raw_event(raspteal_pads pads, bool second, uint32_t code, uint8_t raw, int16_t v);
+
+/* Another map for one pad. */
+raspteal_pads_told raspteal_pads_change_map(raspteal_pads pads, bool second, raspteal_mapping map);
+
+/* The value of an element; 0 for one other than buttons 1 to 19 and axes 1 to 8. */
+int16_t raspteal_pads_value(raspteal_pads pads, raspteal_element e);
 
 /* ---- Refusals by number: raspteal_meaning in raspteal_numbers.h has their words ------------------------------------
  * Only the walker says 8 and 9, only clear 23; 19 is also said where a buffer has more than 65535 bytes; 15 carries its

@@ -166,3 +166,33 @@ pub fn change_map(n: usize) -> Vec<Case> {
     let maps = [AnyMap::new(n, &other), AnyMap::new(n, &entries(&mut r, n))];
     case(format!("{n} codes, {n} entries"), Changes { pad, maps })
 }
+
+/// Raw events of two pads in turn.
+struct TwoEvents {
+    pads: ffi::Pads,
+    raws: Vec<(u32, u8, i16)>,
+}
+
+impl Work for TwoEvents {
+    fn calls(&self) -> usize {
+        self.raws.len()
+    }
+    fn go(&mut self) {
+        for (k, (code, raw, v)) in self.raws.iter().enumerate() {
+            let told = unsafe { ffi::raspteal_pads_raw_event(self.pads, k % 2 == 1, *code, *raw, *v) };
+            self.pads = black_box(told).pads;
+        }
+    }
+}
+
+/// A raw event of two pads with n codes and n entries each.
+pub fn two_events(n: usize) -> Vec<Case> {
+    let mut r = Rng::new(5);
+    let pads = ffi::Pads { first: held(&mut r, n), second: held(&mut r, n) };
+    let one = |_| {
+        let (raw, v) = raw(&mut r);
+        (r.below(n) as u32, raw, v)
+    };
+    let raws = (0..CALLS / 8).map(one).collect();
+    case(format!("{n} codes, {n} entries each"), TwoEvents { pads, raws })
+}

@@ -40,7 +40,7 @@ const ORDINARY: Goal = Goal::AtMost(1.5, Side::Sum);
 const WORST: Goal = Goal::AtMost(15.0, Side::Sum);
 const LINEAR: Goal = Goal::Growth(2.2);
 
-pub const ROWS: [Row; 23] = [
+pub const ROWS: [Row; 24] = [
     row("read", "`parse_sdl_mapping`, 32 buttons and 16 axes", HALF, read),
     row("build", "`from_data`, 25 slots", HALF, build),
     row("default", "`default`", Goal::Stated, default),
@@ -64,6 +64,7 @@ pub const ROWS: [Row; 23] = [
     row("pad-event", "`Pad::raw_event`", Goal::Nanoseconds(600.0), |_| pads::raw_event(20)),
     row("pad-event-256", "`Pad::raw_event`, full", Goal::Nanoseconds(25000.0), |_| pads::raw_event(256)),
     row("pad-map", "`Pad::change_map`", Goal::Nanoseconds(10000.0), |_| pads::change_map(20)),
+    row("pads-event", "`Pads::raw_event`", Goal::Nanoseconds(1200.0), |_| pads::two_events(20)),
 ];
 
 /// Records that fill an index of 65535 bytes, and sizes for a growth.

@@ -87,6 +87,10 @@ static raspteal_element element;
     X(pad_raw_event, (raspteal_pad_new(), 5, 2, 5))                                                                    \
     X(pad_change_map, (raspteal_pad_new(), map))                                                                       \
     X(pad_value, (raspteal_pad_new(), element))                                                                        \
+    X(pads_new, ())                                                                                                    \
+    X(pads_raw_event, (raspteal_pads_new(), true, 5, 2, 5))                                                            \
+    X(pads_change_map, (raspteal_pads_new(), true, map))                                                               \
+    X(pads_value, (raspteal_pads_new(), element))                                                                      \
     X(store_insert, (STORE, (const uint8_t *)list, strlen(list)))                                                      \
     X(store_found, (STORE, pad))                                                                                       \
     X(store_get, (STORE, pad, OUT))                                                                                    \

@@ -47,6 +47,8 @@ static void layout(void) {
     CHECK(offsetof(raspteal_pad, entry_count) == 8 + 256 * 8);
     CHECK(sizeof(raspteal_event) == 6);
     CHECK(offsetof(raspteal_told, pad) == 24);
+    CHECK(sizeof(raspteal_pads) == 2 * sizeof(raspteal_pad));
+    CHECK(offsetof(raspteal_pads_told, count) == 24 + sizeof(raspteal_pads));
     CHECK(offsetof(raspteal_told, events) == 24 + sizeof(raspteal_pad) + 8);
     CHECK(offsetof(raspteal_mapping, name_start) == 8 + 256 * 12);
     CHECK(offsetof(raspteal_mapping, hats_mapped) == 8 + 256 * 12 + 17);
@@ -328,6 +330,29 @@ static void games(void) {
     CHECK(memcmp(&t.pad, &p, sizeof p) == 0);
 }
 
+/* A carer plays along. */
+static void two_pads(void) {
+    raspteal_element stick = {true, 1};
+    raspteal_mapping a = raspteal_mapping_put(raspteal_mapping_new(), raspteal_entry_new(7, stick)).map;
+    raspteal_mapping b = raspteal_mapping_put(raspteal_mapping_new(), raspteal_entry_new(8, stick)).map;
+    raspteal_pads_told t = raspteal_pads_change_map(raspteal_pads_new(), false, a);
+    t = raspteal_pads_change_map(t.pads, true, b);
+    CHECK(t.refusal.number == 0 && t.count == 0 && t.pads.first.entry_count == 1 && t.pads.second.entry_count == 1);
+    t = raspteal_pads_raw_event(t.pads, false, 7, 2, -5);
+    CHECK(t.count == 1 && t.events[0].element.is_axis && t.events[0].value == -5);
+    t = raspteal_pads_raw_event(t.pads, true, 8, 2, 5);
+    CHECK(t.count == 0 && t.pads.second.count == 1 && raspteal_pads_value(t.pads, stick) == -5);
+    t = raspteal_pads_raw_event(t.pads, true, 8, 2, 6);
+    CHECK(t.count == 1 && t.events[0].value == 6 && raspteal_pads_value(t.pads, stick) == 6);
+    t = raspteal_pads_change_map(t.pads, true, raspteal_mapping_new());
+    CHECK(t.count == 1 && t.events[0].value == -5);
+    raspteal_pads p = t.pads;
+    for (uint32_t code = 0; code < 256; code++) p = raspteal_pads_raw_event(p, true, code, 1, 0).pads;
+    t = raspteal_pads_raw_event(p, true, 256, 1, 0);
+    CHECK(p.second.count == 256 && t.refusal.number == 27 && t.count == 0 && memcmp(&t.pads, &p, sizeof p) == 0);
+    CHECK(raspteal_pads_raw_event(p, false, 256, 1, 0).refusal.number == 0);
+}
+
 int main(void) {
     layout();
     numbers();
@@ -339,6 +364,7 @@ int main(void) {
     near_stores();
     pads();
     games();
+    two_pads();
     printf("%d passed, %d failed\n", passed, failed);
     return failed != 0;
 }

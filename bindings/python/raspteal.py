@@ -78,6 +78,8 @@ pad = struct("pad", ("count", c_size_t), ("held", c_uint64 * HELD_MAX), ("entry_
              ("entries", c_uint64 * CODES_MAX))
 event = struct("event", ("element", element), ("value", c_int16))
 told = struct("told", ("refusal", refusal), ("pad", pad), ("count", c_size_t), ("events", event * ELEMENTS))
+pads = struct("pads", ("first", pad), ("second", pad))
+pads_told = struct("pads_told", ("refusal", refusal), ("pads", pads), ("count", c_size_t), ("events", event * ELEMENTS))
 slot = struct("slot", ("filled", c_bool), ("code", c_uint32))
 data = struct("data", ("buttons", slot * BUTTONS), ("axes", slot * AXES))
 changed = struct("changed", ("former", code), ("slots", data))
@@ -118,6 +120,10 @@ CALLS = {
     "pad_raw_event": (told, [pad, c_uint32, c_uint8, c_int16]),
     "pad_change_map": (told, [pad, mapping]),
     "pad_value": (c_int16, [pad, element]),
+    "pads_new": (pads, []),
+    "pads_raw_event": (pads_told, [pads, c_bool, c_uint32, c_uint8, c_int16]),
+    "pads_change_map": (pads_told, [pads, c_bool, mapping]),
+    "pads_value": (c_int16, [pads, element]),
 }
 
 
@@ -338,6 +344,31 @@ class Pad:
     def value(self, e):
         """The value of an element; 0 for one other than buttons 1 to 19 and axes 1 to 8."""
         return call("pad_value", self.flat, e.flat)
+
+
+class Pads:
+    """Two pads for one player: each element has, of the two pads' values, the one farther from zero, and the first
+    pad's between equals. `second` says which pad a call is for; 27 counts that pad's codes alone."""
+
+    def __init__(self):
+        self.flat = call("pads_new")
+
+    def after(self, t):
+        accepted(t.refusal)
+        self.flat = t.pads
+        return [(plain(e.element), e.value) for e in t.events[: t.count]]
+
+    def raw_event(self, second, n, raw):
+        """A raw value of a code of one pad. Refusal: 27, a 257th code of that pad."""
+        return self.after(call("pads_raw_event", self.flat, second, within(n, 0, 2**32 - 1, "a code"), *raw))
+
+    def change_map(self, second, map):
+        """Another map for one pad."""
+        return self.after(call("pads_change_map", self.flat, second, map.flat))
+
+    def value(self, e):
+        """The value of an element; 0 for one other than buttons 1 to 19 and axes 1 to 8."""
+        return call("pads_value", self.flat, e.flat)
 
 
 def slots_of(bound):

@@ -4,7 +4,7 @@ import unittest
 
 import raspteal
 from raspteal import FULL, LOWER_HALF, PRESSED, RELEASED, UPPER_HALF
-from raspteal import Element, Entry, Mapping, Pad, Refused, Store, Uuid, axis, build
+from raspteal import Element, Entry, Mapping, Pad, Pads, Refused, Store, Uuid, axis, build
 
 U = "0" * 32
 ONE = Uuid("0" * 31 + "1")
@@ -155,6 +155,20 @@ class Cases(unittest.TestCase):
             pad.raw_event(n, axis(n))
         self.refused(27, pad.raw_event, 261, PRESSED)
         self.assertEqual(pad.raw_event(5, PRESSED), [(SOUTH, 32767)])
+
+    def test_pads(self):
+        pads, map = Pads(), Mapping()
+        map.put(Entry(5, LEFT_X))
+        for second in (False, True):
+            self.assertEqual(pads.change_map(second, map), [])
+        self.assertEqual(pads.raw_event(True, 5, axis(-5)), [(LEFT_X, -5)])
+        self.assertEqual(pads.raw_event(False, 5, axis(5)), [(LEFT_X, 5)])
+        self.assertEqual(pads.raw_event(True, 5, axis(-6)), [(LEFT_X, -6)])
+        self.assertEqual(pads.value(LEFT_X), -6)
+        for n in range(6, 261):
+            pads.raw_event(False, n, PRESSED)
+        self.refused(27, pads.raw_event, False, 261, PRESSED)
+        self.assertEqual(pads.raw_event(True, 261, PRESSED), [])
 
     def test_threads(self):
         """Look-ups of one store at the same time."""

@@ -152,6 +152,22 @@ pub struct Told {
 
 #[repr(C)]
 #[derive(Clone, Copy, Debug, PartialEq, Eq)]
+pub struct Pads {
+    pub first: Pad,
+    pub second: Pad,
+}
+
+#[repr(C)]
+#[derive(Clone, Copy, Debug, PartialEq, Eq)]
+pub struct PadsTold {
+    pub refusal: Refusal,
+    pub pads: Pads,
+    pub count: usize,
+    pub events: [Event; ELEMENTS],
+}
+
+#[repr(C)]
+#[derive(Clone, Copy, Debug, PartialEq, Eq)]
 pub struct Entered {
     pub found: bool,
     pub entry: Entry,
@@ -410,4 +426,8 @@ extern "C" {
     pub fn raspteal_pad_raw_event(pad: Pad, code: u32, raw: u8, v: i16) -> Told;
     pub fn raspteal_pad_change_map(pad: Pad, map: Mapping) -> Told;
     pub fn raspteal_pad_value(pad: Pad, e: Element) -> i16;
+    pub fn raspteal_pads_new() -> Pads;
+    pub fn raspteal_pads_raw_event(pads: Pads, second: bool, code: u32, raw: u8, v: i16) -> PadsTold;
+    pub fn raspteal_pads_change_map(pads: Pads, second: bool, map: Mapping) -> PadsTold;
+    pub fn raspteal_pads_value(pads: Pads, e: Element) -> i16;
 }

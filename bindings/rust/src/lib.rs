@@ -45,7 +45,7 @@ pub use data::{Built, MappingData};
 pub use element::{Axis, AxisOrBtn, Button, Code};
 pub use error::{Error, InsertError, ParseUuidError};
 pub use mapping::{Entry, Iter, Lookup, Mapping};
-pub use pad::{Event, Events, Pad, Raw};
+pub use pad::{Event, Events, Pad, Pads, Raw, Which};
 pub use parser::{count_tokens, first_token, AxisRange, Parser, Token};
 pub use store::{Match, Store};
 pub use uuid::Uuid;

@@ -149,6 +149,93 @@ impl fmt::Debug for Pad {
     }
 }
 
+/// The pad that a call is for.
+#[derive(Clone, Copy, Debug, PartialEq, Eq, Hash)]
+pub enum Which {
+    /// The first pad, whose value counts between equal distances.
+    First,
+    /// The pad that plays along.
+    Second,
+}
+
+/// Two pads for one player: a carer plays along with a second one.
+///
+/// The value of an element is, of the two pads' values, the one farther from zero, and the first pad's between equal
+/// distances. The events are those of these values.
+///
+/// ```
+/// use raspteal::{Axis, Code, Mapping, Pads, Raw, Which};
+///
+/// let mut map = Mapping::new();
+/// map.put(Code(0x30000), Axis::LeftStickX).unwrap();
+/// let mut pads = Pads::new();
+/// pads.change_map(Which::First, &map);
+/// pads.change_map(Which::Second, &map);
+/// pads.raw_event(Which::First, Code(0x30000), Raw::AxisValueChanged(-5)).unwrap();
+/// // as far from zero as the first pad's: that one stays
+/// assert_eq!(pads.raw_event(Which::Second, Code(0x30000), Raw::AxisValueChanged(5)).unwrap().count(), 0);
+/// assert_eq!(pads.value(Axis::LeftStickX), -5);
+/// ```
+#[derive(Clone, Debug, PartialEq, Eq)]
+pub struct Pads {
+    first: Pad,
+    second: Pad,
+}
+
+impl Pads {
+    /// No codes and the empty map, on both pads.
+    pub fn new() -> Pads {
+        Pads::of(safe::pads_new())
+    }
+
+    fn of(pads: ffi::Pads) -> Pads {
+        Pads { first: Pad(pads.first), second: Pad(pads.second) }
+    }
+
+    fn flat(&self) -> ffi::Pads {
+        ffi::Pads { first: self.first.0, second: self.second.0 }
+    }
+
+    /// A raw value of a code of one pad, and the event of its element, if that has another value now. Refusal: 27, a
+    /// 257th code of that pad, the pads as they were.
+    pub fn raw_event(&mut self, which: Which, code: Code, raw: Raw) -> Result<Events, Error> {
+        let (raw, v) = raw.flat();
+        let told = safe::pads_raw_event(self.flat(), which == Which::Second, code.0, raw, v);
+        Error::check(told.refusal)?;
+        Ok(self.told(told))
+    }
+
+    /// Another map for one pad, and an event for each element that has another value now.
+    pub fn change_map(&mut self, which: Which, map: &Mapping) -> Events {
+        let told = safe::pads_change_map(self.flat(), which == Which::Second, map.flat());
+        self.told(told)
+    }
+
+    fn told(&mut self, told: ffi::PadsTold) -> Events {
+        *self = Pads::of(told.pads);
+        Events { list: told.events, next: 0, count: told.count }
+    }
+
+    /// The value of an element; 0 for one that is left out.
+    pub fn value(&self, element: impl Into<AxisOrBtn>) -> i16 {
+        safe::pads_value(self.flat(), element.into().into())
+    }
+
+    /// One of the two.
+    pub fn pad(&self, which: Which) -> &Pad {
+        match which {
+            Which::First => &self.first,
+            Which::Second => &self.second,
+        }
+    }
+}
+
+impl Default for Pads {
+    fn default() -> Pads {
+        Pads::new()
+    }
+}
+
 /// The events of a call: one for each element whose value changed, buttons then axes, ascending.
 #[derive(Clone, Debug)]
 pub struct Events {

@@ -40,6 +40,7 @@ fn rows() -> Vec<Row> {
     let look = safe::store_found(&[], &[], ffi::Uuid { high: 0, low: 0 });
     let near = safe::store_found_near(&[], &[], ffi::Uuid { high: 0, low: 0 });
     let told = safe::pad_raw_event(safe::pad_new(), 0, 0, 0);
+    let both = safe::pads_raw_event(safe::pads_new(), false, 0, 0, 0);
     vec![
         row!(Refusal, "raspteal_refusal", built.refusal, number, has_place, place, has_code, code),
         row!(Written, "raspteal_written", safe::write_bytes(&mut [], 0, b""), fits, next),
@@ -60,6 +61,8 @@ fn rows() -> Vec<Row> {
         row!(Pad, "raspteal_pad", safe::pad_new(), count, held, entry_count, entries),
         row!(Event, "raspteal_event", told.events[0], element, value),
         row!(Told, "raspteal_told", told, refusal, pad, count, events),
+        row!(Pads, "raspteal_pads", safe::pads_new(), first, second),
+        row!(PadsTold, "raspteal_pads_told", both, refusal, pads, count, events),
         row!(Mapping, "raspteal_mapping", built.map, count, entries, name_start, name_len, is_default, hats_mapped),
         row!(Keys, "raspteal_keys", safe::key_table(), buttons),
         row!(Answer, "raspteal_answer", safe::default(&[], &[]), refusal, map),

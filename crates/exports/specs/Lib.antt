@@ -7,3 +7,4 @@ pub mod FlatSlots
 pub mod FlatStore
 pub mod FlatNear
 pub mod FlatPads
+pub mod FlatTwo

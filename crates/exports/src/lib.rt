@@ -15,3 +15,4 @@ mod parser_calls;
 mod state_calls;
 mod store_calls;
 mod text_calls;
+mod two_calls;

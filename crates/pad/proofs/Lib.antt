@@ -12,5 +12,8 @@ pub mod StateLaws
 pub mod ListLaws
 pub mod PadLaws
 pub mod FitLaws
+pub mod TwoLaws
+pub mod TwoReader
 pub mod Samples
 pub mod PadSamples
+pub mod TwoSamples

@@ -121,7 +121,7 @@ gives-fit es x el =
     given-fit (entryAt es (heldIn x .code)) (rawIn (x % CODE_UNIT)) el (raw-in-fits (x % CODE_UNIT))
 
 -- ---- the preferred of two
-far : (v : ℤ) → SFits w16 v → distanceOf (shifted v) ≡ natAbs v
+pub far : (v : ℤ) → SFits w16 v → distanceOf (shifted v) ≡ natAbs v
 far (pos k) f =
     let l : 32768 ≤ 32768 + k = omega arith in
     let e : 32768 + k - 32768 ≡ k = omega arith in

@@ -113,7 +113,7 @@ entries-after p m s =
     ∙ first-of entryIn (map entryNumber es) (replicate (256 - length es) 0) ∙ entries-back es s
 
 -- ---- what a call tells
-told-back : (es : List Event) → toldEvents (eventsIn es) ≡ es
+pub told-back : (es : List Event) → toldEvents (eventsIn es) ≡ es
 unfolding eventsIn
 told-back es = first-as es _
 

@@ -29,11 +29,11 @@ south = El.Btn B.South
 abbrev trigger : AxisOrBtn
 trigger = El.Btn B.RightTrigger2
 
-abbrev stick : AxisOrBtn
+abbrev pub stick : AxisOrBtn
 stick = El.Axis A.LeftStickX
 
 -- a map of these entries
-abbrev mapped : List Entry → Mapping
+abbrev pub mapped : List Entry → Mapping
 mapped es =
     record {
       count = length es;
@@ -44,7 +44,7 @@ mapped es =
       «hats_mapped» = 0;
     }
 
-abbrev bound : ℕ → AxisOrBtn → Entry
+abbrev pub bound : ℕ → AxisOrBtn → Entry
 bound c el = entryOf (codeOf c) el
 
 abbrev press : ℕ → PadCall
@@ -53,17 +53,17 @@ press c = RawEvent (codeOf c) Rw.ButtonPressed
 abbrev release : ℕ → PadCall
 release c = RawEvent (codeOf c) Rw.ButtonReleased
 
-abbrev moves : ℕ → ℤ → PadCall
+abbrev pub moves : ℕ → ℤ → PadCall
 moves c v = RawEvent (codeOf c) (Rw.AxisValueChanged v)
 
 -- the events of a call after others, from a fresh pad
 abbrev told : List PadCall → PadCall → List Event
 told cs c = toldEvents (answered (padAfter newPad cs) c .events)
 
-abbrev tells : AxisOrBtn → ℤ → Event
+abbrev pub tells : AxisOrBtn → ℤ → Event
 tells el v = record { element = el; value = v }
 
-abbrev less : ℕ → ℤ
+abbrev pub less : ℕ → ℤ
 less k = negℤ (pos k)
 
 -- ---- "Changing a map mid-game left a trigger stuck."

@@ -25,8 +25,16 @@ use Rattle.pad.specs.declared.value.ElementValue.the-variants as Ev
 use Rattle.pad.specs.declared.events.Held.{Held}
 use Rattle.pad.specs.declared.events.Event.{Event}
 use Rattle.pad.specs.declared.choice.Best.{Best}
-use Rattle.pad.specs.Pads.{HELD_MAX, putHeld, Chosen, none, chosen, choose, tabulate, changes}
-use Rattle.pad.specs.States.{heldIn, unusedEvent}
+use Rattle.pad.specs.declared.value.Emitted.{Emitted}
+use Rattle.pad.specs.declared.value.Emitted.the-variants as Em
+use Rattle.pad.specs.declared.state.Pad.{Pad}
+use Rattle.pad.specs.declared.state.Told.{Told}
+use Rattle.pad.specs.declared.two.Pads.{Pads}
+use Rattle.pad.specs.declared.two.Which.the-variants as Wh
+use Rattle.pad.specs.declared.two.PadsTold.{PadsTold}
+use Rattle.pad.specs.Pads.{HELD_MAX, putHeld, Chosen, none, chosen, choose, tabulate, sameℤ, changes}
+use Rattle.pad.specs.States.{heldIn, padValues, padValue, unusedEvent, eventsIn}
+use Rattle.pad.specs.TwoPads.{farther, padsToldOf}
 
 -- a value counted from the least one, and back
 abbrev pub shifted : ℤ → ℕ
@@ -164,3 +172,47 @@ pub record Listed (bs cs : List ℕ) (list : List Event) (count k : ℕ) : Type 
   pub fill : Filling list count
   pub told : take count list ++ changes k (drop k (map unshifted bs)) (drop k (map unshifted cs))
       ≡ changes 0 (map unshifted bs) (map unshifted cs)
+
+-- ---- two pads
+-- an element's value by a pad and by the one beside it; the flag is true for the first pad
+abbrev pub joinedOf : Bool → ℤ → ℤ → ℤ
+joinedOf true own beside = farther own beside
+joinedOf false own beside = farther beside own
+
+-- what becomes of an event of a pad p when q plays along
+unfoldable pub joinedEvent : Bool → Pad → Pad → Event → Emitted
+joinedEvent leads p q e =
+    pick
+    (sameℤ (joinedOf leads (padValue p (e .element)) (padValue q (e .element)))
+    (joinedOf leads (e .value) (padValue q (e .element))))
+    Em.Nothing
+    (Em.Is (oneEvent (e .element) (joinedOf leads (e .value) (padValue q (e .element)))))
+
+abbrev pub caught : Emitted → List Event → List Event
+caught (Em.Is e) es = e ∷ es
+caught Em.Nothing es = es
+
+-- and of several
+unfoldable pub refined : Bool → Pad → Pad → List Event → List Event
+refined leads p q [] = []
+refined leads p q (e ∷ es) = caught (joinedEvent leads p q e) (refined leads p q es)
+
+-- the events of the first i stand in list, count of them, and unused ones after them
+pub record Refining (leads : Bool) (p q : Pad) (es list : List Event) (count i : ℕ) : Type 0 where
+  pub within : i ≤ length es
+  pub few : count ≤ i
+  pub fill : Filling list count
+  pub told : take count list ++ refined leads p q (drop i es) ≡ refined leads p q es
+
+-- a pad's own answer: the events are those of its own values
+abbrev pub TellsItself : Pad → Told → Type 0
+TellsItself p t = t .events ≡ eventsIn (changes 0 (padValues p) (padValues (t .pad)))
+
+abbrev pub two : Pad → Pad → Pads
+two p q = record { first = p; second = q }
+
+abbrev pub firstTold : Pad → Pad → Told → PadsTold
+firstTold p q t = padsToldOf (two p q) Wh.First t
+
+abbrev pub secondTold : Pad → Pad → Told → PadsTold
+secondTold p q t = padsToldOf (two p q) Wh.Second t

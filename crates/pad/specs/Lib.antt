@@ -5,5 +5,7 @@ pub mod Pads
 pub mod States
 pub mod Refusals
 pub mod PadGuarantee
+pub mod TwoPads
+pub mod TwoGuarantee
 -- what private functions and proofs need
 pub mod Inner

@@ -74,7 +74,7 @@ fn given(entries: &[u64], m: usize, h: Held, el: AxisOrBtn) -> u32
 }
 
 // How far the value of a number is from zero.
-fn distance(x: u32) -> u32
+pub fn distance(x: u32) -> u32
     ensures { λ r. ⌜ r ≡ distanceOf x ⌝ }
 {
     if x < 32768 { 32768 - x } else { x - 32768 }

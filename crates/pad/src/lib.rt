@@ -4,4 +4,5 @@ pub mod events;
 mod numbers;
 pub mod state;
 mod telling;
+pub mod two;
 pub mod value;

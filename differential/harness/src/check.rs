@@ -31,9 +31,10 @@ pub enum Group {
     Events,
     Pads,
     Reader,
+    TwoPads,
 }
 
-pub const GROUPS: [(&str, &str); 26] = [
+pub const GROUPS: [(&str, &str); 27] = [
     ("utf8", "the longest valid run of UTF-8, with Rust's own reader"),
     ("uuid", "UUID texts, with the crate uuid"),
     ("index", "index numbers, with Rust's own reader"),
@@ -60,6 +61,7 @@ pub const GROUPS: [(&str, &str); 26] = [
     ("events", "raw values of codes by maps of any content (document 02, P3, alone)"),
     ("pads", "a pad's raw events and changes of map: refusal, events, state and values (document 02, P13, alone)"),
     ("reader", "what an outside reader of a pad's events holds, beside the values worked out afresh (P13 alone)"),
+    ("two-pads", "two pads for one player: refusal, events, state and values; all interleavings (document 02, P14, alone)"),
 ];
 
 /// How many kinds of answer are told apart: 0 for an answer, else the refusal's number.

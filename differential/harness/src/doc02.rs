@@ -180,3 +180,35 @@ impl Pad {
 pub fn changes(before: &[i16], after: &[i16]) -> Vec<(u16, i16)> {
     elements().zip(before.iter().zip(after)).filter(|(_, (a, b))| a != b).map(|(e, (_, b))| (e, *b)).collect()
 }
+
+/// P14: two pads for one player.
+#[derive(Clone, Debug, PartialEq, Eq)]
+pub struct Pads(pub [Pad; 2]);
+
+impl Pads {
+    pub fn new() -> Pads {
+        Pads([Pad::new(), Pad::new()])
+    }
+
+    /// Of the two values the one farther from zero, and the first pad's between equals.
+    pub fn value(&self, element: u16) -> i16 {
+        let [a, b] = [self.0[0].value(element), self.0[1].value(element)];
+        if (b as i32).abs() > (a as i32).abs() { b } else { a }
+    }
+
+    pub fn values(&self) -> Vec<i16> {
+        elements().map(|e| self.value(e)).collect()
+    }
+
+    pub fn raw_event(&mut self, second: bool, code: u32, raw: Raw) -> Option<Vec<(u16, i16)>> {
+        let before = self.values();
+        self.0[second as usize].raw_event(code, raw)?;
+        Some(changes(&before, &self.values()))
+    }
+
+    pub fn change_map(&mut self, second: bool, entries: &[Entry]) -> Vec<(u16, i16)> {
+        let before = self.values();
+        self.0[second as usize].change_map(entries);
+        changes(&before, &self.values())
+    }
+}

@@ -161,3 +161,104 @@ pub fn many_codes(t: &mut Tally) {
         game.values(t);
     }
 }
+
+/// Two pads on both sides, and what a reader of the library's events holds.
+struct Two {
+    here: ffi::Pads,
+    doc: doc02::Pads,
+    reader: Vec<i16>,
+}
+
+fn plain_two(p: &ffi::Pads) -> doc02::Pads {
+    doc02::Pads([plain(&p.first), plain(&p.second)])
+}
+
+impl Two {
+    fn of(doc: doc02::Pads) -> Two {
+        Two { here: ffi::Pads { first: flat(&doc.0[0]), second: flat(&doc.0[1]) }, reader: doc.values(), doc }
+    }
+
+    fn new(t: &mut Tally) -> Two {
+        let two = Two { here: unsafe { ffi::raspteal_pads_new() }, doc: doc02::Pads::new(), reader: vec![0; 27] };
+        t.case(Group::TwoPads, 0, None, &two.doc, &plain_two(&two.here), &|| "two fresh pads".to_string());
+        two
+    }
+
+    fn compare(&mut self, t: &mut Tally, want: (u8, Events), got: &ffi::PadsTold, input: &dyn Fn() -> String) {
+        let here = (got.refusal.number, told_events(got.count, &got.events), plain_two(&got.pads));
+        t.case(Group::TwoPads, want.0, None, &(want.0, want.1, self.doc.clone()), &here, input);
+        self.here = got.pads;
+        hear(&mut self.reader, &here.1);
+        t.case(Group::Reader, here.0, None, &self.doc.values(), &self.reader, input);
+    }
+
+    fn raw_event(&mut self, t: &mut Tally, second: bool, code: u32, raw: Raw) {
+        let before = self.doc.clone();
+        let (kind, v) = pads::flat(raw);
+        let got = unsafe { ffi::raspteal_pads_raw_event(self.here, second, code, kind, v) };
+        let want = match self.doc.raw_event(second, code, raw) {
+            Some(events) => (0, events),
+            None => (27, Events::new()),
+        };
+        self.compare(t, want, &got, &|| format!("{} second {second} code {code:x} {raw:?}", shown_two(&before)));
+    }
+
+    fn change_map(&mut self, t: &mut Tally, second: bool, entries: &[Entry]) {
+        let before = self.doc.clone();
+        let got = unsafe { ffi::raspteal_pads_change_map(self.here, second, AnyMap::new(entries.len(), entries).0) };
+        let events = self.doc.change_map(second, entries);
+        self.compare(t, (0, events), &got, &|| format!("{} second {second} map {entries:x?}", shown_two(&before)));
+    }
+
+    fn values(&self, t: &mut Tally) {
+        let left_out = [0, 20, AXIS, AXIS + 9].map(|e| (e, 0));
+        for (e, want) in doc02::elements().map(|e| (e, self.doc.value(e))).chain(left_out) {
+            let got = unsafe { ffi::raspteal_pads_value(self.here, port::element(e)) };
+            t.case(Group::TwoPads, 0, None, &want, &got, &|| format!("{} element {e}", shown_two(&self.doc)));
+        }
+    }
+}
+
+fn shown_two(p: &doc02::Pads) -> String {
+    format!("first {} second {}", shown(&p.0[0]), shown(&p.0[1]))
+}
+
+/// A history of two pads, with few codes and many clashes.
+pub fn two_history(t: &mut Tally, r: &mut Rng) {
+    let mut two = if r.one_in(5) { Two::of(doc02::Pads([made_up(r), made_up(r)])) } else { Two::new(t) };
+    for _ in 0..r.below(30) {
+        let second = r.one_in(2);
+        if r.one_in(5) {
+            let entries = some_entries(r, 4);
+            two.change_map(t, second, &entries);
+        } else {
+            two.raw_event(t, second, r.below(4) as u32, pads::raw(r));
+        }
+    }
+    two.values(t);
+}
+
+/// All interleavings of a few events of each pad, or some of many: they end with the same values.
+pub fn interleavings(t: &mut Tally, r: &mut Rng) {
+    let entries = [some_entries(r, 4), some_entries(r, 4)];
+    let mut list = |n: usize| -> Vec<(u32, Raw)> { (0..n).map(|_| (r.below(4) as u32, pads::raw(r))).collect() };
+    let lists = [list(3), list(3)];
+    let mut ends = Vec::new();
+    for order in (0..64u32).filter(|bits| bits.count_ones() == 3) {
+        let mut two = Two::new(t);
+        two.change_map(t, false, &entries[0]);
+        two.change_map(t, true, &entries[1]);
+        let mut next = [0, 0];
+        for k in 0..6 {
+            let which = (order >> k & 1) as usize;
+            let (code, raw) = lists[which][next[which]];
+            next[which] += 1;
+            two.raw_event(t, which == 1, code, raw);
+        }
+        ends.push(two.reader);
+    }
+    assert_eq!(ends.len(), 20);
+    for end in &ends {
+        t.case(Group::TwoPads, 0, None, &ends[0], end, &|| format!("{entries:x?} {lists:x?}"));
+    }
+}

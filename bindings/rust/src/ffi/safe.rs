@@ -295,3 +295,19 @@ pub fn pad_change_map(pad: Pad, map: Mapping) -> Told {
 pub fn pad_value(pad: Pad, e: Element) -> i16 {
     unsafe { raspteal_pad_value(pad, e) }
 }
+
+pub fn pads_new() -> Pads {
+    unsafe { raspteal_pads_new() }
+}
+
+pub fn pads_raw_event(pads: Pads, second: bool, code: u32, raw: u8, v: i16) -> PadsTold {
+    unsafe { raspteal_pads_raw_event(pads, second, code, raw, v) }
+}
+
+pub fn pads_change_map(pads: Pads, second: bool, map: Mapping) -> PadsTold {
+    unsafe { raspteal_pads_change_map(pads, second, map) }
+}
+
+pub fn pads_value(pads: Pads, e: Element) -> i16 {
+    unsafe { raspteal_pads_value(pads, e) }
+}

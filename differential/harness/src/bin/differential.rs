@@ -60,6 +60,7 @@ fn random(t: &mut Tally, lines: &[&[u8]], secs: u64, seed: u64) {
                 compare::any_map(t, &mut r);
                 pads::events(t, &mut r);
                 games::history(t, &mut r);
+                games::two_history(t, &mut r);
                 let (room, at, n) = (r.below(60), r.below(64), r.next() as usize >> r.below(64));
                 compare::writers(t, room, at, n, (r.next() as u128 * r.next() as u128).to_be_bytes());
             }
@@ -159,6 +160,7 @@ mod fixed {
         pads::values(t);
         t.progress("every raw value on every kind of entry", true);
         games::many_codes(t);
+        (0..50).for_each(|seed| games::interleavings(t, &mut Rng::new(seed)));
         corpora(t, corpus);
         t.progress("both corpora", true);
         boundaries(t);

@@ -1,0 +1,24 @@
+-- The contracts of the layouts give the result. Assumes nothing.
+use mathlib.Core.Path.{_≡_}
+use borrow.Author.Needs.{needs}
+use Rattle.exports.specs.FlatTwo.{flatPadsTold}
+use Rattle.exports.proofs.two_calls.flat_pads_told.Statement.{statement}
+use Rattle.exports.proofs.two_calls.flat_pads_told.Tie as tie
+
+flat-pad-answer-requires : tie.Need-flat-pad-answer-requires
+flat-pad-answer-requires c κs = search needs
+
+flat-pads-requires : tie.Need-flat-pads-requires
+flat-pads-requires c κs = search needs
+
+flat-events-requires : tie.Need-flat-events-requires
+flat-events-requires c κs = search needs
+
+returns : tie.Need-returns
+unfolding flatPadsTold
+returns c =
+    simp (c .flat-events .ensures, c .before .flat-pads .ensures, c .before .before .flat-pad-answer .ensures)
+
+pub flat-pads-told-spec : {M : Type 1} → statement M
+flat-pads-told-spec =
+    tie.close (tie.spec flat-pad-answer-requires flat-pads-requires flat-events-requires returns)
