@@ -24,7 +24,7 @@ CROSSES_AS = {
 NAMED = {"event": "raspteal_mapping_event"}
 
 # The definitions that give an answer its number.
-REFUSING = re.compile(r"^(kindNumber|putOutcome|readingRefusal|mappingRefusal|number|lookNumber|saveNumber|padOutcome) :")
+REFUSING = re.compile(r"^(kindNumber|\w+Outcome|readingRefusal|mappingRefusal|nearNumber) :")
 
 # A promise of an answer and a buffer at once; a C function says the two apart.
 PARTS = {"Wrote": ["writeAnswer", "writeBuffer"], "Builds": ["buildOf", "outputOf"]}
@@ -44,7 +44,7 @@ How to read an entry:
 
 REFUSALS = """## Refusals
 
-Document 01's number of each refusal, its words in the header, and the answers of the layers that say it; the definitions that give each answer its number, place and code are `kindNumber`, `putOutcome`, `readingRefusal` (`crates/line/specs/Refusals.antt`), `mappingRefusal` (`crates/map/specs/Refusals.antt`), `number`, `lookNumber` (`crates/store/specs/Answers.antt`) and `saveNumber` (`crates/store/specs/Saves.antt`).
+Document 01's number of each refusal, its words in the header, and the answers of the layers that say it; the definitions that give each answer its number, place and code are `kindNumber`, `putOutcome`, `readingRefusal` (`crates/line/specs/Refusals.antt`), `mappingRefusal` (`crates/map/specs/Refusals.antt`), `storeOutcome`, `saveOutcome`, `lookOutcome` (`crates/store/specs/Refusals.antt`) and `nearNumber` (`crates/store/specs/Near.antt`).
 
 | No. | Means | Answers that say it |
 |---|---|---|"""
@@ -242,7 +242,7 @@ def refusals():
     for layer, path in [(layer, p) for layer in LAYERS for p in sorted(Path("crates", layer, "specs").glob("*.antt"))]:
         text = path.read_text()
         enums = {m[2]: m[1] for m in re.finditer(r"\.(\w+)\.the-variants as (\w+)$", text, re.M)}
-        told = r"^\w+ \(?(\w+)\.(\w+)[^=\n]*= (?:Refuses \()?(?:refusal(?:At)? |record \{ number = )?(\d+)\b"
+        told = r"^\w+ \(?(\w+)\.(\w+)[^=\n]*= (?:Refuses \(|cannotLook \()?(?:refusal(?:At)? |record \{ number = )?(\d+)\b"
         for m in re.finditer(told, text, re.M):
             if m[1] in enums and m[3] != "0" and REFUSING.search(text[: m.start()].split("\nabbrev pub ")[-1]):
                 variant = f"`{layer}::{enums[m[1]]}::{m[2]}`"

@@ -38,6 +38,7 @@ pub mod StoreLaws
 pub mod FilingsLaws
 pub mod NextLaws
 pub mod SaveCallLaws
+pub mod FrontLaws
 pub mod RefusedLaws
 pub mod Saves
 pub mod FoundLaws

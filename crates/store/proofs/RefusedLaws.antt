@@ -28,14 +28,15 @@ use Rattle.store.specs.declared.calls.Saved.{Saved}
 use Rattle.store.specs.Layout.{Bytes, encodeIndex, encodeText}
 use Rattle.store.specs.Decode.{decode}
 use Rattle.store.specs.Lines.{linesOf, wanted}
-use Rattle.store.specs.Answers.{number}
+use Rattle.store.specs.Refusals.{number, saveNumber}
 use Rattle.store.specs.Book.{turn, Turn, noRoom, under, Reached, after, stopped, reachWanted, reach, insertTurn}
 use Rattle.store.specs.Book.{onReached, insertLines, bookInsert, Attempt, refused, files, bookAttempt}
 use Rattle.store.specs.Store.{Done, unchanged, holding, onLines, fitting, storeClear, storeInsert, storeAttempt}
-use Rattle.store.specs.Saves.{SaveArgs, unsavedName, refusedSave, attemptAfter, attemptOf, storeSave, saveNumber}
+use Rattle.store.specs.Saves.{SaveArgs, unsavedName, refusedSave, attemptAfter, attemptOf, storeSave}
 use Rattle.store.specs.Guarantee.{builtHeld, builtSave}
-use Rattle.store.specs.Promises.{Untouched, LinesBefore, RefusalsLeave, BuildLeaves}
+use Rattle.store.specs.Promises.{Untouched, LinesBefore, firstLines, RefusalsLeave, BuildLeaves}
 use Rattle.store.proofs.EncodesLaws.{decode-encodes}
+use Rattle.store.proofs.FrontLaws.{front-lines, front-utf8}
 
 -- ---- the lines that an insert walks
 
@@ -258,6 +259,9 @@ module _ (i t : List ℕ) (b : Bytes i) where
     save-refused = save-leaves;
     insert-19 = λ s. insert-leaves s 19 (λ a w. w .1);
     insert-10 = λ s. insert-leaves s 10 (λ a w. w .0);
+    insert-front = λ s v n.
+        before-leaves s (firstLines (storeInsert i t s .answer .count) s) v
+        (front-utf8 (storeInsert i t s .answer .count) s v) (front-lines s (storeInsert i t s .answer .count)) n;
     insert-stopped = before-leaves;
   }
 

@@ -38,7 +38,8 @@ use Rattle.store.specs.Held.{Key, strike, distinct, indexMax, textMax, r
 use Rattle.store.specs.Decode.{bodyAt, noHead, headWith, headAt, zeroes, walk, guarded, decode}
 use Rattle.store.specs.Book.{lengths, noRoom}
 use Rattle.store.specs.Store.{Looked, unsound, lookUp, saysOf, lineOf}
-use Rattle.store.specs.Saves.{SaveArgs, saveArgs, saveNumber, attemptOf, storeSave}
+use Rattle.store.specs.Refusals.{saveNumber}
+use Rattle.store.specs.Saves.{SaveArgs, saveArgs, attemptOf, storeSave}
 
 -- U, 32 zeros, and the UUID that it is
 u : List ℕ

@@ -16,7 +16,7 @@ use Rattle.store.specs.declared.calls.Answer.the-variants as A
 use Rattle.store.specs.declared.calls.Inserted.{Inserted}
 use Rattle.store.specs.Held.{Held, strike, file, recordSize, lineMax}
 use Rattle.store.specs.Lines.{linesOf, wanted}
-use Rattle.store.specs.Answers.{number}
+use Rattle.store.specs.Refusals.{number}
 
 -- ---- no room
 

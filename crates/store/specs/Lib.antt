@@ -4,7 +4,7 @@ pub mod Held
 pub mod Layout
 pub mod Decode
 pub mod Lines
-pub mod Answers
+pub mod Refusals
 pub mod Book
 pub mod Store
 pub mod Saves

@@ -5,8 +5,11 @@ use mathlib.Core.Path.{_≡_}
 use mathlib.Core.Bool.{Bool, true, false}
 use mathlib.Core.Option.{Option, none}
 use mathlib.Core.List.{List, [], _∷_, _++_}
-use Prim.Native.Nat.{ℕ}
+use Prim.Native.Nat.{ℕ, zero, suc}
+use lib.Dec.{eqb}
 use lib.ListN.{length, take}
+use Rattle.text.specs.Bytes.{pick}
+use Rattle.map.specs.Search.{lf}
 use Rattle.text.specs.Utf8.{isUtf8}
 use Rattle.text.specs.declared.uuid.Uuid.{Uuid}
 use Rattle.text.specs.declared.uuid.UuidParse.the-variants.{Parsed}
@@ -20,10 +23,10 @@ use Rattle.store.specs.declared.calls.Inserted.{Inserted}
 use Rattle.store.specs.declared.calls.Saved.{Saved}
 use Rattle.store.specs.Held.{Key}
 use Rattle.store.specs.Lines.{linesOf, wanted}
-use Rattle.store.specs.Answers.{number}
+use Rattle.store.specs.Refusals.{number, saveNumber}
 use Rattle.store.specs.Book.{Call, clear, insert, save, saved}
 use Rattle.store.specs.Store.{Done, unchanged, storeClear, storeInsert, lookUp, found}
-use Rattle.store.specs.Saves.{SaveArgs, SaveCall, storeSave, saveNumber, saving, ReadsBack}
+use Rattle.store.specs.Saves.{SaveArgs, SaveCall, storeSave, saving, ReadsBack}
 use Rattle.store.specs.Filings.{Filing, filings, lastFiled}
 use Rattle.store.specs.Guarantee.{Calls, stored, booked, next, builtSave}
 
@@ -41,6 +44,12 @@ pub record LinesBefore (i t s before : List ℕ) : Type 0 where
   pub index : storeInsert i t before .index ≡ storeInsert i t s .index
   pub text : storeInsert i t before .text ≡ storeInsert i t s .text
 
+-- the text of the first k lines of a text, each with its end
+unfoldable pub firstLines : ℕ → List ℕ → List ℕ
+firstLines zero s = []
+firstLines (suc k) [] = []
+firstLines (suc k) (b ∷ s) = b ∷ pick (eqb b lf) (firstLines k s) (firstLines (suc k) s)
+
 -- every refusal, whatever the two buffers hold
 pub record RefusalsLeave (i t : List ℕ) : Type 0 where
   pub clear-refused : (number (storeClear i t .answer) ≡ 0 → ⊥) → Untouched i t (storeClear i t)
@@ -48,7 +57,9 @@ pub record RefusalsLeave (i t : List ℕ) : Type 0 where
       → Untouched i t (storeSave i t a)
   pub insert-19 : (s : List ℕ) → number (storeInsert i t s .answer .answer) ≡ 19 → Untouched i t (storeInsert i t s)
   pub insert-10 : (s : List ℕ) → number (storeInsert i t s .answer .answer) ≡ 10 → Untouched i t (storeInsert i t s)
-  -- stopped at a line, or at none: a text whose lines are those that were walked
+  -- stopped at a line, or at none: the text of the lines that were walked, and any text that has those lines
+  pub insert-front : (s : List ℕ) → isUtf8 s ≡ true → (number (storeInsert i t s .answer .answer) ≡ 19 → ⊥)
+      → LinesBefore i t s (firstLines (storeInsert i t s .answer .count) s)
   pub insert-stopped : (s before : List ℕ) → isUtf8 s ≡ true → isUtf8 before ≡ true
       → linesOf before ≡ take (storeInsert i t s .answer .count) (linesOf s)
       → (number (storeInsert i t s .answer .answer) ≡ 19 → ⊥)

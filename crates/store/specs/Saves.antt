@@ -16,7 +16,7 @@ use Rattle.map.specs.declared.error.MappingAnswer.{MappingAnswer}
 use Rattle.map.specs.declared.error.MappingAnswer.the-variants.{Accepted, Refused}
 use Rattle.map.specs.declared.mapping_data.MappingData.{MappingData}
 use Rattle.map.specs.Build.{checksOf, builtLine, builtMap}
-use Rattle.map.specs.Refusals.{mappingRefusal}
+use Rattle.store.specs.Refusals.{saveNumber}
 use Rattle.store.specs.declared.calls.SaveAnswer.{SaveAnswer}
 use Rattle.store.specs.declared.calls.SaveAnswer.the-variants as Sv
 use Rattle.store.specs.declared.calls.Saved.{Saved}
@@ -67,14 +67,6 @@ pub record Passes (a : SaveArgs) : Type 0 where
 -- "Save builds a line and files it": "as build without 18, then 22, 19, 21"
 unfoldable pub storeSave : List ℕ → List ℕ → SaveArgs → Done Saved
 storeSave i t a = storeAttempt (refusedSave Sv.Unsound) (refusedSave Sv.NoRoom) i t (attemptOf a)
-
--- document 01's number of a save's answer, 0 where nothing is refused
-abbrev pub saveNumber : SaveAnswer → ℕ
-saveNumber Sv.Done = 0
-saveNumber (Sv.Refused e) = mappingRefusal e .number
-saveNumber Sv.UnsavedName = 22
-saveNumber Sv.Unsound = 19
-saveNumber Sv.NoRoom = 21
 
 -- "reading it with that save's button and axis lists gives the map, name, default flag (off) and hat flags (zero) that
 -- the save returned"; the name is the bytes of the line at the map's name start and length

@@ -1,4 +1,4 @@
-// The public calls of a store. Each takes any buffers and arguments; specs/Answers gives document 01's numbers.
+// The public calls of a store. Each takes any buffers and arguments; specs/Refusals gives document 01's numbers.
 use crate::batch::insert_batch;
 use crate::bytes::zero_all;
 use crate::look::look;
