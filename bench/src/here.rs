@@ -66,7 +66,7 @@ pub struct Build {
 impl Build {
     pub fn of(forms: &[Form], pad: &Pad) -> Self {
         let forms = forms.iter().map(|f| (data(&f.slots), f.clone())).collect();
-        Build { forms, pad: pad.clone(), out: vec![0; 4096] }
+        Build { forms, pad: pad.clone(), out: vec![0; 8544] }
     }
     fn one(&mut self, k: usize) -> ffi::Built {
         let (b, a) = (&self.pad.buttons, &self.pad.axes);

@@ -88,7 +88,7 @@ pub record SavedAgain (n m : ℕ) (xs : Calls) (a : SaveArgs) : Type 0 where
 
 -- ---- the price list: "every saved mapping is found again and reads back the same"
 
--- a list of calls hasClear the store somewhere
+-- whether a list of calls clears the store somewhere
 unfoldable pub hasClear : Calls → Bool
 hasClear [] = false
 hasClear (clear ∷ xs) = true
