@@ -12,6 +12,8 @@ use crate::fields::line_at;
 use crate::files::List;
 use crate::files::list_space;
 use crate::files::read_list;
+use crate::forms::say_other_form;
+use crate::forms::say_other_forms;
 use crate::say::DONE;
 use crate::say::OUT;
 use crate::say::REFUSED;
@@ -40,6 +42,7 @@ struct Tally {
     first_elsewhere: usize,
     no_uuid: usize,
     first_no_uuid: usize,
+    other_forms: usize,
 }
 
 fn with_refused(tally: Tally) -> Tally {
@@ -106,7 +109,11 @@ fn with_readable(tally: Tally, line: &[u8]) -> Tally {
         LineKind::TooLong => {
             next = with_long(tally, line);
         }
-        LineKind::Wanted => {}
+        LineKind::Wanted => {
+            if say_other_form(line, tally.lines) {
+                next.other_forms = wrapping_add_usize(tally.other_forms, 1);
+            }
+        }
     }
     next
 }
@@ -173,6 +180,7 @@ fn say_tally(tally: Tally) -> u8 {
         b" whose first field is no UUID but xinput",
         tally.first_no_uuid,
     );
+    say_other_forms(tally.other_forms);
     if tally.refused == 0 {
         return DONE;
     }
@@ -188,6 +196,7 @@ fn lint_text(list: &[u8]) -> u8 {
         first_elsewhere: 0,
         no_uuid: 0,
         first_no_uuid: 0,
+        other_forms: 0,
     };
     let mut at: usize = 0;
     while at < list.len() {

@@ -14,6 +14,7 @@ pub mod TurnLaws
 pub mod CountLaws
 pub mod FieldLaws
 pub mod WalkLaws
+pub mod FormLaws
 pub mod SliceLaws
 pub mod ParserLaws
 pub mod TokenLaws

@@ -20,8 +20,8 @@ part-wanted-end c = search needs
 wanted-requires : tie.Need-wanted-requires
 wanted-requires c κs = search needs
 
-enum-known-uuid : tie.Need-enum-known-uuid
-enum-known-uuid c = search needs
+enum-known-spelled : tie.Need-enum-known-spelled
+enum-known-spelled c = search needs
 
 enum-told : tie.Need-enum-told
 enum-told c = search needs
@@ -48,7 +48,7 @@ returns-2 c =
     slot-long (args .index .now) (args .text .now) (args .lines .now) _
     (args .heads .now) (args .next .now) (args .fill) (args .at) (args .len) (pre .0 .1)
     _ (wanted-part (args .lines .now) (args .at) (args .len) _ _
-    (c .before .before .before .before .before .wanted .ensures) (c .before .before .before .uuid .given .1))
+    (c .before .before .before .before .before .wanted .ensures) (c .before .before .before .spelled .given .1))
     (c .before .if1 .taken) (c .stop .result) (c .stop .ensures)
 
 file-slot-requires : tie.Need-file-slot-requires
@@ -68,7 +68,7 @@ file-slot-requires c κs =
             slot-files (args .index .now) (args .text .now) (args .lines .now) _
                 (args .heads .now) (args .next .now) (args .fill) (args .at) (args .len) (pre .0 .1)
                 _ (wanted-part (args .lines .now) (args .at) (args .len) _ _ (back10 .wanted .ensures)
-                (back5 .before .before .before .uuid .given .1))
+                (back5 .before .before .before .spelled .given .1))
                 (back5 .before .if1 .left) (pre .1 .0) (pre .1 .1 .0) (pre .1 .1 .1),
           ),
         ),
@@ -89,7 +89,7 @@ returns-3 c =
     slot-full (args .index .now) (args .text .now) (args .lines .now) _
     (args .heads .now) (args .next .now) (args .fill) (args .at) (args .len) (pre .0 .1)
     _ (wanted-part (args .lines .now) (args .at) (args .len) _ _ (back15 .wanted .ensures)
-    (back10 .before .before .before .uuid .given .1))
+    (back10 .before .before .before .spelled .given .1))
     (back10 .before .if1 .left) _ _ _ (c .before .before .before .before .file-slot .result)
     (c .before .before .before .before .file-slot .ensures) (c .before .if2 .taken)
     (c .stop2 .result) (c .stop2 .ensures)
@@ -104,7 +104,7 @@ returns-4 c =
     slot-filed (args .index .now) (args .text .now) (args .lines .now) _
     (args .heads .now) (args .next .now) (args .fill) (args .at) (args .len) (pre .0 .1)
     _ (wanted-part (args .lines .now) (args .at) (args .len) _ _
-    (back10 .before .before .before .before .wanted .ensures) (back10 .before .before .uuid .given .1))
+    (back10 .before .before .before .before .wanted .ensures) (back10 .before .before .spelled .given .1))
     (back10 .if1 .left) _ _ _ (c .before .before .before .file-slot .result)
     (c .before .before .before .file-slot .ensures) (c .if2 .left)
 
@@ -117,7 +117,7 @@ reach-slot-spec =
     part-wanted-start
     part-wanted-end
     wanted-requires
-    enum-known-uuid
+    enum-known-spelled
     enum-told
     returns
     stop-requires

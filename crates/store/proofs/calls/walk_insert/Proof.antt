@@ -8,8 +8,8 @@ use borrow.Author.Needs.{needs}
 use borrow.Author.Tests.{not-true, not-false}
 use Rattle.store.proofs.InsertLaws.{insert-unsound, insert-not-utf8, Inserting, insert-first, still-sound}
 use Rattle.store.proofs.InsertLaws.{insert-end, insert-stop, insert-turn}
-use Rattle.store.proofs.calls.insert.Statement.{statement}
-use Rattle.store.proofs.calls.insert.Tie as tie
+use Rattle.store.proofs.calls.walk_insert.Statement.{statement}
+use Rattle.store.proofs.calls.walk_insert.Tie as tie
 
 abbrev Inv-loop : tie.InvT-loop
 Inv-loop index₀ text₀ lines at₀ count₀ index text at count = Inserting index₀ text₀ lines index text at count
@@ -170,8 +170,8 @@ returns-4 c =
     (loop .inv)
     (sym (utf8 .ensures) ∙ not-false _ (if2 .left)) (search needs)
 
-pub insert-spec : {M : Type 1} → statement M
-insert-spec =
+pub walk-insert-spec : {M : Type 1} → statement M
+walk-insert-spec =
     tie.close
     (tie.spec
     Inv-loop
