@@ -18,6 +18,8 @@ CROSSES_AS = {
     # The tables do not cross, nor places in them: the name in an element's row does.
     "key_names": "raspteal_ident_of",
     "find_row": "raspteal_ident_of",
+    # Of a list of numbers a map is made within a build; a C program puts its entries.
+    "Mapping::of_numbers": "raspteal_from_data",
 }
 
 # Calls whose C function has another name.

@@ -11,7 +11,6 @@ use lib.Seq.{drop-cons, take-suc, take-suc-set, take-all}
 use native.Mathlib.Numerals.{add-one}
 use Rattle.text.specs.Bytes.{pick, both, same}
 use Rattle.line.specs.Buttons as B
-use Rattle.line.specs.Axes as A
 use Rattle.line.specs.Elements.{sameElement}
 use Rattle.line.specs.Inner.{untilZero, kindAndNumber, kindRows}
 use Rattle.line.specs.Numbers.{elementOfKind}
@@ -240,13 +239,13 @@ kind-element kinds i n h =
 
 -- the first i rows are made, and one more
 pub kinds-turn : (elements : List AxisOrBtn) (kinds : List (List ℕ)) (i : ℕ) (k : List ℕ) → elements ≡ axes
-    → length kinds ≡ ROWS → i < ROWS → k ≡ kindAndNumber (getD elements i (Axis A.Unknown))
+    → length kinds ≡ ROWS → i < ROWS → k ≡ kindAndNumber (getD elements i (Btn B.Unknown))
     → take i kinds ≡ take i kindRows → take (i + 1) (set kinds i k) ≡ take (i + 1) kindRows
 unfolding axes
 kinds-turn elements kinds i k n m h e p =
     let w : k ≡ getD kindRows i [] =
-    e ∙ ap (λ (l : List AxisOrBtn). kindAndNumber (getD l i (Axis A.Unknown))) n
-    ∙ ap (λ (x : AxisOrBtn). kindAndNumber x) (getD-any axes i (Axis A.Unknown) (Btn B.Unknown) h) ∙ sym (kind-row i h) in
+    e ∙ ap (λ (l : List AxisOrBtn). kindAndNumber (getD l i (Btn B.Unknown))) n
+    ∙ sym (kind-row i h) in
     rw (add-one, take-suc-set kinds i k (omega arith), take-suc kindRows i [] (omega (arith, kinds-length)), p, w)
 
 pub kinds-all : (kinds : List (List ℕ)) (i : ℕ) → length kinds ≡ ROWS → ROWS ≤ i → take i kinds ≡ take i kindRows
@@ -256,11 +255,10 @@ kinds-all kinds i m h p =
 
 -- ---- the row of an element
 pub element-told : (xs : List AxisOrBtn) (i : ℕ) (e : AxisOrBtn) (r : Bool) → xs ≡ axes → i < ROWS
-    → r ≡ sameElement (getD xs i (Axis A.Unknown)) e → r ≡ sameElement (getD axes i (Btn B.Unknown)) e
+    → r ≡ sameElement (getD xs i (Btn B.Unknown)) e → r ≡ sameElement (getD axes i (Btn B.Unknown)) e
 unfolding axes
 element-told xs i e r n h q =
-    q ∙ ap (λ (l : List AxisOrBtn). sameElement (getD l i (Axis A.Unknown)) e) n
-    ∙ ap (λ (x : AxisOrBtn). sameElement x e) (getD-any axes i (Axis A.Unknown) (Btn B.Unknown) h)
+    q ∙ ap (λ (l : List AxisOrBtn). sameElement (getD l i (Btn B.Unknown)) e) n
 
 pub element-here : (i : ℕ) (e : AxisOrBtn) (r : Bool) → i < ROWS → r ≡ sameElement (getD axes i (Btn B.Unknown)) e
     → r ≡ true → elementFrom i (drop i axes) e ≡ At i

@@ -10,6 +10,7 @@ pub mod ViewLaws
 pub mod NumberLaws
 pub mod DraftLaws
 pub mod TurnLaws
+pub mod OfNumbersLaws
 -- the walker and the reading
 pub mod CountLaws
 pub mod FieldLaws

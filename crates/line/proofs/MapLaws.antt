@@ -1,6 +1,5 @@
 -- Laws of maps that several proofs cite. Assumes nothing.
 use Prim.Native.Nat.{ℕ, suc, _+_, _-_, _<_, _≤_}
-use mathlib.Core.Bool.{false}
 use mathlib.Core.Path.{_≡_, sym, ap, subst, _∙_}
 use mathlib.Core.List.{List, _∷_, _++_, append-assoc, map}
 use native.Mathlib.Omega.{arith}
@@ -9,19 +8,17 @@ use lib.Seq.{drop-cons, drop-length, getD-take, take-suc, set-split}
 use native.Mathlib.Numerals.{add-one}
 use borrow.Author.Tests.{eq-eqb, ne-eqb, lt-ltb, le-ltb, le-leb, lt-leb}
 use Rattle.line.specs.declared.mapping.Entry.{Entry}
-use Rattle.line.specs.declared.parser.AxisRange.the-variants as Ar
 use Rattle.line.specs.declared.mapping.Mapping.{Mapping}
 use Rattle.line.specs.declared.ev.Code.{Code}
 use Rattle.line.specs.declared.mapping.PutAnswer.{PutAnswer}
 use Rattle.line.specs.declared.mapping.PutResult.the-variants.{Stored, Full}
 use Rattle.line.specs.declared.ev.AxisOrBtn.{AxisOrBtn}
-use Rattle.line.specs.declared.ev.AxisOrBtn.the-variants.{Axis}
 use Rattle.line.specs.declared.mapping.Source.the-variants.{Nowhere}
 use Rattle.line.specs.declared.mapping.Mapped.the-variants.{To, Nothing}
 use Rattle.line.specs.declared.mapping.Entered.the-variants.{Is, Absent}
 use Rattle.text.specs.Bytes.{pick}
 use Rattle.line.specs.Elements.{sameElement}
-use Rattle.line.specs.Maps.{CODES_MAX, held, mapOf, entryAt, putEntry, putOf, mapRevOf, lesser}
+use Rattle.line.specs.Maps.{CODES_MAX, unusedEntry, held, mapOf, entryAt, putEntry, putOf, mapRevOf, lesser}
 use Rattle.line.specs.Inner.{insertAt}
 use Rattle.line.proofs.mapping.Entry.{the-field}
 use Rattle.line.proofs.PlaceLaws.{set-prefix, insert-prefix, length-inserted}
@@ -32,12 +29,7 @@ entries-long l n p = sym (length-map l (the-field .into)) ∙ p
 
 -- what a read past an array's end is taken to give, in a need
 abbrev pub past : Entry
-past =
-    record {
-      code = record { 0 = 0 };
-      element = Axis (record { 0 = 0 });
-      ranges = record { input = Ar.LowerHalf; output = Ar.LowerHalf; inverted = false };
-    }
+past = unusedEntry
 
 -- the entries from i on begin with the one that the array has at i
 pub held-from : (m : Mapping) (i : ℕ) (d : Entry) → i < length (held m) → drop i (held m)

@@ -25,7 +25,7 @@ use Rattle.line.specs.declared.reading.SdlAnswer.{SdlAnswer}
 use Rattle.line.specs.declared.reading.SdlAnswer.the-variants.{Accepted, Refused}
 use Rattle.line.specs.declared.reading.SdlMapping.{SdlMapping}
 use Rattle.line.specs.declared.reading.Turn.{Turn}
-use Rattle.line.specs.declared.reading.draft.Draft.{Draft}
+use Rattle.line.specs.declared.mapping.draft.Draft.{Draft}
 use Rattle.line.specs.Maps.{CODES_MAX, MapView, toMap, unusedEntry, putEntry}
 use Rattle.line.specs.Reading.{acceptedOf, refusedOf, withName, withHat, storedAt, putOne, thenPut, flagged}
 use Rattle.line.specs.Reading.{putAll, skips, taken}

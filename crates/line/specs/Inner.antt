@@ -18,7 +18,7 @@ use Rattle.line.specs.declared.reading.SdlAnswer.{SdlAnswer}
 use Rattle.line.specs.declared.reading.SdlAnswer.the-variants as Sd
 use Rattle.line.specs.declared.reading.SdlMapping.{SdlMapping}
 use Rattle.line.specs.declared.reading.Turn.{Turn}
-use Rattle.line.specs.declared.reading.draft.Draft.{Draft}
+use Rattle.line.specs.declared.mapping.draft.Draft.{Draft}
 use Rattle.line.specs.Maps.{CODES_MAX, MapView, toMap, putEntry}
 use Rattle.line.specs.Numbers.{entryIn}
 use Rattle.line.specs.Reading.{acceptedOf, refusedOf}

@@ -1,7 +1,10 @@
 -- An entry as one number, and back (document 02, P2): its code, its shape and the number of its element.
 -- Public contracts rest on these definitions; they assume nothing.
 use Prim.Native.Nat.{ℕ, _+_, _*_, _/_, _%_}
+use mathlib.Core.Bool.{false}
+use mathlib.Core.List.{List, [], map}
 use lib.Dec.{eqb}
+use lib.ListN.{take}
 use Rattle.text.specs.Bytes.{pick}
 use Rattle.line.specs.declared.ev.AxisOrBtn.{AxisOrBtn}
 use Rattle.line.specs.declared.ev.AxisOrBtn.the-variants as El
@@ -10,7 +13,7 @@ use Rattle.line.specs.declared.parser.AxisRange.the-variants as Ar
 use Rattle.line.specs.declared.parser.Ranges.{Ranges}
 use Rattle.line.specs.declared.mapping.Entry.{Entry}
 use Rattle.line.specs.Elements.{codeOf}
-use Rattle.line.specs.Maps.{rangedEntry}
+use Rattle.line.specs.Maps.{CODES_MAX, MapView, rangedEntry, putsInto}
 
 -- what a code counts in the number of an entry, and what its shape does
 abbrev pub CODE_UNIT : ℕ
@@ -56,3 +59,14 @@ shapedEntry c shape n = rangedEntry (codeOf c) (elementOfKind (shape % 2) n) (ra
 
 unfoldable pub entryIn : ℕ → Entry
 entryIn x = shapedEntry (x / CODE_UNIT) (x / SHAPE_UNIT % SHAPE_UNIT) (x % SHAPE_UNIT)
+
+-- ---- the map of numbers: the entries of the first 256, put one after the other, and the place of its name
+unfoldable pub putsView : List ℕ → ℕ → ℕ → MapView
+putsView xs start len =
+    record {
+      list = putsInto (take CODES_MAX (map entryIn xs)) [];
+      nameStart = start;
+      nameLen = len;
+      isDefault = false;
+      hatFlags = 0;
+    }

@@ -15,8 +15,8 @@ pub struct Button(pub u16);
 pub struct Axis(pub u16);
 
 pub enum AxisOrBtn {
-    Axis(Axis),
     Btn(Button),
+    Axis(Axis),
 }
 
 // The greatest number of a button and of an axis.

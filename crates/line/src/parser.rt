@@ -36,9 +36,9 @@ pub enum State {
 
 // The half of an axis that is meant.
 pub enum AxisRange {
-    LowerHalf,
-    UpperHalf,
     Full,
+    UpperHalf,
+    LowerHalf,
 }
 
 // What a pair says of the ranges; buttons and hats have a full input and no inversion.

@@ -1,18 +1,17 @@
 // The reading of a line: each pair's token asks for puts, and the map is made of them in line order.
-mod draft;
 mod puts;
 
 use crate::mapping::CODES_MAX;
 use crate::mapping::Entry;
 use crate::mapping::Mapping;
+use crate::mapping::draft::Draft;
+use crate::mapping::draft::drafted;
+use crate::mapping::draft::put_number;
 use crate::parser::Answer;
 use crate::parser::Error;
 use crate::parser::ErrorKind;
 use crate::parser::State;
 use crate::parser::step_by;
-use crate::reading::draft::Draft;
-use crate::reading::draft::drafted;
-use crate::reading::draft::put_number;
 use crate::reading::puts::Puts;
 use crate::reading::puts::puts_of;
 use crate::tables::IDENT_MAX;

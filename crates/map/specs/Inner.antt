@@ -3,7 +3,7 @@
 use Prim.Native.Nat.{ℕ, zero, suc, _+_, _-_, _/_, _%_, _<_, _≤_}
 use mathlib.Core.Path.{_≡_}
 use mathlib.Core.Bool.{Bool, false}
-use mathlib.Core.List.{List, [], _∷_, _++_}
+use mathlib.Core.List.{List, [], _∷_, _++_, map}
 use lib.Dec.{leb, ltb}
 use lib.ListN.{length, take, getD, replicate}
 use Rattle.text.specs.Bytes.{byte, pick}
@@ -15,8 +15,8 @@ use Rattle.text.specs.declared.bytes.Written.the-variants.{Upto, TooShort}
 use Rattle.text.specs.declared.uuid.Uuid.{Uuid}
 use Rattle.line.specs.declared.mapping.Entry.{Entry}
 use Rattle.line.specs.declared.mapping.Mapping.{Mapping}
-use Rattle.line.specs.Maps.{CODES_MAX, unusedEntry, putsInto, toMap}
-use Rattle.line.specs.Inner.{entriesIn}
+use Rattle.line.specs.Maps.{unusedEntry, putsInto, toMap}
+use Rattle.line.specs.Numbers.{entryIn}
 use Rattle.line.specs.Reading.{LIST_MAX}
 use Rattle.line.specs.declared.ev.AxisOrBtn.{AxisOrBtn}
 use Rattle.line.specs.Tables.{identText, asButton, asAxis}
@@ -120,11 +120,11 @@ abbrev pub uptoOf : Written → ℕ
 uptoOf (Upto n) = n
 uptoOf TooShort = 0
 
--- ---- the filled slots put among the first n of xs: r is the new count, and ys has the entries
-pub record PutsIn (n : ℕ) (xs : List ℕ) (f : Filled) (r : ℕ) (ys : List ℕ) : Type 0 where
-  pub are : entriesIn r ys ≡ putsInto (heldIn f) (entriesIn n xs)
-  pub few : r ≤ n + f .count
-  pub long : length ys ≡ CODES_MAX
+-- ---- the filled slots as numbers after the first n of xs: r numbers in all, and ys has them
+pub record Adds (n : ℕ) (xs : List ℕ) (f : Filled) (r : ℕ) (ys : List ℕ) : Type 0 where
+  pub many : r ≡ n + f .count
+  pub are : map entryIn (take r ys) ≡ map entryIn (take n xs) ++ heldIn f
+  pub long : length ys ≡ length xs
 
 -- the map of both
 unfoldable pub putMap : Filled → Filled → ℕ → Mapping

@@ -1,7 +1,7 @@
 -- By the kind of the puts; the flags may be set before them. Assumes nothing.
 use mathlib.Core.Path.{_≡_, refl, sym, ap, subst, _∙_}
 use borrow.Author.Needs.{needs}
-use Rattle.line.specs.declared.reading.draft.Draft.{Draft}
+use Rattle.line.specs.declared.mapping.draft.Draft.{Draft}
 use Rattle.line.specs.Inner.{Roomy}
 use Rattle.line.proofs.TurnLaws.{all-none, all-name, all-one, all-two, all-hat}
 use Rattle.line.proofs.reading.put_all.Statement.{statement}

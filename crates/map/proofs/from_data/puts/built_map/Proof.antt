@@ -1,26 +1,39 @@
--- The puts of the buttons and of the axes are those of both, and they fit. Assumes nothing.
-use Rattle.map.proofs.PutsLaws.{put-map}
+-- The numbers are those of the buttons and of the axes, and they fit. Assumes nothing.
+use Prim.Native.Nat.{_≤_}
+use mathlib.Core.Path.{_≡_, sym, _∙_}
+use native.Mathlib.Omega.{arith}
 use borrow.Author.Needs.{needs}
+use lib.Seq.{length-take-le}
+use Rattle.map.proofs.PutsLaws.{put-map}
 use Rattle.map.proofs.from_data.puts.built_map.Statement.{statement}
 use Rattle.map.proofs.from_data.puts.built_map.Tie as tie
 
-slice-aggregate-put-all : tie.Need-slice-aggregate-put-all
-slice-aggregate-put-all c = search needs
+slice-aggregate-add-numbers : tie.Need-slice-aggregate-add-numbers
+slice-aggregate-add-numbers c = search needs
 
-put-all-requires : tie.Need-put-all-requires
-put-all-requires c κs = search needs
+add-numbers-requires : tie.Need-add-numbers-requires
+add-numbers-requires c κs = search needs
 
-slice-aggregate-put-all-2 : tie.Need-slice-aggregate-put-all-2
-slice-aggregate-put-all-2 c = search needs
+slice-aggregate-add-numbers-2 : tie.Need-slice-aggregate-add-numbers-2
+slice-aggregate-add-numbers-2 c = search needs
 
-put-all-requires-2 : tie.Need-put-all-requires-2
-put-all-requires-2 c κs = search needs
+add-numbers-requires-2 : tie.Need-add-numbers-requires-2
+add-numbers-requires-2 c κs = search needs
 
-slice-aggregate-entries-of : tie.Need-slice-aggregate-entries-of
-slice-aggregate-entries-of c = search needs
+array-share-prefix-xs : tie.Need-array-share-prefix-xs
+array-share-prefix-xs c = search needs
 
-entries-of-requires : tie.Need-entries-of-requires
-entries-of-requires c κs = search needs
+slice-aggregate-of-numbers : tie.Need-slice-aggregate-of-numbers
+slice-aggregate-of-numbers c =
+    let second = c .before .before in
+    let first = second .before .before .before in
+    let s = first .before .before in
+    let a = second .add-numbers2 .ensures in
+    let b = first .add-numbers .ensures in
+    sym (length-take-le _ _ (omega (arith, a .many, a .long, b .many, b .long, s .pre .0, s .pre .1)))
+
+of-numbers-requires : tie.Need-of-numbers-requires
+of-numbers-requires c κs = search needs
 
 returns : tie.Need-returns
 returns c =
@@ -28,17 +41,19 @@ returns c =
     let first = second .before .before .before in
     let s = first .before .before in
     let a = s .args in
-    put-map (a .first) (a .last) _ _ _ _ _ _ _ (s .pre .0) (first .put-all .ensures) (s .pre .1)
-    (second .put-all2 .ensures) (c .entries-of .ensures)
+    c .of-numbers .ensures
+    ∙ put-map (a .first) (a .last) _ _ _ _ _ _ (s .pre .0) (s .pre .1) (first .add-numbers .ensures)
+    (second .add-numbers2 .ensures)
 
 pub built-map-spec : {M : Type 1} → statement M
 built-map-spec =
     tie.close
     (tie.spec
-    slice-aggregate-put-all
-    put-all-requires
-    slice-aggregate-put-all-2
-    put-all-requires-2
-    slice-aggregate-entries-of
-    entries-of-requires
+    slice-aggregate-add-numbers
+    add-numbers-requires
+    slice-aggregate-add-numbers-2
+    add-numbers-requires-2
+    array-share-prefix-xs
+    slice-aggregate-of-numbers
+    of-numbers-requires
     returns)
