@@ -10,7 +10,7 @@ use borrow.Author.Tests.{ne-eqb, lt-ltb, leb-true}
 use lib.Dec.{T, eqb, leb, eqb→eq}
 use lib.ListN.{length, getD}
 use Rattle.text.specs.Bytes.{both, byte, ascii, same}
-use Rattle.text.specs.Decimal.{indexMax, decimal, isDigit}
+use Rattle.text.specs.Decimal.{numberMax, decimal, isDigit}
 use Rattle.text.specs.Inner.{every}
 use Rattle.text.proofs.ListLaws.{both-parts}
 use Rattle.text.proofs.DecimalLaws.{read-back, decimal-all}
@@ -171,7 +171,7 @@ module _ (key : List ℕ) (to : AxisOrBtn) (is : Named key to) (i : ℕ) where
       count-append (byte ",") key (byte ":" ∷ kind ∷ decimal i)
       ∙ rw (is .commas, h, digits-free (byte ",") i refl)
 
-  module _ (small : i ≤ indexMax) where
+  module _ (small : i ≤ numberMax) where
     button-token : pairOf (pairText key (byte "b") i) 0
         ≡ An.Found (Tk.ButtonMapping i to (rangesOf Ar.Full Ar.Full false))
     unfolding pairOf keyedOf valueOf

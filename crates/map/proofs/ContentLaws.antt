@@ -30,7 +30,7 @@ use Rattle.map.specs.declared.error.MappingAnswer.the-variants.{Accepted
 use Rattle.map.specs.declared.mapping_data.MappingData.{MappingData}
 use Rattle.map.specs.Lists.{placeOf}
 use Rattle.map.specs.Build.{filledButtons, filledAxes, checksOf, ended, pairText, pairTexts, builtLine}
-use Rattle.map.specs.Search.{beginsText, firstText, platformKey, lf}
+use Rattle.text.specs.Search.{beginsText, firstText, platformKey, lf}
 use Rattle.map.proofs.CheckLaws.{Passed, passed}
 use Rattle.map.proofs.PlainLaws.{isIdentByte, Plain, AllPlain}
 use Rattle.map.proofs.BuiltLaws.{buttons-all-plain, axes-all-plain}

@@ -14,7 +14,7 @@ use Rattle.text.proofs.BytesLaws.{same-equal}
 use Rattle.line.specs.Fields.{countOf}
 use Rattle.line.proofs.CountLaws.{count-append}
 use Rattle.line.proofs.JoinLaws.{Free, free-cons}
-use Rattle.map.specs.Search.{beginsText, firstText}
+use Rattle.text.specs.Search.{beginsText, firstText}
 
 -- p is nowhere in s
 abbrev pub Lacks : List ℕ → List ℕ → Type 0

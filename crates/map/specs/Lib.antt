@@ -5,7 +5,5 @@ pub mod Build
 pub mod Keys
 pub mod Default
 pub mod Refusals
--- what the store's definitions cite
-pub mod Search
 -- what private functions and proofs need
 pub mod Inner

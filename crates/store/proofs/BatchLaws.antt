@@ -21,7 +21,7 @@ use Rattle.store.specs.declared.batch.Walked.{Walked}
 use Rattle.store.specs.Book.{under, Reached, after, stopped, reach, insertTurn, onReached, insertLines}
 use Rattle.store.specs.Decode.{decode}
 use Rattle.store.specs.Held.{Held, file, indexMax, textMax, lineMax}
-use Rattle.map.specs.Search.{lf}
+use Rattle.text.specs.Search.{lf}
 use Rattle.store.specs.Layout.{Bytes}
 use Rattle.store.specs.Inner.{Good, firstLine, known}
 use Rattle.store.specs.Keys.{slots}

@@ -18,7 +18,7 @@ use Rattle.map.specs.declared.error.MappingError.{MappingError}
 use Rattle.map.specs.declared.error.MappingAnswer.{MappingAnswer}
 use Rattle.map.specs.declared.error.MappingAnswer.the-variants.{Accepted, Refused}
 use Rattle.map.specs.Build.{checksOf}
-use Rattle.map.specs.Search.{beginsText, firstText, platformKey, lf}
+use Rattle.text.specs.Search.{beginsText, firstText, platformKey, lf}
 use Rattle.map.proofs.BuiltLaws.{built-positive}
 use Rattle.store.proofs.LimitLaws.{built-fits}
 use Rattle.map.proofs.ContentLaws.{built-platform, built-uuid, built-utf8, built-lf}

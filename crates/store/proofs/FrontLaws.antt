@@ -10,7 +10,7 @@ use borrow.Author.Tests.{eqb-true, eq-eqb}
 use lib.Dec.{eqb}
 use lib.ListN.{take, getD}
 use Rattle.text.specs.Bytes.{pick}
-use Rattle.map.specs.Search.{lf}
+use Rattle.text.specs.Search.{lf}
 use Rattle.text.specs.Utf8.{isUtf8}
 use Rattle.text.proofs.AsciiLaws.{Valid, none-valid, valid-join, valid-split, valid-is, is-valid}
 use Rattle.line.specs.Fields.{before}

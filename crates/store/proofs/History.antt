@@ -8,7 +8,7 @@ use Rattle.text.specs.Bytes.{ascii, same, firstOf}
 use Rattle.text.specs.Utf8.{begins, firstLength, charLength, runOf, validRun, isUtf8}
 use Rattle.text.specs.Uuid.{hexDigit, readHex, uuidOf, bigEndian}
 use Rattle.text.specs.declared.uuid.Uuid.{Uuid}
-use Rattle.map.specs.Search.{firstText}
+use Rattle.text.specs.Search.{firstText}
 use Rattle.store.specs.Held.{sameKey, strike, file, find, holds, distinct}
 use Rattle.store.specs.Layout.{recordBytes, records, texts, padded, encodeIndex, encodeText}
 use Rattle.store.specs.Decode.{bodyAt, headAt, headFits, zeroes, walk, decode}

@@ -13,7 +13,7 @@ use Rattle.text.specs.Bytes.{pick, firstOf}
 use Rattle.store.specs.Inner.{withoutCr, firstLine}
 use Rattle.store.specs.Lines.{cr, linesOf}
 use Rattle.line.specs.Fields.{before}
-use Rattle.map.specs.Search.{lf}
+use Rattle.text.specs.Search.{lf}
 use Rattle.store.proofs.BoolLaws.{and-left, and-right}
 
 ltb-suc : (a b : ℕ) (t : Bool) → ltb a b ≡ t → ltb (suc a) (suc b) ≡ t

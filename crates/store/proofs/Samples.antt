@@ -16,7 +16,7 @@ use Rattle.store.specs.Held.{sameKey, strike, file, holds, distinct}
 use Rattle.store.specs.Layout.{recordBytes, records, texts, padded, encodeIndex, encodeText}
 use Rattle.store.specs.Decode.{bodyAt, headAt, headFits, zeroes, walk, decode}
 use Rattle.store.specs.Lines.{linesOf, forPlatform, wanted}
-use Rattle.map.specs.Search.{firstText}
+use Rattle.text.specs.Search.{firstText}
 use Rattle.store.specs.Book.{under, lengths, noRoom, reach, insertLines, bookInsert}
 use Rattle.store.specs.Store.{storeClear, storeInsert}
 

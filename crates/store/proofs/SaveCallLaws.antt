@@ -24,7 +24,7 @@ use Rattle.store.specs.declared.calls.Answer.the-variants as A
 use Rattle.store.specs.declared.calls.SaveAnswer.the-variants as Sv
 use Rattle.store.specs.declared.calls.Saved.{Saved}
 use Rattle.store.specs.Held.{lineMax}
-use Rattle.map.specs.Search.{lf, firstText, platformKey}
+use Rattle.text.specs.Search.{lf, firstText, platformKey}
 use Rattle.store.specs.Book.{under, refused, files}
 use Rattle.store.specs.Store.{Done, storeAttempt}
 use Rattle.store.specs.Inner.{storeFile, saidBy}

@@ -15,7 +15,7 @@ use Rattle.text.specs.Inner.{every}
 use Rattle.text.proofs.ListLaws.{lt-or-le, part-to-end}
 use Rattle.text.proofs.BlockLaws.{every-next, and-parts}
 use Rattle.text.proofs.BytesLaws.{same-equal, first-at, first-on, first-end, first-le}
-use Rattle.map.specs.Search.{beginsText, firstText}
+use Rattle.text.specs.Search.{beginsText, firstText}
 use Rattle.store.specs.Inner.{isNot}
 use Rattle.store.proofs.BoolLaws.{not-not}
 use Rattle.store.proofs.WantedLaws.{text-at, text-on, text-within}

@@ -18,7 +18,7 @@ use Rattle.text.specs.declared.uuid.Uuid.{Uuid}
 use Rattle.text.specs.declared.uuid.UuidParse.the-variants.{Parsed, Invalid}
 use Rattle.store.specs.Lines.{platform, forPlatform, wanted}
 use Rattle.line.specs.Fields.{firstField}
-use Rattle.map.specs.Search.{beginsText, firstText, platformKey}
+use Rattle.text.specs.Search.{beginsText, firstText, platformKey}
 
 -- ---- the first text in another
 

@@ -32,7 +32,7 @@ use Rattle.line.specs.Refusals.{Refuses, refusalAt, readingOutcome}
 use Rattle.map.specs.Slots.{noSlots, buttonOf, axisOf}
 use Rattle.map.specs.Build.{filledFrom, missingOf, axisChecks, slotChecks, checksOf, ended, pairTexts}
 use Rattle.map.specs.Build.{builtLine, builtMap}
-use Rattle.map.specs.Search.{firstText}
+use Rattle.text.specs.Search.{firstText}
 use Rattle.store.specs.declared.calls.Look.the-variants as L
 use Rattle.store.specs.Held.{Key, strike, distinct, indexMax, textMax, recordSize}
 use Rattle.store.specs.Decode.{bodyAt, noHead, headWith, headAt, zeroes, walk, guarded, decode}

@@ -20,7 +20,7 @@ use Rattle.store.specs.Layout.{Shape, Shapes, recordBytes, recordOf, rec
 use Rattle.store.specs.Layout.{encodeText}
 use Rattle.store.specs.Decode.{headAt, decode}
 use Rattle.store.specs.Lines.{cr}
-use Rattle.map.specs.Search.{lf}
+use Rattle.text.specs.Search.{lf}
 use Rattle.store.specs.Book.{noRoom, Turn, turn, files, Saving}
 use Rattle.store.specs.Store.{Done, onLines}
 use Rattle.store.specs.Saves.{refusedSave, acceptedSave}

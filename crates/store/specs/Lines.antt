@@ -10,7 +10,7 @@ use Rattle.text.specs.Uuid.{uuidOf}
 use Rattle.text.specs.declared.uuid.UuidParse.{UuidParse}
 use Rattle.text.specs.declared.uuid.UuidParse.the-variants.{Invalid}
 use Rattle.line.specs.Fields.{before, firstField}
-use Rattle.map.specs.Search.{firstText, platformKey, lf}
+use Rattle.text.specs.Search.{firstText, platformKey, lf}
 
 -- the byte that may stand before a line's end
 abbrev pub cr : ℕ

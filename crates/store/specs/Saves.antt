@@ -20,7 +20,7 @@ use Rattle.store.specs.Refusals.{saveNumber}
 use Rattle.store.specs.declared.calls.SaveAnswer.{SaveAnswer}
 use Rattle.store.specs.declared.calls.SaveAnswer.the-variants as Sv
 use Rattle.store.specs.declared.calls.Saved.{Saved}
-use Rattle.map.specs.Search.{lf, firstText, platformKey}
+use Rattle.text.specs.Search.{lf, firstText, platformKey}
 use Rattle.store.specs.Book.{under, Attempt, refused, files, Saving}
 use Rattle.store.specs.Store.{Done, storeAttempt}
 

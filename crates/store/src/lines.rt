@@ -10,7 +10,7 @@ ghost use Prim.Native.Nat.{ℕ, _+_, _≤_, _<_};
 ghost use lib.ListN.{length, take};
 ghost use Rattle.text.specs.Bytes.{firstOf};
 ghost use Rattle.store.specs.Lines.{forPlatform, wanted as isWanted};
-ghost use Rattle.map.specs.Search.{lf};
+ghost use Rattle.text.specs.Search.{lf};
 ghost use Rattle.line.specs.Fields.{firstField};
 ghost use Rattle.store.specs.Inner.{firstLine};
 

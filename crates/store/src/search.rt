@@ -6,7 +6,7 @@ ghost use Prim.Native.Nat.{_+_, _≤_, _<_};
 ghost use lib.ListN.{length, take, drop};
 ghost use Rattle.text.specs.Bytes.{firstOf};
 ghost use Rattle.text.specs.Inner.{every};
-ghost use Rattle.map.specs.Search.{beginsText, firstText};
+ghost use Rattle.text.specs.Search.{beginsText, firstText};
 ghost use Rattle.store.specs.Inner.{isNot};
 
 // Whether none of the sixteen bytes at k is `byte`. All are read first: then they make one load and one test.

@@ -9,8 +9,8 @@ use Rattle.text.specs.declared.decimal.IndexParse.{IndexParse}
 use Rattle.text.specs.declared.decimal.IndexParse.the-variants.{Parsed, Invalid}
 
 -- "value at most 65535"
-abbrev pub indexMax : ℕ
-indexMax = 65535
+abbrev pub numberMax : ℕ
+numberMax = 65535
 
 -- ---- reading
 
@@ -20,7 +20,7 @@ isDigit b = both (leb (byte "0") b) (leb b (byte "9"))
 
 -- digits to the end, after those that made a: "value at most 65535; leading zeros allowed"
 unfoldable pub readDigits : ℕ → List ℕ → IndexParse
-readDigits a [] = pick (leb a indexMax) (Parsed a) Invalid
+readDigits a [] = pick (leb a numberMax) (Parsed a) Invalid
 readDigits a (d ∷ ds) = pick (isDigit d) (readDigits (a * 10 + (d - byte "0")) ds) Invalid
 
 -- "one or more digits"

@@ -4,5 +4,6 @@ pub mod Utf8
 pub mod Uuid
 pub mod Spellings
 pub mod Decimal
+pub mod Search
 -- what private functions and proofs need
 pub mod Inner

@@ -9,7 +9,7 @@ ghost use Rattle.text.specs.Decimal.{decimal, indexNumber, unsigned};
 ghost use Rattle.text.specs.Inner.{Put};
 
 // The largest index number.
-const INDEX_MAX: u32 = 65535;
+const NUMBER_MAX: u32 = 65535;
 
 // What a text is as an index number.
 pub enum IndexParse {
@@ -35,7 +35,7 @@ fn parse_unsigned(s: &[u8]) -> IndexParse
             return IndexParse::Invalid;
         }
         value = value * 10 + (b - b'0') as u32;
-        if INDEX_MAX < value {
+        if NUMBER_MAX < value {
             return IndexParse::Invalid;
         }
         i += 1;

@@ -11,7 +11,7 @@ use Rattle.text.specs.Bytes.{firstOf}
 use Rattle.text.proofs.ListLaws.{part-to-end}
 use Rattle.text.proofs.LentLaws.{tail-length}
 use Rattle.text.proofs.BytesLaws.{first-le}
-use Rattle.map.specs.Search.{lf}
+use Rattle.text.specs.Search.{lf}
 use Rattle.store.specs.Keys.{slots}
 use Rattle.store.proofs.BatchLaws.{Taking, take-first, take-on, first-at, taken, line-part, take-off, take-turn}
 use Rattle.store.proofs.batch.take_lines.Statement.{statement}

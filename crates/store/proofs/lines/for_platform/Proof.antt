@@ -9,7 +9,7 @@ use Rattle.text.proofs.ListLaws.{part-to-end}
 use Rattle.text.proofs.LentLaws.{tail-length}
 use Rattle.text.proofs.BytesLaws.{first-le}
 use Rattle.store.specs.Lines.{platform}
-use Rattle.map.specs.Search.{platformKey}
+use Rattle.text.specs.Search.{platformKey}
 use Rattle.store.proofs.LineLaws.{plus-minus}
 use Rattle.store.proofs.WantedLaws.{text-within, platform-none, platform-some}
 use Rattle.store.proofs.lines.for_platform.Statement.{statement}

@@ -2,7 +2,7 @@
 use native.Mathlib.Omega.{arith}
 use borrow.Author.Needs.{needs}
 use Rattle.text.proofs.BytesLaws.{first-le}
-use Rattle.map.specs.Search.{lf}
+use Rattle.text.specs.Search.{lf}
 use Rattle.store.proofs.LineLaws.{line-last, line-none, line-cr, line-plain}
 use Rattle.store.proofs.lines.line_length.Statement.{statement}
 use Rattle.store.proofs.lines.line_length.Tie as tie

@@ -4,7 +4,7 @@ use Prim.Native.Nat.{_+_, _-_, _≤_}
 use native.Mathlib.Omega.{arith}
 use lib.ListN.{length, drop}
 use borrow.Author.Needs.{needs}
-use Rattle.map.specs.Search.{firstText}
+use Rattle.text.specs.Search.{firstText}
 use Rattle.store.proofs.SeekLaws.{rare-none, rare-within, rare-last, rare-here, rare-on}
 use Rattle.store.proofs.search.find_text.Statement.{statement}
 use Rattle.store.proofs.search.find_text.Tie as tie

@@ -1,10 +1,10 @@
--- A text sought in another, for the store (document 01, 'Store', and its refusal 22).
+-- A text sought in another (document 01, 'Store', and its refusal 22).
 -- Public contracts rest on these definitions; they assume nothing.
 use Prim.Native.Nat.{ℕ, suc}
 use mathlib.Core.Bool.{Bool}
 use mathlib.Core.List.{List, [], _∷_}
 use lib.ListN.{length, take}
 use Rattle.text.specs.Bytes.{pick, byte, ascii, same}
 
 -- a text begins with p
 abbrev pub beginsText : List ℕ → List ℕ → Bool
