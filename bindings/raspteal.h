@@ -75,9 +75,20 @@ typedef struct {
     uint64_t low;
 } raspteal_uuid;
 
+/* How a UUID is spelled. */
+enum {
+    RASPTEAL_SIMPLE = 1,     /* 32 digits */
+    RASPTEAL_HYPHENATED = 2, /* with hyphens, 36 characters */
+    RASPTEAL_BRACED = 3,     /* that in braces */
+    RASPTEAL_URN = 4,        /* that after `urn:uuid:` */
+    RASPTEAL_XINPUT = 5      /* the word `xinput`, in the walker alone */
+};
+
+/* A UUID and its form; 0 where there is none. */
 typedef struct {
     bool valid;
     raspteal_uuid id;
+    uint8_t form;
 } raspteal_uuid_parse;
 
 typedef struct {
@@ -277,10 +288,12 @@ typedef struct {
     size_t len;
 } raspteal_built;
 
-/* What an insert did: the lines walked, all of them or those before the refused one. */
+/* What an insert did: the lines walked, all of them or those before the refused one; and how many of them were filed
+ * with a UUID that is not spelled in 32 digits. */
 typedef struct {
     raspteal_refusal refusal;
     size_t count;
+    size_t not_simple;
 } raspteal_inserted;
 
 /* Whether a line is held; 19 where the store is not sound. */
@@ -412,6 +425,9 @@ raspteal_step raspteal_parser_step(const uint8_t *line, size_t line_len, size_t 
 
 /* The first answer over a line: the token of the step at position 0 in the state that raspteal_parser_start gives. */
 raspteal_token raspteal_first_token(const uint8_t *line, size_t line_len);
+
+/* How the UUID of that token is spelled, RASPTEAL_XINPUT for `xinput`; 0 where the token is no UUID. */
+uint8_t raspteal_first_form(const uint8_t *line, size_t line_len);
 
 /* How many tokens a walker gives over a line, up to its end or to a refusal after which it doesn't go on (1, 2, 10);
  * and the last refusal on the way, number 0 where there is none. */

@@ -202,6 +202,13 @@ class Store:
             if after is not None:
                 self.hold(after)
             return words[:2] == [answer, str(count)]
+        if kind == "forms":
+            text = spelled(" ".join(words[3:]))
+            answer, count, after = ("19", 0, None) if held is None else insert(held, text, *sizes)
+            others = [l for l in lines_of(text)[:count] if wanted(l) is not None and len(l.split(b",")[0]) != 32]
+            if after is not None:
+                self.hold(after)
+            return words[:3] == [answer, str(count), str(len(others))]
         if kind == "save":
             uuid, slots, name = uuid_word(words[1]), slots_of(words[2]), spelled(" ".join(words[5:]))
             answer, after = save(held, uuid, slots, int(words[3]), int(words[4]), name, *sizes)

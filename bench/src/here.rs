@@ -135,7 +135,7 @@ impl Work for Insert {
         put_back(&mut self.store, &self.before);
     }
     fn go(&mut self) {
-        let (refusal, _) = black_box(self.store.insert(black_box(self.text.as_bytes())));
+        let (refusal, _, _) = black_box(self.store.insert(black_box(self.text.as_bytes())));
         assert!(refusal.is_none(), "the store takes the list: {refusal:?}");
     }
 }

@@ -28,7 +28,7 @@ pub fn mappings(text: &str) -> Vec<&str> {
 
 /// The longest front of the text, in whole lines, that a fresh store holds.
 pub fn fitting(text: &str) -> String {
-    let (refusal, lines) = Store::fresh(BUFFER, BUFFER).insert(text.as_bytes());
+    let (refusal, lines, _) = Store::fresh(BUFFER, BUFFER).insert(text.as_bytes());
     match refusal {
         None => text.to_string(),
         Some(_) => text.split_inclusive('\n').take(lines).collect(),

@@ -165,7 +165,7 @@ fn filled(held: &[Uuid], list: &[Uuid], more: usize) -> Case {
     let line = before.lines().next().map_or(0, str::len);
     let lines = held.len() + more;
     let mut store = Store::fresh(RECORD * lines, line * lines);
-    let (refusal, _) = store.insert(before.as_bytes());
+    let (refusal, _, _) = store.insert(before.as_bytes());
     assert!(refusal.is_none(), "the store takes the lines that it holds");
     let gilrs = rust::Insert::of(&before, &text);
     case(held.len().to_string(), here::Insert { before: store.clone(), store, text }, gilrs)

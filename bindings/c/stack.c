@@ -64,6 +64,7 @@ static raspteal_element element;
     X(mapping_map_rev, (map, element))                                                                                 \
     X(parser_start, (LINE))                                                                                            \
     X(parser_step, (LINE, 0, raspteal_parser_start(LINE)))                                                             \
+    X(first_form, (LINE))                                                                                              \
     X(first_token, (LINE))                                                                                             \
     X(count_tokens, (LINE))                                                                                            \
     X(parse_sdl_mapping, (LINE, CODES, CODES))                                                                         \

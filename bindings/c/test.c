@@ -32,7 +32,8 @@ static void layout(void) {
     CHECK(offsetof(raspteal_refusal, place) == 8);
     CHECK(offsetof(raspteal_refusal, code) == 20);
     CHECK(sizeof(raspteal_written) == 16);
-    CHECK(sizeof(raspteal_uuid_parse) == 24);
+    CHECK(sizeof(raspteal_uuid_parse) == 32 && offsetof(raspteal_uuid_parse, form) == 24);
+    CHECK(sizeof(raspteal_inserted) == 40 && offsetof(raspteal_inserted, not_simple) == 32);
     CHECK(sizeof(raspteal_index_parse) == 4);
     CHECK(sizeof(raspteal_element) == 4);
     CHECK(sizeof(raspteal_mapped) == 6);
@@ -245,6 +246,24 @@ static void stores(void) {
     CHECK(!raspteal_store_found(BUFFER(index), BUFFER(text), one).found);
 }
 
+static void forms(void) {
+    static const char *const spelled[] = {"00000000000000000000000000000001", "00000000-0000-0000-0000-000000000001",
+                                          "{00000000-0000-0000-0000-000000000001}",
+                                          "urn:uuid:00000000-0000-0000-0000-000000000001"};
+    for (uint8_t k = 0; k < 4; k++) {
+        const uint8_t *s = (const uint8_t *)spelled[k];
+        raspteal_uuid_parse p = raspteal_uuid_parse_str(s, strlen(spelled[k]));
+        CHECK(p.valid && p.form == k + 1 && p.id.low == 1);
+        uint8_t index[21] = {0}, text[60] = {0};
+        raspteal_inserted i = raspteal_store_insert(BUFFER(index), BUFFER(text), s, strlen(spelled[k]));
+        CHECK(i.refusal.number == 0 && i.count == 1 && i.not_simple == (k > 0));
+        CHECK(raspteal_store_found(BUFFER(index), BUFFER(text), one).found);
+    }
+    CHECK(raspteal_uuid_parse_str(TEXT("q")).form == 0);
+    CHECK(raspteal_first_form(TEXT("xinput,T")) == RASPTEAL_XINPUT);
+    CHECK(raspteal_first_form(TEXT(U ",T")) == RASPTEAL_SIMPLE && raspteal_first_form(TEXT(U)) == 0);
+}
+
 static void near_stores(void) {
     uint8_t index[42] = {0}, text[100] = {0}, out[100];
     raspteal_uuid pad = {0x0300abcd5e040000, 1}, plain = {0x030000005e040000, 1}, other = {0x0300abce5e040000, 1};
@@ -362,6 +381,7 @@ int main(void) {
     builds();
     stores();
     near_stores();
+    forms();
     pads();
     games();
     two_pads();

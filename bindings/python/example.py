@@ -20,7 +20,7 @@ def show(map, code):
 def insert(store, path):
     with open(path, "rb") as lines:
         try:
-            print(f"{store.insert(lines.read())} lines")
+            print(f"{store.insert(lines.read()).count} lines")
         except Refused as stopped:
             if stopped.number != 21:
                 raise

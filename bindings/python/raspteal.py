@@ -62,7 +62,7 @@ refusal = struct("refusal", ("number", c_uint8), ("has_place", c_bool), ("place"
                  ("code", c_uint32))
 written = struct("written", ("fits", c_bool), ("next", c_size_t))
 uuid = struct("uuid", ("high", c_uint64), ("low", c_uint64))
-uuid_parse = struct("uuid_parse", ("valid", c_bool), ("id", uuid))
+uuid_parse = struct("uuid_parse", ("valid", c_bool), ("id", uuid), ("form", c_uint8))
 element = struct("element", ("is_axis", c_bool), ("number", c_uint16))
 mapped = struct("mapped", ("found", c_bool), ("element", element))
 code = struct("code", ("found", c_bool), ("code", c_uint32))
@@ -84,7 +84,7 @@ slot = struct("slot", ("filled", c_bool), ("code", c_uint32))
 data = struct("data", ("buttons", slot * BUTTONS), ("axes", slot * AXES))
 changed = struct("changed", ("former", code), ("slots", data))
 built = struct("built", ("refusal", refusal), ("map", mapping), ("len", c_size_t))
-inserted = struct("inserted", ("refusal", refusal), ("count", c_size_t))
+inserted = struct("inserted", ("refusal", refusal), ("count", c_size_t), ("not_simple", c_size_t))
 look = struct("look", ("refusal", refusal), ("found", c_bool))
 near_look = struct("near_look", ("refusal", refusal), ("how", c_uint8))
 
@@ -185,6 +185,16 @@ class Refused(Exception):
 def accepted(r, count=None):
     if r.number:
         raise Refused(r, count)
+
+
+Inserted = namedtuple("Inserted", "count not_simple")
+
+FORMS = ["none", "simple", "hyphenated", "braced", "urn", "xinput"]
+
+
+def form(text):
+    """How a UUID is spelled, or "none" where the text is no UUID."""
+    return FORMS[call("uuid_parse_str", *lent(text)).form]
 
 
 class Uuid(namedtuple("Uuid", "high low")):
@@ -408,10 +418,11 @@ class Store:
         accepted(call("store_clear", *self.buffers))
 
     def insert(self, lines):
-        """Files the lines of a list, and hands back how many were walked."""
+        """Files the lines of a list, and hands back how many were walked, and how many of them were filed with a UUID
+        that is not spelled in 32 digits."""
         done = call("store_insert", *self.buffers, *lent(lines))
         accepted(done.refusal, done.count)
-        return done.count
+        return Inserted(done.count, done.not_simple)
 
     def save(self, bound, buttons, axes, name, pad):
         """Builds a line, as `build` does, files it under the UUID, and hands back its map."""

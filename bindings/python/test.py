@@ -80,7 +80,7 @@ class Cases(unittest.TestCase):
 
     def test_store(self):
         store = Store()
-        self.assertEqual(store.insert(f"# x\n{ONE},One,a:b0,\r\nxinput,X\n"), 3)
+        self.assertEqual(store.insert(f"# x\n{ONE},One,a:b0,\r\nxinput,X\n"), (3, 0))
         self.assertTrue(store.found(ONE) and not store.found(Uuid(U)))
         self.assertEqual(store.get(ONE).decode(), f"{ONE},One,a:b0,")
         self.assertEqual((store.get(Uuid(U)), store.mapping(Uuid(U))), (None, None))
@@ -113,7 +113,7 @@ class Cases(unittest.TestCase):
         self.assertEqual(self.refused(19, store.insert, "").count, 0)
         self.assertEqual(bytes(store), before)
         store.clear()
-        self.assertEqual(store.insert(b""), 0)
+        self.assertEqual(store.insert(b""), (0, 0))
         self.refused(22, store.save, {}, [], [], "platform:Linux", ONE)
         self.refused(10, store.insert, b"\xff", place=0)
         stopped = self.refused(21, store.insert, f"{U}\n{ONE}\n{Uuid('2' * 32)}")

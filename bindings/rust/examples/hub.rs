@@ -46,9 +46,9 @@ fn main() -> Result<(), Box<dyn Error>> {
     // The largest store. Keep its two buffers between runs, e.g. in a file.
     let mut store = Store::new(INDEX_MAX, TEXT_MAX);
     match store.insert(std::fs::read(path)?) {
-        Ok(walked) => println!("{walked} lines"),
+        Ok(walked) => println!("{} lines", walked.count),
         Err(stopped) if stopped.error == Refusal::NoRoom => {
-            println!("{} lines\n{}; the lines before it are filed", stopped.count, stopped.error)
+            println!("{} lines\n{}; the lines before it are filed", stopped.walked.count, stopped.error)
         }
         Err(stopped) => return Err(stopped.into()),
     }

@@ -1,6 +1,6 @@
 //! Refusals, by document 01's numbers.
 use crate::ffi;
-use crate::Code;
+use crate::{Code, Inserted};
 use std::fmt;
 
 /// A refusal of document 01, number 1 to 23, or of document 02, number 27. A place is a byte's place in the line, name or
@@ -245,12 +245,12 @@ pub struct InsertError {
     /// What was refused: 19 or 10 with nothing changed, 20 or 21 at the line after those walked.
     pub error: Error,
     /// The lines walked before it.
-    pub count: usize,
+    pub walked: Inserted,
 }
 
 impl fmt::Display for InsertError {
     fn fmt(&self, f: &mut fmt::Formatter) -> fmt::Result {
-        f.pad(&format!("{}, after {} lines", self.error, self.count))
+        f.pad(&format!("{}, after {} lines", self.error, self.walked.count))
     }
 }
 

@@ -46,6 +46,7 @@ pub struct Uuid {
 pub struct UuidParse {
     pub valid: bool,
     pub id: Uuid,
+    pub form: u8,
 }
 
 #[repr(C)]
@@ -270,6 +271,7 @@ pub struct Built {
 pub struct Inserted {
     pub refusal: Refusal,
     pub count: usize,
+    pub not_simple: usize,
 }
 
 #[repr(C)]
@@ -328,6 +330,7 @@ extern "C" {
     pub fn raspteal_mapping_map_rev(map: Mapping, e: Element) -> Code;
     pub fn raspteal_parser_start(line: *const u8, line_len: usize) -> u8;
     pub fn raspteal_parser_step(line: *const u8, line_len: usize, pos: usize, state: u8) -> Step;
+    pub fn raspteal_first_form(line: *const u8, line_len: usize) -> u8;
     pub fn raspteal_first_token(line: *const u8, line_len: usize) -> Token;
     pub fn raspteal_count_tokens(line: *const u8, line_len: usize) -> Tokens;
     pub fn raspteal_parse_sdl_mapping(

@@ -46,9 +46,9 @@ pub use element::{Axis, AxisOrBtn, Button, Code};
 pub use error::{Error, InsertError, ParseUuidError};
 pub use mapping::{Entry, Iter, Lookup, Mapping};
 pub use pad::{Event, Events, Pad, Pads, Raw, Which};
-pub use parser::{count_tokens, first_token, AxisRange, Parser, Token};
-pub use store::{Match, Store};
-pub use uuid::Uuid;
+pub use parser::{count_tokens, first_form, first_token, AxisRange, Parser, Token};
+pub use store::{Inserted, Match, Store};
+pub use uuid::{Form, Uuid};
 
 /// The codes that a map may have.
 pub const CODES_MAX: usize = ffi::CODES_MAX;

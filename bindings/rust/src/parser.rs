@@ -1,7 +1,7 @@
 //! The walker over one mapping line.
 use crate::error::Error;
 use crate::ffi::{self, safe};
-use crate::{AxisOrBtn, Uuid};
+use crate::{AxisOrBtn, Form, Uuid};
 use std::iter::FusedIterator;
 
 /// The half of an axis that is meant.
@@ -124,6 +124,22 @@ impl<'a> Iterator for Parser<'a> {
 }
 
 impl FusedIterator for Parser<'_> {}
+
+/// How the UUID of a line's first token is spelled; `None` where that token is no UUID.
+///
+/// ```
+/// use raspteal::{first_form, Form};
+///
+/// assert_eq!(first_form("xinput,T"), Some(Form::Xinput));
+/// assert_eq!(first_form("{00000000-0000-0000-0000-000000000000},T"), Some(Form::Braced));
+/// assert_eq!(first_form("xinput"), None);
+/// ```
+pub fn first_form(line: impl AsRef<[u8]>) -> Option<Form> {
+    match safe::first_form(line.as_ref()) {
+        0 => None,
+        n => Some(Form::of_number(n)),
+    }
+}
 
 /// The first answer over a line: its UUID, a refusal, or `None` for an empty line.
 ///

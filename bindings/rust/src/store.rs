@@ -40,6 +40,15 @@ pub enum Match<L = Vec<u8>> {
     Near(L),
 }
 
+/// What an insert walked.
+#[derive(Clone, Copy, Debug, PartialEq, Eq, Hash)]
+pub struct Inserted {
+    /// The lines walked.
+    pub count: usize,
+    /// How many of them were filed with a UUID that is not spelled in 32 digits.
+    pub not_simple: usize,
+}
+
 impl Store {
     /// A fresh store that owns buffers of these lengths. Over 65535 bytes each of its calls is refused: 19, or 23 for
     /// a clear.
@@ -156,13 +165,13 @@ impl<B: AsRef<[u8]> + AsMut<[u8]>> Store<B> {
     }
 
     /// Files the lines of a text that are for Linux and start with a UUID, each in place of the one under its UUID,
-    /// and hands back the number of lines walked. Refusals: 19 and 10 with nothing changed; 20 and 21 stop at one
-    /// line, and those before it are filed.
-    pub fn insert(&mut self, lines: impl AsRef<[u8]>) -> Result<usize, InsertError> {
+    /// and hands back the number of lines walked, and of those filed in another form than 32 digits. Refusals: 19 and
+    /// 10 with nothing changed; 20 and 21 stop at one line, and those before it are filed.
+    pub fn insert(&mut self, lines: impl AsRef<[u8]>) -> Result<Inserted, InsertError> {
         let inserted = safe::store_insert(self.index.as_mut(), self.text.as_mut(), lines.as_ref());
-        let count = inserted.count;
-        Error::check(inserted.refusal).map_err(|error| InsertError { error, count })?;
-        Ok(count)
+        let walked = Inserted { count: inserted.count, not_simple: inserted.not_simple };
+        Error::check(inserted.refusal).map_err(|error| InsertError { error, walked })?;
+        Ok(walked)
     }
 
     /// Builds the line of what staff have bound, as [`MappingData::build`] does, and files it under the UUID. Looked

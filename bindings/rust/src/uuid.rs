@@ -4,6 +4,33 @@ use crate::ffi::{self, safe};
 use std::fmt;
 use std::str::FromStr;
 
+/// How a UUID is spelled.
+#[derive(Clone, Copy, Debug, PartialEq, Eq, Hash)]
+pub enum Form {
+    /// 32 digits.
+    Simple,
+    /// With hyphens, 36 characters.
+    Hyphenated,
+    /// That in braces.
+    Braced,
+    /// That after `urn:uuid:`.
+    Urn,
+    /// The word `xinput` in the first field of a line, which the walker takes for the UUID of zeros.
+    Xinput,
+}
+
+impl Form {
+    pub(crate) fn of_number(n: u8) -> Form {
+        match n {
+            1 => Form::Simple,
+            2 => Form::Hyphenated,
+            3 => Form::Braced,
+            4 => Form::Urn,
+            _ => Form::Xinput,
+        }
+    }
+}
+
 /// A UUID, under which a line is stored. It is read in four forms and written as 32 lower-case digits.
 ///
 /// ```
@@ -30,9 +57,22 @@ impl Uuid {
     /// The UUID that a text spells: 32 hexadecimal digits, the form with hyphens, that form in braces, or after
     /// `urn:uuid:`.
     pub fn parse_str(s: impl AsRef<[u8]>) -> Result<Uuid, ParseUuidError> {
+        Uuid::parse_spelled(s).map(|(id, _)| id)
+    }
+
+    /// The same, with the form that was read; never [`Form::Xinput`].
+    ///
+    /// ```
+    /// use raspteal::{Form, Uuid};
+    ///
+    /// let (id, form) = Uuid::parse_spelled("{F81D4FAE-7DEC-11D0-A765-00A0C91E6BF6}")?;
+    /// assert_eq!((id, form), ("f81d4fae7dec11d0a76500a0c91e6bf6".parse()?, Form::Braced));
+    /// # Ok::<(), raspteal::ParseUuidError>(())
+    /// ```
+    pub fn parse_spelled(s: impl AsRef<[u8]>) -> Result<(Uuid, Form), ParseUuidError> {
         let parsed = safe::uuid_parse_str(s.as_ref());
         if parsed.valid {
-            Ok(parsed.id.into())
+            Ok((parsed.id.into(), Form::of_number(parsed.form)))
         } else {
             Err(ParseUuidError)
         }

@@ -45,7 +45,7 @@ fn rows() -> Vec<Row> {
         row!(Refusal, "raspteal_refusal", built.refusal, number, has_place, place, has_code, code),
         row!(Written, "raspteal_written", safe::write_bytes(&mut [], 0, b""), fits, next),
         row!(Uuid, "raspteal_uuid", step.token.id, high, low),
-        row!(UuidParse, "raspteal_uuid_parse", safe::uuid_parse_str(b""), valid, id),
+        row!(UuidParse, "raspteal_uuid_parse", safe::uuid_parse_str(b""), valid, id, form),
         row!(IndexParse, "raspteal_index_parse", safe::parse_u16(b""), valid, number),
         row!(Element, "raspteal_element", step.token.pair.to, is_axis, number),
         row!(Mapped, "raspteal_mapped", safe::find_element(b""), found, element),
@@ -74,7 +74,7 @@ fn rows() -> Vec<Row> {
         row!(MappingData, "raspteal_data", changed.slots, buttons, axes),
         row!(Changed, "raspteal_changed", changed, former, slots),
         row!(Built, "raspteal_built", built, refusal, map, len),
-        row!(Inserted, "raspteal_inserted", inserted, refusal, count),
+        row!(Inserted, "raspteal_inserted", inserted, refusal, count, not_simple),
         row!(Look, "raspteal_look", look, refusal, found),
         row!(NearLook, "raspteal_near_look", near, refusal, how),
     ]

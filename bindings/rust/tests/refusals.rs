@@ -75,7 +75,7 @@ fn not_utf8_10() {
     expect(build(&south(5), &[Code(5)], &[], b"\xc3\xa9\xff"), 10, Some(2), None);
     let refused = Store::new(21, 100).insert(b"\xff").unwrap_err();
     expect(refused.error, 10, Some(0), None);
-    assert_eq!(refused.count, 0);
+    assert_eq!(refused.walked.count, 0);
 }
 
 #[test]
@@ -165,11 +165,11 @@ fn inserts_20_and_21() {
     let refused =
         store.insert(format!("# list\n00000000000000000000000000000001,T\n{long}\nnever reached")).unwrap_err();
     expect(refused.error, 20, None, None);
-    assert_eq!(refused.count, 2);
+    assert_eq!(refused.walked.count, 2);
     assert!(store.found(Uuid::from_u128(1)).unwrap() && !store.found(Uuid::NIL).unwrap());
     assert_eq!(refused.to_string(), "refused 20: a wanted line of more than 16384 bytes, after 2 lines");
     assert_eq!(std::error::Error::source(&refused).unwrap().to_string(), refused.error.to_string());
-    assert_eq!(store.insert(&long[..16384]), Ok(1));
+    assert_eq!(store.insert(&long[..16384]).map(|i| i.count), Ok(1));
 
     let mut store = Store::new(20, 100);
     expect(store.insert(format!("{U},T")).unwrap_err().error, 21, None, None);

@@ -1,5 +1,5 @@
 //! The store: a save is found again and reads back the same, owned and lent buffers, damage.
-use raspteal::{Axis, Button, Code, Error, Mapping, MappingData, Match, Store, Uuid, RECORD_LEN};
+use raspteal::{Axis, Button, Code, Error, Inserted, Mapping, MappingData, Match, Store, Uuid, RECORD_LEN};
 
 const BUTTONS: [Code; 3] = [Code(0x10130), Code(0x10131), Code(0x10133)];
 const AXES: [Code; 2] = [Code(0x30000), Code(0x30001)];
@@ -64,7 +64,7 @@ fn lent_and_owned() {
     assert!(index_after.iter().all(|&b| b == 0) && index[0] == 1);
 
     let mut arrays = Store::over([0; 50], [0; 50]);
-    assert_eq!(arrays.insert("00000000000000000000000000000007,T"), Ok(1));
+    assert_eq!(arrays.insert("00000000000000000000000000000007,T"), Ok(Inserted { count: 1, not_simple: 0 }));
     let mut out = [b'.'; 40];
     assert_eq!(arrays.get_into(id, &mut out), Some(34));
     assert_eq!(&out[30..], b"07,T......");
@@ -80,7 +80,7 @@ fn lines_wanted() {
                 00000000000000000000000000000002,ours,platform:Linux,\n\
                 00000000000000000000000000000003,theirs,platform:Windows,\n\
                 xinput,pad,\n\n";
-    assert_eq!(store.insert(list), Ok(6));
+    assert_eq!(store.insert(list), Ok(Inserted { count: 6, not_simple: 0 }));
     let held: Vec<bool> = (0..4).map(|n| store.found(Uuid::from_u128(n)).unwrap()).collect();
     assert_eq!(held, [false, true, true, false]);
     assert_eq!(store.get(Uuid::from_u128(1)).unwrap().unwrap(), b"00000000000000000000000000000001,no platform,");
@@ -150,4 +150,18 @@ fn near_lines() {
     let (mut index, text) = store.into_buffers();
     index[0] = 9;
     assert_eq!(Store::over(index, text).get_near(plain), Err(Error::Unsound));
+}
+
+/// Lines filed in another form than 32 digits are told, those that are replaced too; unwanted ones are not.
+#[test]
+fn forms_told() {
+    let h = "00000000-0000-0000-0000-000000000007";
+    let mut store = Store::new(RECORD_LEN, 200);
+    let list = format!("{h},A\n{{{h}}},B\nurn:uuid:{h},C\n{},D\nxinput,E\n{h},F,platform:Windows", Uuid::from_u128(7));
+    assert_eq!(store.insert(&list), Ok(Inserted { count: 6, not_simple: 3 }));
+    let refused = store.insert(format!("{h},A\n{}8,B", &h[..35])).unwrap_err();
+    assert_eq!((refused.error, refused.walked), (Error::NoRoom, Inserted { count: 1, not_simple: 1 }));
+    let refused = store.insert(format!("{h},A\n").into_bytes().into_iter().chain([0xff]).collect::<Vec<u8>>());
+    assert_eq!(refused.unwrap_err().walked, Inserted { count: 0, not_simple: 0 });
+    assert!(store.found(Uuid::from_u128(7)).unwrap());
 }

@@ -6,10 +6,14 @@ use Rattle.text.specs.Bytes.{pick}
 use Rattle.text.specs.declared.bytes.Written.{Written}
 use Rattle.text.specs.declared.bytes.Written.the-variants as Wr
 use Rattle.text.specs.declared.uuid.Uuid.{Uuid}
+use Rattle.text.specs.declared.uuid.Form.{Form}
+use Rattle.text.specs.declared.uuid.Form.the-variants as Fm
 use Rattle.text.specs.declared.uuid.UuidParse.{UuidParse}
 use Rattle.text.specs.declared.uuid.UuidParse.the-variants as Up
 use Rattle.text.specs.declared.decimal.IndexParse.{IndexParse}
 use Rattle.text.specs.declared.decimal.IndexParse.the-variants as Ip
+use Rattle.line.specs.declared.parser.FirstForm.{FirstForm}
+use Rattle.line.specs.declared.parser.FirstForm.the-variants as Ff
 use Rattle.line.specs.declared.ev.Button.{Button}
 use Rattle.line.specs.declared.ev.Axis.{Axis}
 use Rattle.line.specs.declared.ev.AxisOrBtn.{AxisOrBtn}
@@ -40,9 +44,21 @@ flatUuid u = record { high = u .high; low = u .low }
 abbrev pub uuidIn : FlatUuid → Uuid
 uuidIn u = record { high = u .high; low = u .low }
 
+-- the forms: 1 simple, 2 with hyphens, 3 in braces, 4 after `urn:uuid:`, 5 `xinput`; 0 where there is no UUID
+abbrev pub formNumber : Form → ℕ
+formNumber Fm.Simple = 1
+formNumber Fm.Hyphenated = 2
+formNumber Fm.Braced = 3
+formNumber Fm.Urn = 4
+formNumber Fm.Xinput = 5
+
+abbrev pub firstFormNumber : FirstForm → ℕ
+firstFormNumber (Ff.Is f) = formNumber f
+firstFormNumber Ff.NoUuid = 0
+
 abbrev pub flatUuidParse : UuidParse → FlatUuidParse
-flatUuidParse (Up.Parsed u) = record { valid = true; id = flatUuid u }
-flatUuidParse Up.Invalid = record { valid = false; id = record { high = 0; low = 0 } }
+flatUuidParse (Up.Parsed g) = record { valid = true; id = flatUuid (g .id); form = formNumber (g .form) }
+flatUuidParse Up.Invalid = record { valid = false; id = record { high = 0; low = 0 }; form = 0 }
 
 abbrev pub flatIndexParse : IndexParse → FlatIndexParse
 flatIndexParse (Ip.Parsed n) = record { valid = true; number = n }

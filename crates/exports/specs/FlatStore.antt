@@ -19,7 +19,8 @@ abbrev pub flatStoreAnswer : Answer → FlatRefusal
 flatStoreAnswer a = flatOutcome (storeOutcome a)
 
 abbrev pub flatInserted : Inserted → FlatInserted
-flatInserted i = record { refusal = flatStoreAnswer (i .answer); count = i .count }
+flatInserted i =
+    record { refusal = flatStoreAnswer (i .answer); count = i .count; «not_simple» = i .«not_simple» }
 
 -- found, none, or the refusal
 abbrev pub flatLooked : LookOutcome → FlatLook

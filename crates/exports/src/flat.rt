@@ -3,9 +3,10 @@ use line::ev::Axis;
 use line::ev::AxisOrBtn;
 use line::ev::Button;
 use text::bytes::Written;
+use text::uuid::Form;
 use text::uuid::Uuid;
 ghost use mathlib.Core.Path.{_≡_};
-ghost use Rattle.exports.specs.Flat.{flatWritten, flatUuid, uuidIn, flatElement, elementOf, flatOutcome};
+ghost use Rattle.exports.specs.Flat.{flatWritten, flatUuid, formNumber, uuidIn, flatElement, elementOf, flatOutcome};
 ghost use Rattle.line.specs.Refusals.{Passes, Refuses, refusal, refusalAt};
 
 // Where a writer stopped; 0 where the text did not fit.
@@ -56,6 +57,18 @@ pub fn flat_uuid(id: Uuid) -> FlatUuid
     FlatUuid {
         high: id.high,
         low: id.low,
+    }
+}
+
+pub fn form_number(f: Form) -> u8
+    ensures { λ r. ⌜ r ≡ formNumber f ⌝ }
+{
+    match f {
+        Form::Simple => 1,
+        Form::Hyphenated => 2,
+        Form::Braced => 3,
+        Form::Urn => 4,
+        Form::Xinput => 5,
     }
 }
 

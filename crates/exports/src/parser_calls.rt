@@ -3,6 +3,7 @@ use crate::flat::FlatRefusal;
 use crate::flat::flat_no_refusal;
 use crate::flat::flat_refusal;
 use crate::flat::flat_refusal_at;
+use crate::flat::form_number;
 use crate::flat_mapping::FlatMapping;
 use crate::flat_mapping::flat_made;
 use crate::flat_token::FlatToken;
@@ -10,16 +11,17 @@ use crate::flat_token::flat_answer;
 use crate::flat_token::flat_error;
 use crate::flat_token::state_number;
 use crate::flat_token::state_of;
+use line::parser::FirstForm;
 use line::parser::tokens::LastRefusal;
 use line::reading::ParseSdlMappingError;
 use line::reading::SdlAnswer;
 ghost use mathlib.Core.Path.{_≡_};
-ghost use Rattle.line.specs.Walker.{startOf, stepOf};
+ghost use Rattle.line.specs.Walker.{startOf, stepOf, firstForm};
 ghost use Rattle.line.specs.Parser.{parserOf, stepFrom, tokensOf};
 ghost use Rattle.line.specs.Reading.{readingOf};
 ghost use Rattle.line.specs.Refusals.{lastOutcome, readingOutcome, readingRefusal};
 ghost use Rattle.line.specs.Refusals as Refusals;
-ghost use Rattle.exports.specs.Flat.{flatOutcome};
+ghost use Rattle.exports.specs.Flat.{flatOutcome, firstFormNumber};
 ghost use Rattle.exports.specs.FlatTokens.{stateNumber, stateIn, flatAnswer, flatStep, flatTokens};
 ghost use Rattle.exports.specs.FlatMaps.{flatReading};
 
@@ -50,6 +52,22 @@ pub extern "C" fn raspteal_parser_start(line: &[u8]) -> u8
     ensures { λ r. ⌜ r ≡ stateNumber (startOf (now (line .entry))) ⌝ }
 {
     state_number(line::parser::start_state(line))
+}
+
+fn first_form_number(f: FirstForm) -> u8
+    ensures { λ r. ⌜ r ≡ firstFormNumber f ⌝ }
+{
+    match f {
+        FirstForm::Is(form) => form_number(form),
+        FirstForm::NoUuid => 0,
+    }
+}
+
+#[no_mangle]
+pub extern "C" fn raspteal_first_form(line: &[u8]) -> u8
+    ensures { λ r. ⌜ r ≡ firstFormNumber (firstForm (now (line .entry))) ⌝ }
+{
+    first_form_number(line::parser::first_form(line))
 }
 
 #[no_mangle]

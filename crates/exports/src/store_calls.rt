@@ -26,11 +26,12 @@ ghost use Rattle.exports.specs.Flat.{uuidIn, flatWritten};
 ghost use Rattle.exports.specs.FlatSlots.{dataIn};
 ghost use Rattle.exports.specs.FlatStore.{flatStoreAnswer, flatInserted, flatLook, flatSaveAnswer, flatSaved};
 
-// An insert's refusal, and the lines walked.
+// An insert's refusal, the lines walked, and how many of them were filed in another form than 32 digits.
 #[repr(C)]
 pub struct FlatInserted {
     pub refusal: FlatRefusal,
     pub count: usize,
+    pub not_simple: usize,
 }
 
 // A refused save has the empty map.
@@ -67,6 +68,7 @@ fn flat_inserted(i: Inserted) -> FlatInserted
     FlatInserted {
         refusal: flat_store_answer(answer),
         count: i.count,
+        not_simple: i.not_simple,
     }
 }
 

@@ -3,6 +3,7 @@ use crate::flat::FlatUuid;
 use crate::flat::FlatWritten;
 use crate::flat::flat_uuid;
 use crate::flat::flat_written;
+use crate::flat::form_number;
 use text::decimal::IndexParse;
 use text::uuid::Uuid;
 use text::uuid::UuidParse;
@@ -18,6 +19,7 @@ ghost use Rattle.exports.specs.Flat.{flatWritten, flatUuid, flatUuidPars
 pub struct FlatUuidParse {
     pub valid: bool,
     pub id: FlatUuid,
+    pub form: u8,
 }
 
 #[repr(C)]
@@ -80,13 +82,19 @@ fn flat_uuid_parse(p: UuidParse) -> FlatUuidParse
     ensures { λ r. ⌜ r ≡ flatUuidParse p ⌝ }
 {
     match p {
-        UuidParse::Parsed(id) => FlatUuidParse {
-            valid: true,
-            id: flat_uuid(id),
-        },
+        UuidParse::Parsed(spelled) => {
+            let id = spelled.id;
+            let form = spelled.form;
+            FlatUuidParse {
+                valid: true,
+                id: flat_uuid(id),
+                form: form_number(form),
+            }
+        }
         UuidParse::Invalid => FlatUuidParse {
             valid: false,
             id: FlatUuid { high: 0, low: 0 },
+            form: 0,
         },
     }
 }

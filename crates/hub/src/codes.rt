@@ -61,7 +61,8 @@ pub fn parse_code(text: &[u8]) -> CodeParse {
     let mut digits = [b'0'; 32];
     write_bytes(&mut digits, 32 - s.len(), s);
     let parsed = Uuid::parse_str(&digits);
-    if let UuidParse::Parsed(id) = parsed {
+    if let UuidParse::Parsed(spelled) = parsed {
+        let id = spelled.id;
         if id.low < 0x100000000 {
             return CodeParse::Parsed(id.low as u32);
         }

@@ -81,7 +81,7 @@ fn find_held(store: &[u8], id: Uuid) -> u8 {
 pub fn find_line(store: &[u8], key: &[u8]) -> u8 {
     let parsed = Uuid::parse_str(key);
     match parsed {
-        UuidParse::Parsed(id) => find_held(store, id),
+        UuidParse::Parsed(spelled) => find_held(store, spelled.id),
         UuidParse::Invalid => no_uuid(key),
     }
 }

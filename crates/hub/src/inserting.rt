@@ -17,6 +17,7 @@ use crate::files::half;
 use crate::files::list_space;
 use crate::files::load;
 use crate::files::read_list;
+use crate::forms::say_other_forms;
 use crate::holding::Room;
 use crate::holding::room_in;
 use crate::say::DONE;
@@ -89,7 +90,7 @@ fn say_census(census: Census, list: &[u8], count: usize, fresh: usize) {
 fn bytes_freed(index: &[u8], text: &[u8], line: &[u8]) -> usize {
     let id = Uuid::parse_str(before(line, b','));
     match id {
-        UuidParse::Parsed(uuid) => get(index, text, uuid).len(),
+        UuidParse::Parsed(spelled) => get(index, text, spelled.id).len(),
         UuidParse::Invalid => 0,
     }
 }
@@ -143,9 +144,11 @@ fn stopped(number: usize, list: &[u8], count: usize, index: &[u8], text: &[u8]) 
     REFUSED
 }
 
-fn say_filed(list: &[u8], count: usize, held: usize, index: &[u8], text: &[u8]) {
+fn say_filed(inserted: Inserted, list: &[u8], held: usize, index: &[u8], text: &[u8]) {
+    let count = inserted.count;
     let room = room_in(index, text);
     say_census(census_of(list, count), list, count, less(room.held, held));
+    say_other_forms(inserted.not_simple);
 }
 
 fn refused_text(list: &[u8], place: usize) -> u8 {
@@ -162,17 +165,17 @@ pub fn say_inserted(inserted: Inserted, list: &[u8], held: usize, index: &[u8], 
     let count = inserted.count;
     match answer {
         Answer::Done => {
-            say_filed(list, count, held, index, text);
+            say_filed(inserted, list, held, index, text);
             DONE
         }
         Answer::NotUtf8(place) => refused_text(list, place),
         Answer::Unsound => refused(19),
         Answer::LineTooLong => {
-            say_filed(list, count, held, index, text);
+            say_filed(inserted, list, held, index, text);
             stopped(20, list, count, index, text)
         }
         Answer::NoRoom => {
-            say_filed(list, count, held, index, text);
+            say_filed(inserted, list, held, index, text);
             stopped(21, list, count, index, text)
         }
         Answer::BufferTooLarge => refused(23),

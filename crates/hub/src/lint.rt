@@ -12,6 +12,9 @@ use crate::fields::line_at;
 use crate::files::List;
 use crate::files::list_space;
 use crate::files::read_list;
+use crate::forms::has_other_form;
+use crate::forms::say_form;
+use crate::forms::say_other_forms;
 use crate::say::DONE;
 use crate::say::OUT;
 use crate::say::REFUSED;
@@ -40,6 +43,7 @@ struct Tally {
     first_elsewhere: usize,
     no_uuid: usize,
     first_no_uuid: usize,
+    other_forms: usize,
 }
 
 fn with_refused(tally: Tally) -> Tally {
@@ -111,6 +115,21 @@ fn with_readable(tally: Tally, line: &[u8]) -> Tally {
     next
 }
 
+// A line that an insert files, readable or not, whose UUID is in another form than 32 digits.
+fn with_form(tally: Tally, line: &[u8]) -> Tally {
+    let mut next = tally;
+    if !has_other_form(line) {
+        return next;
+    }
+    let kind = kind_of(line);
+    if let LineKind::Wanted = kind {
+        say_line_number(tally.lines);
+        say_form(line);
+        next.other_forms = wrapping_add_usize(tally.other_forms, 1);
+    }
+    next
+}
+
 fn with_read(tally: Tally, line: &[u8]) -> Tally {
     let none = [0u32; 1];
     let codes = first_codes(&none, 0);
@@ -132,6 +151,7 @@ fn with_line(tally: Tally, line: &[u8]) -> Tally {
         next.comments = wrapping_add_usize(tally.comments, 1);
         return next;
     }
+    next = with_form(next, line);
     let token = first_token(line);
     match token {
         Answer::Found(_) => with_read(next, line),
@@ -173,6 +193,7 @@ fn say_tally(tally: Tally) -> u8 {
         b" whose first field is no UUID but xinput",
         tally.first_no_uuid,
     );
+    say_other_forms(tally.other_forms);
     if tally.refused == 0 {
         return DONE;
     }
@@ -188,6 +209,7 @@ fn lint_text(list: &[u8]) -> u8 {
         first_elsewhere: 0,
         no_uuid: 0,
         first_no_uuid: 0,
+        other_forms: 0,
     };
     let mut at: usize = 0;
     while at < list.len() {

@@ -9,6 +9,7 @@ mod excerpt;
 mod fields;
 mod files;
 mod filing;
+mod forms;
 mod help;
 mod holding;
 mod input_events;

@@ -10,7 +10,8 @@ fn put_insert(fd: i32) {
   filed when its first field is a UUID, and its 'platform:', if any, says Linux. It takes the
   place of a line that is held under the same UUID. Says how many lines were filed, how many of
   them in place of another, how many can't be read (hub lint says why), and which were passed
-  over: empty lines, comments, other platforms, first fields that are no UUID. It stops at a
+  over: empty lines, comments, other platforms, first fields that are no UUID; and how many were
+  filed whose UUID is not spelled in 32 digits, the one form that consoles read. It stops at a
   line that is too long (20) or has no room (21), says at which, and keeps the lines before it.
   A list that is not UTF-8 (10) files nothing. 'hub undo STORE' takes an insert back.
 ",
@@ -186,8 +187,9 @@ pub fn put_others(fd: i32, command: &[u8]) -> bool {
   Reads every line of a list of at most 1048576 bytes, and shows each refused one, up to 1000,
   with its number, its meaning and a mark under the place, which counts bytes from 0. UUID, name
   and the refused pair are shown; two dots stand where the line is cut, one dot for each byte
-  that is no printable ASCII. Then it says how many lines an insert would pass over. Lines
-  that start with # are comments, and not read.
+  that is no printable ASCII. Names the lines that an insert files whose UUID is not spelled in
+  32 digits, the one form that consoles read. Then it says how many lines an insert would pass
+  over. Lines that start with # are comments, and not read.
 ",
         );
         return true;

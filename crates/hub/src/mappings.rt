@@ -121,7 +121,7 @@ pub fn show_mapping(store: &[u8], key: &[u8], from: usize) -> u8 {
     }
     let parsed = Uuid::parse_str(key);
     match parsed {
-        UuidParse::Parsed(id) => show_request(store, id, asked),
+        UuidParse::Parsed(spelled) => show_request(store, spelled.id, asked),
         UuidParse::Invalid => no_uuid(key),
     }
 }

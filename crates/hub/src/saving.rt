@@ -216,10 +216,10 @@ pub fn save_mapping(held: Held, store: &[u8], key: &[u8], at: usize) -> u8 {
     let n = os::arg(at, &mut name);
     let parsed = Uuid::parse_str(key);
     match parsed {
-        UuidParse::Parsed(id) => save_request(
+        UuidParse::Parsed(spelled) => save_request(
             held,
             store,
-            id,
+            spelled.id,
             &name[..n],
             asked_from(std::num::wrapping_add_usize(at, 1)),
         ),

@@ -203,7 +203,7 @@ fn test_held(store: &[u8], id: Uuid, asked: Request) -> u8 {
 fn test_request(store: &[u8], key: &[u8], asked: Request) -> u8 {
     let parsed = Uuid::parse_str(key);
     match parsed {
-        UuidParse::Parsed(id) => test_held(store, id, asked),
+        UuidParse::Parsed(spelled) => test_held(store, spelled.id, asked),
         UuidParse::Invalid => no_uuid(key),
     }
 }

@@ -69,9 +69,9 @@ module _ (s : RefT (List ℕ)) (h : 0 < length (now s)) where
   broken (Up.Parsed u) e m k n p q = by (eqb e m) q
     where
       by : (t : Bool) → numberOf (answerOutcome (pick t (stepped (refuse Ek.UnexpectedEnd 0) 0 St.Invalid)
-          (stepped (An.Found (Tk.Uuid u)) (e + 1) St.Name) .answer)) ≡ k
+          (stepped (An.Found (Tk.Uuid (u .id))) (e + 1) St.Name) .answer)) ≡ k
           → sayingOf n (standing (pick t (stepped (refuse Ek.UnexpectedEnd 0) 0 St.Invalid)
-          (stepped (An.Found (Tk.Uuid u)) (e + 1) St.Name))) ≡ Refuses (refusalAt 9 0)
+          (stepped (An.Found (Tk.Uuid (u .id))) (e + 1) St.Name))) ≡ Refuses (refusalAt 9 0)
       by true q = again-9 n
       by false q = absurd (omega (arith, q))
 

@@ -15,6 +15,7 @@ pub mod OfNumbersLaws
 pub mod CountLaws
 pub mod FieldLaws
 pub mod WalkLaws
+pub mod FormLaws
 pub mod SliceLaws
 pub mod ParserLaws
 pub mod TokenLaws

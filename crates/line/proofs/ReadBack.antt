@@ -12,6 +12,8 @@ use Rattle.text.specs.Bytes.{byte, ascii, firstOf}
 use Rattle.text.specs.Utf8.{isUtf8}
 use Rattle.text.specs.Uuid.{uuidText, Small}
 use Rattle.text.specs.declared.uuid.Uuid.{Uuid}
+use Rattle.text.specs.declared.uuid.Spelled.{Spelled}
+use Rattle.text.specs.declared.uuid.Form.the-variants as Fm
 use Rattle.text.specs.declared.uuid.UuidParse.{UuidParse}
 use Rattle.text.specs.declared.uuid.UuidParse.the-variants as Up
 use Rattle.text.proofs.ListLaws.{lt-or-le}
@@ -31,7 +33,7 @@ use Rattle.line.proofs.FoldLaws.{pairs-fit}
 use Rattle.line.proofs.JoinLaws.{Free, AllFree, joined, lineOf, later-fields, first-after, take-before}
 
 -- a written UUID is read as itself
-pub guid-back : (u : Uuid) → Small u → guidOf (uuidText u) ≡ Up.Parsed u
+pub guid-back : (u : Uuid) → Small u → guidOf (uuidText u) ≡ Up.Parsed (record { id = u; form = Fm.Simple })
 unfolding guidOf
 guid-back u small =
     let other = same-lengths (uuidText u) (ascii "xinput") (λ e. omega (arith, uuidText-length u)) in
@@ -74,7 +76,7 @@ module _ (buttons axes : List ℕ) where
 -- ---- a line whose pairs go and whose entries fit
 module _ (buttons axes : List ℕ) (u n : List ℕ) (fs : List (List ℕ)) (free-u : Free (byte ",") u)
     (free : AllFree (n ∷ fs)) where
-  pub reads-back : (id : Uuid) → guidOf u ≡ Up.Parsed id → isUtf8 (lineOf u n fs) ≡ true
+  pub reads-back : (id : Spelled) → guidOf u ≡ Up.Parsed id → isUtf8 (lineOf u n fs) ≡ true
       → length buttons ≤ LIST_MAX → length axes ≤ LIST_MAX
       → AllGo fs buttons axes → length (putsInto (entriesOf fs buttons axes) []) ≤ CODES_MAX
       → readingOf (lineOf u n fs) buttons axes

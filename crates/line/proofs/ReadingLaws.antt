@@ -11,7 +11,7 @@ use borrow.Author.Tests.{lt-ltb, eq-eqb, ne-eqb, eqb-true, eqb-false}
 use native.Mathlib.Omega.{arith}
 use Rattle.text.specs.Bytes.{pick, byte, firstOf}
 use Rattle.text.specs.Utf8.{validRun}
-use Rattle.text.specs.declared.uuid.Uuid.{Uuid}
+use Rattle.text.specs.declared.uuid.Spelled.{Spelled}
 use Rattle.text.specs.declared.uuid.UuidParse.{UuidParse}
 use Rattle.text.specs.declared.uuid.UuidParse.the-variants as Up
 use Rattle.line.specs.declared.mapping.Mapping.{Mapping}
@@ -83,11 +83,11 @@ same-end s p k h = by (eqb k (length (drop p s))) refl
 
 module _ (s : List ℕ) (p k : ℕ) (m : Mapping) (buttons axes : List ℕ) where
   -- a UUID, and whether the line ends after it
-  uuid-cut : (u : Uuid) (t : Bool)
+  uuid-cut : (u : Spelled) (t : Bool)
       → pick t (parseError Ek.UnexpectedEnd 0) (namedFrom (p + k + 1) (fieldsOf (drop (k + 1) (drop p s)))
       (withName m (p + k + 1) 0) buttons axes)
       ≡ onward s p m (pick t (stepped (refuse Ek.UnexpectedEnd 0) p St.Invalid)
-      (stepped (Found (Tk.Uuid u)) (p + k + 1) St.Name)) buttons axes
+      (stepped (Found (Tk.Uuid (u .id))) (p + k + 1) St.Name)) buttons axes
   unfolding taken restOf putsOf
   uuid-cut u true = refl
   uuid-cut u false = let e : p + (k + 1) ≡ p + k + 1 = omega arith in rw (drop-drop (k + 1) p s, e)
@@ -123,11 +123,11 @@ refused-not : {A : Type 0} (e : ParseSdlMappingError) → Refused e ≡ Accepted
 refused-not e h = let z : _≡_ {A = ℕ} 0 1 = cc in absurd (omega arith)
 
 module _ (p e n : ℕ) (m : Mapping) (buttons axes : List ℕ) (h : p ≤ e) where
-  uuid-ends : (u : Uuid) (t : Bool)
-      → turn m (pick t (stepped (refuse Ek.UnexpectedEnd 0) p St.Invalid) (stepped (Found (Tk.Uuid u)) (e + 1) St.Name))
+  uuid-ends : (u : Spelled) (t : Bool)
+      → turn m (pick t (stepped (refuse Ek.UnexpectedEnd 0) p St.Invalid) (stepped (Found (Tk.Uuid (u .id))) (e + 1) St.Name))
       p buttons axes .answer ≡ Accepted
       → p < (pick t (stepped (refuse Ek.UnexpectedEnd 0) p St.Invalid)
-      (stepped (Found (Tk.Uuid u)) (e + 1) St.Name)) .pos
+      (stepped (Found (Tk.Uuid (u .id))) (e + 1) St.Name)) .pos
   unfolding taken
   uuid-ends u true a = refused-not _ a
   uuid-ends u false a = omega arith

@@ -7,7 +7,7 @@ use native.Mathlib.Omega.{arith}
 use borrow.Author.Tests.{lt-ltb, le-ltb, ne-eqb}
 use lib.ListN.{length, drop, drop-of-length-le}
 use Rattle.text.specs.Bytes.{byte, firstOf}
-use Rattle.text.specs.declared.uuid.Uuid.{Uuid}
+use Rattle.text.specs.declared.uuid.Spelled.{Spelled}
 use Rattle.text.specs.declared.uuid.UuidParse.the-variants as Up
 use Rattle.text.proofs.ListLaws.{lt-or-le}
 use Rattle.line.specs.declared.parser.State.the-variants as St
@@ -61,8 +61,8 @@ walks-named zero s p h = name-past s p 0 (omega arith)
 walks-named (suc n) s p h = ⊎-elim (λ k. name-inside s p n k h) (λ k. name-past s p (suc n) k) (lt-or-le p (length s))
 
 -- ---- the whole line, where its first field is a UUID and a comma follows
-pub walks-line : (s : List ℕ) (u : Uuid) → guidOf (firstField s) ≡ Up.Parsed u → firstOf (byte ",") s < length s
-    → walked (suc (length s)) s 0 St.Uuid ≡ Found (Tk.Uuid u) ∷ namedAt (firstOf (byte ",") s + 1) (laterFields s)
+pub walks-line : (s : List ℕ) (u : Spelled) → guidOf (firstField s) ≡ Up.Parsed u → firstOf (byte ",") s < length s
+    → walked (suc (length s)) s 0 St.Uuid ≡ Found (Tk.Uuid (u .id)) ∷ namedAt (firstOf (byte ",") s + 1) (laterFields s)
 unfolding walked stepOf fieldStep
 walks-line s u g h =
     let k = firstOf (byte ",") s in

@@ -14,12 +14,14 @@ use text::bytes::find_byte;
 use text::bytes::same_bytes;
 use text::utf8::is_utf8;
 use text::utf8::valid_up_to;
+use text::uuid::Form;
+use text::uuid::Spelled;
 use text::uuid::Uuid;
 use text::uuid::UuidParse;
 ghost use mathlib.Core.Path.{_≡_};
 ghost use Prim.Native.Nat.{_≤_, _<_, _^_};
 ghost use lib.ListN.{length};
-ghost use Rattle.line.specs.Walker.{guidOf, uuidStep, fieldStep, startOf, stepOf};
+ghost use Rattle.line.specs.Walker.{guidOf, uuidStep, fieldStep, startOf, stepOf, firstForm};
 ghost use Rattle.line.specs.Walker as specs;
 ghost use Rattle.line.specs.Pairs.{refuse};
 ghost use Rattle.line.specs.Parser.{parserOf, stepFrom, moved};
@@ -57,7 +59,7 @@ impl Ranges {
     };
 }
 
-// A text is its start and length in the line.
+// A text is its start and length in the line. How the UUID is spelled, `first_form` tells.
 pub enum Token {
     Uuid(Uuid),
     Platform {
@@ -84,6 +86,12 @@ pub enum Token {
         to: AxisOrBtn,
         ranges: Ranges,
     },
+}
+
+// How the UUID of a line's first token is spelled, if that token is one.
+pub enum FirstForm {
+    Is(Form),
+    NoUuid,
 }
 
 pub enum ErrorKind {
@@ -155,6 +163,27 @@ pub fn first_token(line: &[u8]) -> Answer
 {
     let mut p = Parser::new(line);
     p.next_token()
+}
+
+// How the UUID of a line's first token is spelled: `xinput` is a form of its own.
+pub fn first_form(line: &[u8]) -> FirstForm
+    ensures { λ r. ⌜ r ≡ firstForm (now (line .entry)) ⌝ }
+{
+    if !is_utf8(line) {
+        return FirstForm::NoUuid;
+    }
+    let end = find_byte(line, b',');
+    if end == line.len() {
+        return FirstForm::NoUuid;
+    }
+    let parsed = read_guid(&line[0..end]);
+    match parsed {
+        UuidParse::Parsed(spelled) => {
+            let form = spelled.form;
+            FirstForm::Is(form)
+        }
+        UuidParse::Invalid => FirstForm::NoUuid,
+    }
 }
 
 // The state of a walker that is made over a line.
@@ -246,7 +275,10 @@ fn read_guid(s: &[u8]) -> UuidParse
     ensures { λ r. ⌜ r ≡ guidOf (now (s .entry)) ⌝ }
 {
     if same_bytes(s, b"xinput") {
-        return UuidParse::Parsed(Uuid::NIL);
+        return UuidParse::Parsed(Spelled {
+            id: Uuid::NIL,
+            form: Form::Xinput,
+        });
     }
     Uuid::parse_str(s)
 }
@@ -262,7 +294,8 @@ fn uuid_step(id: UuidParse, p: usize, e: usize, n: usize) -> Stepped
             if e == n {
                 return take_step(refused(ErrorKind::UnexpectedEnd, 0), p, State::Invalid);
             }
-            take_step(Answer::Found(Token::Uuid(u)), e + 1, State::Name)
+            let uuid = u.id;
+            take_step(Answer::Found(Token::Uuid(uuid)), e + 1, State::Name)
         }
     }
 }

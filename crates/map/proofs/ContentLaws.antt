@@ -16,6 +16,7 @@ use Rattle.text.specs.Uuid.{isFrom, uuidText, uuidOf, Small}
 use Rattle.text.specs.Inner.{every, isAscii, either, isLowerHex}
 use Rattle.text.specs.declared.uuid.Uuid.{Uuid}
 use Rattle.text.specs.declared.uuid.UuidParse.the-variants.{Parsed}
+use Rattle.text.specs.declared.uuid.Form.the-variants as F
 use Rattle.text.proofs.ListLaws.{lt-or-le, both-parts, off}
 use Rattle.text.proofs.BytesLaws.{every-append, every-also}
 use Rattle.text.proofs.AsciiLaws.{Valid, none-valid, valid-join, valid-ascii, valid-is, is-valid}
@@ -174,7 +175,8 @@ module _ (d : MappingData) (buttons axes name : List ℕ) (uuid : Uuid) where
       (name ∷ (pairTexts (byte "b") buttons (filledButtons d) ++ pairTexts (byte "a") axes (filledAxes d))))
       (count-none isPlainByte (byte ",") refl (uuidText uuid) (uuid-plain uuid))
 
-  pub built-uuid : Small uuid → uuidOf (firstField (builtLine d buttons axes name uuid)) ≡ Parsed uuid
+  pub built-uuid : Small uuid → uuidOf (firstField (builtLine d buttons axes name uuid))
+      ≡ Parsed (record { id = uuid; form = F.Simple })
   built-uuid small = rw built-first (uuid-back uuid small)
 
   module _ (h : checksOf d buttons axes name ≡ Accepted) where

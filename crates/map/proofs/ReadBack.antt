@@ -11,6 +11,7 @@ use lib.ListN.{length, getD, length-append}
 use Rattle.text.specs.Bytes.{pick, byte, firstOf}
 use Rattle.text.specs.Uuid.{uuidText, Small}
 use Rattle.text.specs.declared.uuid.Uuid.{Uuid}
+use Rattle.text.specs.declared.uuid.Form.the-variants as F
 use Rattle.text.proofs.UuidLaws.{uuidText-length}
 use Rattle.line.specs.declared.mapping.Entry.{Entry}
 use Rattle.line.specs.Elements.{codeOf}
@@ -161,7 +162,7 @@ module _ (d : MappingData) (buttons axes name : List ℕ) (uuid : Uuid) where
       let p = passed d buttons axes name _ refl h in
       rw line-joined
       (line-laws.reads-back buttons axes (uuidText uuid) name (pairsOf d buttons axes)
-      (count-none isPlainByte (byte ",") refl (uuidText uuid) (uuid-plain uuid)) (all-free p) uuid
+      (count-none isPlainByte (byte ",") refl (uuidText uuid) (uuid-plain uuid)) (all-free p) (record { id = uuid; form = F.Simple })
       (line-laws.guid-back uuid small) (rw line-joined at (built-utf8 d buttons axes name uuid h)) (p .buttons-fit)
       (p .axes-fit) (pairs-read p .goes) (pairs-few p)
       ∙ ap (λ (v : MapView). acceptedOf (toMap v)) (view-read p))

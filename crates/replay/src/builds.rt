@@ -82,7 +82,7 @@ pub fn slots_of(s: &[u8]) -> MappingData {
 pub fn uuid_of(s: &[u8]) -> Uuid {
     let parsed = Uuid::parse_str(s);
     match parsed {
-        UuidParse::Parsed(id) => id,
+        UuidParse::Parsed(spelled) => spelled.id,
         UuidParse::Invalid => Uuid::NIL,
     }
 }

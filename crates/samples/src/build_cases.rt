@@ -63,7 +63,7 @@ fn name_of(s: &[u8]) -> Text {
 fn uuid_of(s: &[u8]) -> Uuid {
     let parsed = Uuid::parse_str(s);
     match parsed {
-        UuidParse::Parsed(id) => id,
+        UuidParse::Parsed(spelled) => spelled.id,
         UuidParse::Invalid => Uuid::NIL,
     }
 }

@@ -4,6 +4,7 @@ mod build_cases;
 mod cases;
 mod codes;
 mod element_cases;
+mod form_cases;
 mod line_cases;
 mod many_cases;
 mod regroup_cases;
@@ -54,6 +55,12 @@ fn run_text_case(kind: &[u8], args: &[u8]) -> bool {
     }
     if same_bytes(kind, b"uuid") {
         return text_cases::uuid_case(args);
+    }
+    if same_bytes(kind, b"form") {
+        return form_cases::form_case(args);
+    }
+    if same_bytes(kind, b"first-form") {
+        return form_cases::first_form_case(args);
     }
     if same_bytes(kind, b"index") {
         return text_cases::index_case(args);

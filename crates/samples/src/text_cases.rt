@@ -25,7 +25,7 @@ pub fn utf8_case(args: &[u8]) -> bool {
 pub fn uuid_case(args: &[u8]) -> bool {
     let parsed = Uuid::parse_str(rest(args));
     match parsed {
-        UuidParse::Parsed(id) => same_digits(id, word(args)),
+        UuidParse::Parsed(spelled) => same_digits(spelled.id, word(args)),
         UuidParse::Invalid => same_bytes(word(args), b"no"),
     }
 }
@@ -72,9 +72,10 @@ pub fn put_uuid_case(args: &[u8]) -> bool {
     let at = number(word(args));
     let more = rest(args);
     let parsed = Uuid::parse_str(word(more));
-    let UuidParse::Parsed(id) = parsed else {
+    let UuidParse::Parsed(spelled) = parsed else {
         return false;
     };
+    let id = spelled.id;
     let mut out = [b'.'; 40];
     let end = id.write_simple(&mut out, at);
     if !right_end(end, at, 32) {

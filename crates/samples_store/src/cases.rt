@@ -39,7 +39,7 @@ fn answer_place(answer: Answer) -> usize {
 }
 
 // Whether it is the expected one: `19`, or `10@3` with the place.
-fn is(answer: Answer, expected: &[u8]) -> bool {
+pub fn insert_answer(answer: Answer, expected: &[u8]) -> bool {
     if answer_number(answer) != number(before(expected, b'@')) {
         return false;
     }
@@ -48,7 +48,7 @@ fn is(answer: Answer, expected: &[u8]) -> bool {
 
 // `clear ANSWER`
 pub fn clear_case(index: &mut [u8], text: &mut [u8], args: &[u8]) -> bool {
-    is(clear(index, text), args)
+    insert_answer(clear(index, text), args)
 }
 
 // `insert ANSWER COUNT TEXT`
@@ -61,7 +61,7 @@ pub fn insert_case(index: &mut [u8], text: &mut [u8], args: &[u8]) -> bool {
     if inserted.count != number(word(rest(args))) {
         return false;
     }
-    is(answer, word(args))
+    insert_answer(answer, word(args))
 }
 
 fn look_number(look: Look) -> usize {

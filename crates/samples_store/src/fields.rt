@@ -106,7 +106,7 @@ pub fn number(s: &[u8]) -> usize {
 pub fn uuid(s: &[u8]) -> Uuid {
     let parsed = Uuid::parse_str(s);
     match parsed {
-        UuidParse::Parsed(id) => id,
+        UuidParse::Parsed(spelled) => spelled.id,
         UuidParse::Invalid => Uuid {
             high: 0,
             low: number(s) as u64,

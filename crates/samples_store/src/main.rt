@@ -3,6 +3,7 @@
 // of buffers of those lengths. A mismatch prints its line.
 mod cases;
 mod fields;
+mod form_cases;
 mod near_cases;
 mod save_cases;
 mod spelled;
@@ -48,6 +49,9 @@ fn run_case(index: &mut [u8], text: &mut [u8], line: &[u8]) -> bool {
     }
     if same_bytes(kind, b"insert") {
         return cases::insert_case(index, text, args);
+    }
+    if same_bytes(kind, b"forms") {
+        return form_cases::forms_case(index, text, args);
     }
     if same_bytes(kind, b"save") {
         return save_cases::save_case(index, text, args);

@@ -11,7 +11,7 @@ use lib.ListN.{length, take, drop, replicate, length-drop, length-replicate}
 use lib.Seq.{length-take-le}
 use Rattle.text.proofs.ListLaws.{part-to-end}
 use Rattle.text.specs.Bytes.{firstOf}
-use Rattle.text.specs.declared.uuid.Uuid.{Uuid}
+use Rattle.text.specs.declared.uuid.Spelled.{Spelled}
 use Rattle.text.specs.declared.uuid.UuidParse.{UuidParse}
 use Rattle.text.specs.declared.uuid.UuidParse.the-variants.{Parsed, Invalid}
 use Rattle.store.specs.declared.slots.Fill.{Fill}
@@ -48,7 +48,7 @@ module _ (i t s : List ℕ) (a : Table) (heads next : List ℕ) (f : Fill) (at l
       → ReachesSlot i t s a heads next f l a heads next (record { on = true; answer = A.Done; fill = f })
   slot-not e old hs w = goes hs (reach-not (length i) (length t) hs l e) refl w
 
-  module _ (u : Uuid) (e : wanted l ≡ Parsed u) where
+  module _ (u : Spelled) (e : wanted l ≡ Parsed u) where
     pub slot-long : lineMax < len → (r : Step) → r ≡ record { on = false; answer = A.LineTooLong; fill = f }
         → ReachesSlot i t s a heads next f l a heads next r
     slot-long p r er = subst (ReachesSlot i t s a heads next f l a heads next) (sym er)
@@ -56,19 +56,19 @@ module _ (i t s : List ℕ) (a : Table) (heads next : List ℕ) (f : Fill) (at l
 
     module _ (p : len ≤ lineMax) where
       pub slot-files : (old : ℕ) (hs : List Held) → Slotted i t s a heads next old f hs
-          → Files′ i t s a heads next old f u at len hs
+          → Files′ i t s a heads next old f (u .id) at len hs
       slot-files old hs w =
           let v = wanted-shape l u e (omega (arith, part-long)) in
           record { slotted = w; inside = inside; shape = record { some = v .some; most = v .most } }
 
       module _ (a′ : Table) (heads′ next′ : List ℕ) (r : Fill)
-          (g : FilesSlot i t a heads next f u at len a′ heads′ next′ r) where
+          (g : FilesSlot i t a heads next f (u .id) at len a′ heads′ next′ r) where
         pub slot-full : r .count ≡ f .count → (v : Step) → v ≡ record { on = false; answer = A.NoRoom; fill = f }
             → ReachesSlot i t s a heads next f l a′ heads′ next′ v
         slot-full z v ev = subst (ReachesSlot i t s a heads next f l a′ heads′ next′) (sym ev)
             (λ old hs w. go old hs (g s old hs (slot-files old hs w)))
           where
-            go : (old : ℕ) (hs : List Held) → Filed i t s a′ heads′ next′ old f (under u l) hs r
+            go : (old : ℕ) (hs : List Held) → Filed i t s a′ heads′ next′ old f (under (u .id) l) hs r
                 → Comes i t s a′ heads′ next′ old l hs (record { on = false; answer = A.NoRoom; fill = f })
             go old hs (fits q c y) = absurd (omega (arith, c, z))
             go old hs (full q c y) = stops (reach-room (length i) (length t) hs l u e (omega (arith, part-long)) false q) refl y
@@ -77,9 +77,9 @@ module _ (i t s : List ℕ) (a : Table) (heads next : List ℕ) (f : Fill) (at l
             → ReachesSlot i t s a heads next f l a′ heads′ next′ (record { on = true; answer = A.Done; fill = r })
         slot-filed z old hs w = go (g s old hs (slot-files old hs w))
           where
-            go : Filed i t s a′ heads′ next′ old f (under u l) hs r
+            go : Filed i t s a′ heads′ next′ old f (under (u .id) l) hs r
                 → Comes i t s a′ heads′ next′ old l hs (record { on = true; answer = A.Done; fill = r })
-            go (fits q c y) = goes (file (under u l) hs) (reach-room (length i) (length t) hs l u e (omega (arith, part-long)) true q)
+            go (fits q c y) = goes (file (under (u .id) l) hs) (reach-room (length i) (length t) hs l u e (omega (arith, part-long)) true q)
                 refl y
             go (full q c y) = absurd (z c)
 

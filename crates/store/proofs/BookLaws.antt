@@ -9,12 +9,12 @@ use lib.ListN.{length}
 use borrow.Author.Tests.{ltb-false}
 use Rattle.text.specs.Bytes.{pick}
 use Rattle.text.specs.Utf8.{isUtf8, validRun}
-use Rattle.text.specs.declared.uuid.Uuid.{Uuid}
+use Rattle.text.specs.declared.uuid.Spelled.{Spelled}
 use Rattle.text.specs.declared.uuid.UuidParse.{UuidParse}
 use Rattle.text.specs.declared.uuid.UuidParse.the-variants.{Parsed, Invalid}
 use Rattle.store.specs.Book.{turn, noRoom, under, Reached, after, stopped, reachWanted, reach, insertTurn}
 use Rattle.store.specs.Inner.{Good, room, Builds}
-use Rattle.store.specs.Book.{onReached, insertLines, bookInsert, Attempt, refused, files, Saving, bookAttempt}
+use Rattle.store.specs.Book.{onReached, insertLines, bookWalk, bookInsert, Attempt, refused, files, Saving, bookAttempt}
 use Rattle.store.specs.Book.{Call, clear, insert, save, bookTurn, runBook}
 use Rattle.store.specs.Held.{Held, file, distinct, lineMax}
 use Rattle.store.specs.Layout.{Shape, records, texts}
@@ -24,7 +24,7 @@ use Rattle.store.proofs.RoomLaws.{room-index, room-text}
 use Rattle.store.proofs.WantedLaws.{wanted-small, wanted-some}
 use Rattle.store.specs.declared.calls.Answer.the-variants as A
 
-pub wanted-shape : (l : List ℕ) (u : Uuid) → wanted l ≡ Parsed u → length l ≤ lineMax → Shape (under u l)
+pub wanted-shape : (l : List ℕ) (u : Spelled) → wanted l ≡ Parsed u → length l ≤ lineMax → Shape (under (u .id) l)
 wanted-shape l u e q = record { key = wanted-small l u e; some = wanted-some l u e; most = q }
 
 module _ (n m : ℕ) where
@@ -49,16 +49,16 @@ module _ (n m : ℕ) where
   unfolding reach
   keeps-reach hs g l = go (wanted l) refl
     where
-      fits : (u : Uuid) (b : Bool) → noRoom n m (under u l) hs ≡ b → Shape (under u l)
-          → Kept (pick b (stopped A.NoRoom) (after (file (under u l) hs)))
+      fits : (u : Spelled) (b : Bool) → noRoom n m (under (u .id) l) hs ≡ b → Shape (under (u .id) l)
+          → Kept (pick b (stopped A.NoRoom) (after (file (under (u .id) l) hs)))
       fits u true e s = tt
-      fits u false e s = keeps-file (under u l) hs g s (ap not e)
+      fits u false e s = keeps-file (under (u .id) l) hs g s (ap not e)
 
-      short : (u : Uuid) (b : Bool) → ltb lineMax (length l) ≡ b → wanted l ≡ Parsed u
+      short : (u : Spelled) (b : Bool) → ltb lineMax (length l) ≡ b → wanted l ≡ Parsed u
           → Kept (pick b (stopped A.LineTooLong)
-          (pick (noRoom n m (under u l) hs) (stopped A.NoRoom) (after (file (under u l) hs))))
+          (pick (noRoom n m (under (u .id) l) hs) (stopped A.NoRoom) (after (file (under (u .id) l) hs))))
       short u true e w = tt
-      short u false e w = fits u (noRoom n m (under u l) hs) refl (wanted-shape l u w (ltb-false lineMax (length l) e))
+      short u false e w = fits u (noRoom n m (under (u .id) l) hs) refl (wanted-shape l u w (ltb-false lineMax (length l) e))
 
       go : (p : UuidParse) → wanted l ≡ p → Kept (reachWanted n m hs l p)
       go Invalid w = g
@@ -76,7 +76,7 @@ module _ (n m : ℕ) where
       go (stopped a) q ih = g
 
   pub keeps-insert : (hs : List Held) → Good n m hs → (s : List ℕ) → Good n m (bookInsert n m hs s .held)
-  unfolding bookInsert
+  unfolding bookInsert bookWalk
   keeps-insert hs g s = go (isUtf8 s)
     where
       go : (b : Bool) → Good n m (pick b (insertLines n m hs 0 (linesOf s))

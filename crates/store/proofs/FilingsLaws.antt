@@ -11,11 +11,11 @@ use lib.Dec.{ltb}
 use lib.ListN.{length}
 use Rattle.text.specs.Bytes.{pick}
 use Rattle.text.specs.Utf8.{isUtf8, validRun}
-use Rattle.text.specs.declared.uuid.Uuid.{Uuid}
+use Rattle.text.specs.declared.uuid.Spelled.{Spelled}
 use Rattle.text.specs.declared.uuid.UuidParse.{UuidParse}
 use Rattle.text.specs.declared.uuid.UuidParse.the-variants.{Parsed, Invalid}
 use Rattle.store.specs.Book.{turn, noRoom, under, Reached, after, stopped, reachWanted, reach, insertTurn}
-use Rattle.store.specs.Book.{onReached, insertLines, bookInsert, Attempt, refused, files, Saving, bookAttempt}
+use Rattle.store.specs.Book.{onReached, insertLines, bookWalk, bookInsert, Attempt, refused, files, Saving, bookAttempt}
 use Rattle.store.specs.Book.{Call, clear, insert, save, Reply, saved, bookTurn, runBook}
 use Rattle.store.specs.Filings.{Filing, filing, filedLine, filedLines, filedAttempt, filedAs, filedBy, since}
 use Rattle.store.specs.Filings.{filings, laterOr, lastFiled, lineFiled, nth}
@@ -73,17 +73,17 @@ module _ {S : Saving} (k : Key) where
       unfolding reach
       says-reach hs fs l e = go (wanted l)
         where
-          fits : (u : Uuid) (b : Bool)
-              → Says (fs ++ (filing p x a (under u l) ∷ [])) (pick b (stopped A.NoRoom) (after (file (under u l) hs)))
+          fits : (u : Spelled) (b : Bool)
+              → Says (fs ++ (filing p x a (under (u .id) l) ∷ [])) (pick b (stopped A.NoRoom) (after (file (under (u .id) l) hs)))
           fits u true = tt
-          fits u false = holds-file (filing p x a (under u l)) hs fs e
+          fits u false = holds-file (filing p x a (under (u .id) l)) hs fs e
 
-          short : (u : Uuid) (b : Bool)
-              → Says (fs ++ (filing p x a (under u l) ∷ []))
+          short : (u : Spelled) (b : Bool)
+              → Says (fs ++ (filing p x a (under (u .id) l) ∷ []))
               (pick b (stopped A.LineTooLong)
-              (pick (noRoom n m (under u l) hs) (stopped A.NoRoom) (after (file (under u l) hs))))
+              (pick (noRoom n m (under (u .id) l) hs) (stopped A.NoRoom) (after (file (under (u .id) l) hs))))
           short u true = tt
-          short u false = fits u (noRoom n m (under u l) hs)
+          short u false = fits u (noRoom n m (under (u .id) l) hs)
 
           go : (y : UuidParse) → Says (fs ++ filedLine p x a l y) (reachWanted n m hs l y)
           go Invalid = holds-nothing hs fs e
@@ -112,7 +112,7 @@ module _ {S : Saving} (k : Key) where
 
     says-turn : (p : ℕ) (hs : List Held) (fs : List (Filing S)) (x : Call S) → Holds hs fs
         → Holds (bookTurn n m hs x .held) (since x fs (filedBy p n m hs x))
-    unfolding bookTurn bookInsert
+    unfolding bookTurn bookInsert bookWalk
     says-turn p hs fs clear e = unfold find lastFiled in refl
     says-turn p hs fs (insert s) e = go (isUtf8 s)
       where

@@ -12,6 +12,7 @@ use lib.Dec.{ltb}
 use lib.ListN.{length, drop-of-length-le}
 use lib.Seq.{take-all}
 use Rattle.text.specs.Bytes.{pick, firstOf}
+use Rattle.text.specs.declared.uuid.Form.the-variants as Fm
 use Rattle.text.specs.declared.uuid.UuidParse.the-variants.{Parsed}
 use Rattle.text.proofs.BytesLaws.{first-le}
 use Rattle.map.specs.declared.error.MappingError.{MappingError}
@@ -97,7 +98,7 @@ module _ (c : SaveCall) (p : Passes (c .args)) where
       (ltb (firstText platformKey (a .name)) (length (a .name))) (p .name) in
       omega (arith, ltb-false (firstText platformKey (a .name)) (length (a .name)) x, text-most platformKey (a .name))
 
-  line-wanted : wanted (savedLine a) ≡ Parsed (a .uuid)
+  line-wanted : wanted (savedLine a) ≡ Parsed (record { id = a .uuid; form = Fm.Simple })
   line-wanted =
       wanted-is (savedLine a)
       (platform-none (savedLine a)
@@ -116,7 +117,7 @@ module _ (c : SaveCall) (p : Passes (c .args)) where
     held-again : bookTurn {S = saving} n m lines (insert (savedLine a)) .held
         ≡ pick (noRoom n m (under (a .uuid) (savedLine a)) lines) lines (file (under (a .uuid) (savedLine a)) lines)
     held-again =
-        insert-holds n m saving (savedLine a) [] (savedLine a) [] (a .uuid) lines lines
+        insert-holds n m saving (savedLine a) [] (savedLine a) [] (record { id = a .uuid; form = Fm.Simple }) lines lines
         (built-utf8 (a .slots) (a .buttons) (a .axes) (a .name) (a .uuid) (p .build)) line-one
         (unfold insertLines in refl) line-wanted
         (built-fits (a .slots) (a .buttons) (a .axes) (a .name) (a .uuid) (p .build))

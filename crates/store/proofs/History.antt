@@ -13,8 +13,8 @@ use Rattle.store.specs.Held.{sameKey, strike, file, find, holds, distinc
 use Rattle.store.specs.Layout.{recordBytes, records, texts, padded, encodeIndex, encodeText}
 use Rattle.store.specs.Decode.{bodyAt, headAt, headFits, zeroes, walk, decode}
 use Rattle.store.specs.Lines.{linesOf, forPlatform, wanted}
-use Rattle.store.specs.Book.{lengths, noRoom, reach, insertLines, bookInsert, insert, clear, bookTurn, numberOf}
-use Rattle.store.specs.Store.{storeClear, storeInsert, storeCall, runStore, lookUp, found, nothing}
+use Rattle.store.specs.Book.{lengths, noRoom, reach, insertLines, bookWalk, bookInsert, insert, clear, bookTurn, numberOf}
+use Rattle.store.specs.Store.{storeClear, storeWalk, storeInsert, storeCall, runStore, lookUp, found, nothing}
 use Rattle.store.specs.Filings.{filings, filedLines, lastFiled, lineFiled}
 use Rattle.store.specs.Guarantee.{Calls, stored, lastOf}
 
@@ -29,14 +29,14 @@ twice : Calls
 twice = insert u ∷ insert (u ++ ascii ",x") ∷ []
 
 last-found : lookUp nil (stored 42 40 twice .index) (stored 42 40 twice .text) ≡ found (u ++ ascii ",x")
-unfolding runStore storeCall storeInsert decode walk headAt headFits bodyAt zeroes distinct holds sameKey bookInsert
+unfolding runStore storeCall storeInsert storeWalk decode walk headAt headFits bodyAt zeroes distinct holds sameKey bookWalk
     isUtf8 validRun runOf charLength firstLength begins encodeIndex encodeText records recordBytes texts padded
     bigEndian linesOf insertLines reach wanted forPlatform firstText uuidOf readHex hexDigit firstOf same noRoom strike
     lengths file lookUp find nil u twice
 last-found = refl
 
 last-filed : lineFiled (lastOf 42 40 twice nil) ≡ some (u ++ ascii ",x")
-unfolding filings filedLines lastFiled bookTurn sameKey bookInsert isUtf8 validRun runOf charLength firstLength begins
+unfolding filings filedLines lastFiled bookTurn sameKey bookInsert bookWalk isUtf8 validRun runOf charLength firstLength begins
     linesOf insertLines reach wanted forPlatform firstText uuidOf readHex hexDigit firstOf same noRoom strike lengths
     file nil u twice
 last-filed = refl
@@ -46,8 +46,8 @@ thenCleared : Calls
 thenCleared = twice ++ (clear ∷ [])
 
 cleared : lookUp nil (stored 42 40 thenCleared .index) (stored 42 40 thenCleared .text) ≡ nothing
-unfolding runStore storeCall storeInsert storeClear decode walk headAt headFits bodyAt zeroes distinct holds sameKey
-    bookInsert isUtf8 validRun runOf charLength firstLength begins encodeIndex encodeText records recordBytes texts
+unfolding runStore storeCall storeInsert storeWalk storeClear decode walk headAt headFits bodyAt zeroes distinct holds sameKey
+    bookWalk isUtf8 validRun runOf charLength firstLength begins encodeIndex encodeText records recordBytes texts
     padded bigEndian linesOf insertLines reach wanted forPlatform firstText uuidOf readHex hexDigit firstOf same noRoom
     strike lengths file lookUp find nil u twice thenCleared
 cleared = refl
@@ -57,7 +57,7 @@ others : Calls
 others = insert u ∷ insert (ascii "00000000000000000000000000000001") ∷ []
 
 numbers : map numberOf (stored 21 80 others .answers) ≡ 0 ∷ 21 ∷ []
-unfolding runStore storeCall storeInsert decode walk headAt headFits bodyAt zeroes distinct holds sameKey bookInsert
+unfolding runStore storeCall storeInsert storeWalk decode walk headAt headFits bodyAt zeroes distinct holds sameKey bookWalk
     isUtf8 validRun runOf charLength firstLength begins encodeIndex encodeText records recordBytes texts padded
     bigEndian linesOf insertLines reach wanted forPlatform firstText uuidOf readHex hexDigit firstOf same noRoom strike
     lengths file nil u others

@@ -10,20 +10,20 @@ use lib.ListN.{length, drop}
 use borrow.Author.Tests.{lt-ltb, le-ltb}
 use Rattle.text.specs.Bytes.{pick}
 use Rattle.text.specs.Utf8.{isUtf8, validRun}
-use Rattle.text.specs.declared.uuid.Uuid.{Uuid}
+use Rattle.text.specs.declared.uuid.Spelled.{Spelled}
 use Rattle.text.specs.declared.uuid.UuidParse.the-variants.{Parsed, Invalid}
-use Rattle.store.specs.declared.calls.Inserted.{Inserted}
+use Rattle.store.specs.declared.calls.Tally.{Tally}
 use Rattle.store.specs.declared.batch.Walked.{Walked}
 use Rattle.store.specs.Slots.{Takes, onward, halted, Went, Encoded, Batches}
 use Rattle.store.specs.Book.{noRoom, Turn, under, after, stopped, reach, insertTurn}
 use Rattle.store.specs.Inner.{Good, room, known}
-use Rattle.store.specs.Book.{insertLines, bookInsert}
+use Rattle.store.specs.Book.{insertLines, bookWalk}
 use Rattle.store.specs.Decode.{decode}
 use Rattle.store.specs.Held.{Held, file, indexMax, textMax, lineMax}
 use Rattle.store.specs.Layout.{Bytes}
 use Rattle.store.specs.Layout.{encodeIndex, encodeText}
 use Rattle.store.specs.Lines.{linesOf, wanted}
-use Rattle.store.specs.Store.{Done, holding, onLines, storeInsert}
+use Rattle.store.specs.Store.{Done, holding, onLines, storeWalk}
 use Rattle.store.proofs.DecodeLaws.{Laid, laid, good, lines-of, index-kept, text-kept, length-index}
 use Rattle.store.proofs.DecodeLaws.{length-text, decode-encoded}
 use Rattle.store.proofs.LineLaws.{lines-end}
@@ -35,45 +35,45 @@ module _ (n m : ℕ) (hs : List Held) (l : List ℕ) where
   unfolding reach
   reach-not e = rw e
 
-  pub reach-long : (u : Uuid) → wanted l ≡ Parsed u → lineMax < length l → reach n m hs l ≡ stopped A.LineTooLong
+  pub reach-long : (u : Spelled) → wanted l ≡ Parsed u → lineMax < length l → reach n m hs l ≡ stopped A.LineTooLong
   unfolding reach
   reach-long u e q = rw (e, lt-ltb lineMax (length l) q)
 
-  pub reach-room : (u : Uuid) → wanted l ≡ Parsed u → length l ≤ lineMax → (b : Bool) → room n m (under u l) hs ≡ b
-      → reach n m hs l ≡ pick b (after (file (under u l) hs)) (stopped A.NoRoom)
+  pub reach-room : (u : Spelled) → wanted l ≡ Parsed u → length l ≤ lineMax → (b : Bool) → room n m (under (u .id) l) hs ≡ b
+      → reach n m hs l ≡ pick b (after (file (under (u .id) l) hs)) (stopped A.NoRoom)
   unfolding reach
   reach-room u e q b p =
       rw (e, le-ltb lineMax (length l) q)
-      (go (noRoom n m (under u l) hs) ∙ ap (λ (x : Bool). pick x (after (file (under u l) hs)) (stopped A.NoRoom)) p)
+      (go (noRoom n m (under (u .id) l) hs) ∙ ap (λ (x : Bool). pick x (after (file (under (u .id) l) hs)) (stopped A.NoRoom)) p)
     where
-      go : (x : Bool) → pick x (stopped A.NoRoom) (after (file (under u l) hs))
-          ≡ pick (not x) (after (file (under u l) hs)) (stopped A.NoRoom)
+      go : (x : Bool) → pick x (stopped A.NoRoom) (after (file (under (u .id) l) hs))
+          ≡ pick (not x) (after (file (under (u .id) l) hs)) (stopped A.NoRoom)
       go true = refl
       go false = refl
 
 -- the exits of `insert` before the loop
 pub insert-unsound : (i t s : List ℕ) → known (decode i t) ≡ false
-    → record { answer = record { answer = A.Unsound; count = 0 }; index = i; text = t } ≡ storeInsert i t s
-unfolding storeInsert
+    → record { answer = record { answer = A.Unsound; count = 0 }; index = i; text = t } ≡ storeWalk i t s
+unfolding storeWalk
 insert-unsound i t s e = sym (go (decode i t) e)
   where
     go : (o : Option (List Held)) → known o ≡ false
-        → onLines i t o (record { answer = A.Unsound; count = 0 }) (λ hs. bookInsert (length i) (length t) hs s)
+        → onLines i t o (record { answer = A.Unsound; count = 0 }) (λ hs. bookWalk (length i) (length t) hs s)
         ≡ record { answer = record { answer = A.Unsound; count = 0 }; index = i; text = t }
     go none q = refl
     go (some hs) q = let z : _≡_ {A = ℕ} 0 1 = cc in absurd (omega arith)
 
 -- a sound store
 module _ (i t s : List ℕ) (hs : List Held) (d : decode i t ≡ some hs) where
-  stored : storeInsert i t s ≡ holding i t (bookInsert (length i) (length t) hs s)
-  unfolding storeInsert
+  stored : storeWalk i t s ≡ holding i t (bookWalk (length i) (length t) hs s)
+  unfolding storeWalk
   stored = ap (λ (o : Option (List Held)). onLines i t o (record { answer = A.Unsound; count = 0 })
-      (λ ks. bookInsert (length i) (length t) ks s)) d
+      (λ ks. bookWalk (length i) (length t) ks s)) d
 
   insert-bad : Bytes i → isUtf8 s ≡ false
       → record { answer = record { answer = A.NotUtf8 (validRun s); count = 0 }; index = i; text = t }
-      ≡ storeInsert i t s
-  unfolding bookInsert
+      ≡ storeWalk i t s
+  unfolding bookWalk
   insert-bad b e =
       let l : Laid i t hs = laid i t hs b d in
       sym (stored ∙ rw e
@@ -81,17 +81,17 @@ module _ (i t s : List ℕ) (hs : List Held) (d : decode i t ≡ some hs) where
       { answer = record { answer = A.NotUtf8 (validRun s); count = 0 }; index = x; text = y })
       (sym (index-kept i t hs l)) (sym (text-kept i t hs l))))
 
-  pub insert-done : isUtf8 s ≡ true → (r : Turn Inserted) → insertLines (length i) (length t) hs 0 (linesOf s) ≡ r
+  pub insert-done : isUtf8 s ≡ true → (r : Turn Tally) → insertLines (length i) (length t) hs 0 (linesOf s) ≡ r
       → (i′ t′ : List ℕ) → i′ ≡ encodeIndex (length i) (r .held) → t′ ≡ encodeText (length t) (r .held)
-      → record { answer = r .answer; index = i′; text = t′ } ≡ storeInsert i t s
-  unfolding bookInsert
+      → record { answer = r .answer; index = i′; text = t′ } ≡ storeWalk i t s
+  unfolding bookWalk
   insert-done u r e i′ t′ ei et =
       ap₂ (λ (x y : List ℕ). record { answer = r .answer; index = x; text = y }) ei et
-      ∙ sym (stored ∙ rw u (ap (λ (x : Turn Inserted). holding i t x) e))
+      ∙ sym (stored ∙ rw u (ap (λ (x : Turn Tally). holding i t x) e))
 
 pub insert-not-utf8 : (i t s : List ℕ) → Bytes i → known (decode i t) ≡ true → isUtf8 s ≡ false → (p : ℕ)
     → p ≡ validRun s
-    → record { answer = record { answer = A.NotUtf8 p; count = 0 }; index = i; text = t } ≡ storeInsert i t s
+    → record { answer = record { answer = A.NotUtf8 p; count = 0 }; index = i; text = t } ≡ storeWalk i t s
 insert-not-utf8 i t s b k e p q =
     let r : (hs : List Held) × (decode i t ≡ some hs) = lines-of (decode i t) k in
     ap (λ (x : ℕ). record { answer = record { answer = A.NotUtf8 x; count = 0 }; index = i; text = t }) q
@@ -142,7 +142,7 @@ module _ (i₀ t₀ s i t : List ℕ) (at count : ℕ) (w : Inserting i₀ t₀ 
       ap known (decoded (r .0) (w .inserts (r .0) (r .1)))
 
   pub insert-end : isUtf8 s ≡ true → length s ≤ at
-      → record { answer = record { answer = A.Done; count = count }; index = i; text = t } ≡ storeInsert i₀ t₀ s
+      → record { answer = record { answer = A.Done; count = count }; index = i; text = t } ≡ storeWalk i₀ t₀ s
   unfolding insertLines
   insert-end u l =
       let r : (hs : List Held) × (decode i₀ t₀ ≡ some hs) = lines-of (decode i₀ t₀) (w .sound) in
@@ -163,14 +163,14 @@ module _ (i₀ t₀ s i t : List ℕ) (at count : ℕ) (w : Inserting i₀ t₀ 
 
     pub insert-stop : isUtf8 s ≡ true → r .on ≡ false
         → record { answer = record { answer = r .answer; count = count + r .count }; index = i′; text = t′ }
-        ≡ storeInsert i₀ t₀ s
+        ≡ storeWalk i₀ t₀ s
     insert-stop u n =
         let q : (hs : List Held) × (decode i₀ t₀ ≡ some hs) = lines-of (decode i₀ t₀) (w .sound) in
         go (q .0) (q .1) (w .inserts (q .0) (q .1)) (batch (q .0) (w .inserts (q .0) (q .1)))
       where
         go : (hs₀ : List Held) → decode i₀ t₀ ≡ some hs₀ → (x : Inserts i₀ t₀ s i t at count hs₀) → By (x .hs)
             → record { answer = record { answer = r .answer; count = count + r .count }; index = i′; text = t′ }
-            ≡ storeInsert i₀ t₀ s
+            ≡ storeWalk i₀ t₀ s
         go hs₀ d x (onward ks o run g p) =
             let v : _≡_ {A = Bool} true false = sym o ∙ n in let k : _≡_ {A = ℕ} 0 1 = cc in absurd (omega arith)
         go hs₀ d x (halted ks o run g p) =

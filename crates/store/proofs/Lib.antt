@@ -20,6 +20,7 @@ pub mod SettleLaws
 pub mod ClosingLaws
 pub mod ClearLaws
 pub mod LineLaws
+pub mod OtherLaws
 pub mod WantedLaws
 pub mod SeekLaws
 pub mod BookLaws
@@ -43,6 +44,7 @@ pub mod RefusedLaws
 pub mod Saves
 pub mod FoundLaws
 pub mod NearLaws
+pub mod FormLaws
 mod Samples
 mod Worked
 mod History

@@ -10,11 +10,11 @@ use lib.ListN.{length}
 use borrow.Author.Tests.{le-ltb}
 use Rattle.text.specs.Bytes.{pick}
 use Rattle.text.specs.Utf8.{isUtf8, validRun}
-use Rattle.text.specs.declared.uuid.Uuid.{Uuid}
+use Rattle.text.specs.declared.uuid.Spelled.{Spelled}
 use Rattle.text.specs.declared.uuid.UuidParse.the-variants.{Parsed}
-use Rattle.store.specs.declared.calls.Inserted.{Inserted}
+use Rattle.store.specs.declared.calls.Tally.{Tally}
 use Rattle.store.specs.Book.{turn, noRoom, Turn, under, Reached, after, stopped, reach, insertTurn}
-use Rattle.store.specs.Book.{onReached, insertLines, bookInsert, Attempt, files, Saving, bookAttempt}
+use Rattle.store.specs.Book.{onReached, insertLines, bookWalk, insertedOf, bookInsert, Attempt, files, Saving, bookAttempt}
 use Rattle.store.specs.Book.{insert, save, Reply, inserted, saved, replied, bookTurn}
 use Rattle.store.specs.Held.{Held, file, lineMax}
 use Rattle.store.specs.Lines.{linesOf, wanted}
@@ -28,7 +28,7 @@ module _ (n m : ℕ) where
   unfolding insertLines
   goes-on [] rest hs ks c e =
       let z : c ≡ c + 0 = omega arith in
-      ap (λ (x : Turn Inserted). insertLines n m (x .held) c rest) e ∙ ap (λ (k : ℕ). insertLines n m ks k rest) z
+      ap (λ (x : Turn Tally). insertLines n m (x .held) c rest) e ∙ ap (λ (k : ℕ). insertLines n m ks k rest) z
   goes-on (l ∷ passed) rest hs ks c e =
       go (reach n m hs l) (λ (js : List Held). goes-on passed rest js ks (suc c)) e
     where
@@ -42,22 +42,22 @@ module _ (n m : ℕ) where
           ≡ insertTurn ks A.Done (c + suc (length passed))
           → onReached r (λ a. insertTurn hs a c) (λ js. insertLines n m js (suc c) (passed ++ rest))
           ≡ insertLines n m ks (c + suc (length passed)) rest
-      go (stopped a) ih q = absurd (omega (arith, ap (λ (x : Turn Inserted). x .answer .count) q))
+      go (stopped a) ih q = absurd (omega (arith, ap (λ (x : Turn Tally). x .answer .count) q))
       go (after js) ih q =
           ih js (q ∙ ap (insertTurn ks A.Done) (sym next)) ∙ ap (λ (k : ℕ). insertLines n m ks k rest) next
 
   -- a wanted line within the limit is filed, or stops the insert for want of room
-  at-line : (l : List ℕ) (rest : List (List ℕ)) (u : Uuid) (hs : List Held) (c : ℕ) → wanted l ≡ Parsed u
+  at-line : (l : List ℕ) (rest : List (List ℕ)) (u : Spelled) (hs : List Held) (c : ℕ) → wanted l ≡ Parsed u
       → length l ≤ lineMax
       → insertLines n m hs c (l ∷ rest)
-      ≡ pick (noRoom n m (under u l) hs) (insertTurn hs A.NoRoom c) (insertLines n m (file (under u l) hs) (suc c) rest)
+      ≡ pick (noRoom n m (under (u .id) l) hs) (insertTurn hs A.NoRoom c) (insertLines n m (file (under (u .id) l) hs) (suc c) rest)
   unfolding insertLines reach
-  at-line l rest u hs c e q = rw (e, le-ltb lineMax (length l) q) (go (noRoom n m (under u l) hs))
+  at-line l rest u hs c e q = rw (e, le-ltb lineMax (length l) q) (go (noRoom n m (under (u .id) l) hs))
     where
       go : (b : Bool)
-          → onReached (pick b (stopped A.NoRoom) (after (file (under u l) hs))) (λ a. insertTurn hs a c)
+          → onReached (pick b (stopped A.NoRoom) (after (file (under (u .id) l) hs))) (λ a. insertTurn hs a c)
           (λ ks. insertLines n m ks (suc c) rest)
-          ≡ pick b (insertTurn hs A.NoRoom c) (insertLines n m (file (under u l) hs) (suc c) rest)
+          ≡ pick b (insertTurn hs A.NoRoom c) (insertLines n m (file (under (u .id) l) hs) (suc c) rest)
       go true = refl
       go false = refl
 
@@ -85,21 +85,24 @@ module _ (n m : ℕ) where
         go false = refl
 
   -- an insert that has passed some lines and reaches a wanted one
-  module _ (S : Saving) (s : List ℕ) (passed : List (List ℕ)) (l : List ℕ) (rest : List (List ℕ)) (u : Uuid)
+  module _ (S : Saving) (s : List ℕ) (passed : List (List ℕ)) (l : List ℕ) (rest : List (List ℕ)) (u : Spelled)
       (hs ks : List Held) (valid : isUtf8 s ≡ true) (cut : linesOf s ≡ passed ++ (l ∷ rest))
       (reached : insertLines n m ks 0 passed ≡ insertTurn hs A.Done (length passed))
       (e : wanted l ≡ Parsed u) (q : length l ≤ lineMax) where
-    abbrev onward : Turn Inserted
-    onward = insertLines n m (file (under u l) hs) (suc (length passed)) rest
+    abbrev onward : Turn Tally
+    onward = insertLines n m (file (under (u .id) l) hs) (suc (length passed)) rest
+
+    abbrev told : Turn Tally → Turn (Reply S)
+    told x = turn (inserted (insertedOf s (x .answer))) (x .held)
 
     at-insert : bookTurn {S = S} n m ks (insert s)
-        ≡ replied inserted (pick (noRoom n m (under u l) hs) (insertTurn hs A.NoRoom (length passed)) onward)
-    unfolding bookTurn bookInsert
+        ≡ told (pick (noRoom n m (under (u .id) l) hs) (insertTurn hs A.NoRoom (length passed)) onward)
+    unfolding bookTurn bookInsert bookWalk
     at-insert =
-        ap (λ (b : Bool). replied inserted (pick b (insertLines n m ks 0 (linesOf s))
+        ap (λ (b : Bool). told (pick b (insertLines n m ks 0 (linesOf s))
         (insertTurn ks (A.NotUtf8 (validRun s)) 0))) valid
-        ∙ ap (λ (ls : List (List ℕ)). replied inserted (insertLines n m ks 0 ls)) cut
-        ∙ ap (λ (x : Turn Inserted). replied {S = S} inserted x)
+        ∙ ap (λ (ls : List (List ℕ)). told (insertLines n m ks 0 ls)) cut
+        ∙ ap told
         (goes-on passed (l ∷ rest) ks hs 0 (reached ∙ ap (insertTurn hs A.Done) (sym zero))
         ∙ ap (λ (c : ℕ). insertLines n m hs c (l ∷ rest)) zero ∙ at-line l rest u hs (length passed) e q)
       where
@@ -107,18 +110,20 @@ module _ (n m : ℕ) where
         zero = omega arith
 
     pub insert-answers : bookTurn {S = S} n m ks (insert s) .answer
-        ≡ pick (noRoom n m (under u l) hs) (inserted (record { answer = A.NoRoom; count = length passed }))
-        (inserted (onward .answer))
-    insert-answers = ap (λ (y : Turn (Reply S)). y .answer) at-insert ∙ go (noRoom n m (under u l) hs)
+        ≡ pick (noRoom n m (under (u .id) l) hs)
+        (inserted (insertedOf s (record { answer = A.NoRoom; count = length passed })))
+        (inserted (insertedOf s (onward .answer)))
+    insert-answers = ap (λ (y : Turn (Reply S)). y .answer) at-insert ∙ go (noRoom n m (under (u .id) l) hs)
       where
         go : (b : Bool)
-            → _≡_ {A = Reply S} (inserted (pick b (insertTurn hs A.NoRoom (length passed)) onward .answer))
-            (pick b (inserted (record { answer = A.NoRoom; count = length passed })) (inserted (onward .answer)))
+            → _≡_ {A = Reply S} (told (pick b (insertTurn hs A.NoRoom (length passed)) onward) .answer)
+            (pick b (inserted (insertedOf s (record { answer = A.NoRoom; count = length passed })))
+            (inserted (insertedOf s (onward .answer))))
         go true = refl
         go false = refl
 
-    pub insert-holds : bookTurn {S = S} n m ks (insert s) .held ≡ pick (noRoom n m (under u l) hs) hs (onward .held)
-    insert-holds = ap (λ (y : Turn (Reply S)). y .held) at-insert ∙ go (noRoom n m (under u l) hs)
+    pub insert-holds : bookTurn {S = S} n m ks (insert s) .held ≡ pick (noRoom n m (under (u .id) l) hs) hs (onward .held)
+    insert-holds = ap (λ (y : Turn (Reply S)). y .held) at-insert ∙ go (noRoom n m (under (u .id) l) hs)
       where
         go : (b : Bool) → pick b (insertTurn hs A.NoRoom (length passed)) onward .held ≡ pick b hs (onward .held)
         go true = refl

@@ -11,7 +11,7 @@ use lib.Dec.{ltb}
 use lib.ListN.{length, take, replicate}
 use Rattle.text.specs.Bytes.{pick}
 use Rattle.text.specs.Utf8.{isUtf8, validRun}
-use Rattle.text.specs.declared.uuid.Uuid.{Uuid}
+use Rattle.text.specs.declared.uuid.Spelled.{Spelled}
 use Rattle.text.specs.declared.uuid.UuidParse.{UuidParse}
 use Rattle.text.specs.declared.uuid.UuidParse.the-variants.{Parsed, Invalid}
 use Rattle.map.specs.declared.error.MappingError.{MappingError}
@@ -22,7 +22,7 @@ use Rattle.store.specs.Held.{lineMax, Held, file}
 use Rattle.map.specs.Build.{checksOf, answerOf, builtLine, builtMap, returned, left, buildOf, outputOf}
 use Rattle.store.specs.declared.calls.Answer.{Answer}
 use Rattle.store.specs.declared.calls.Answer.the-variants as A
-use Rattle.store.specs.declared.calls.Inserted.{Inserted}
+use Rattle.store.specs.declared.calls.Tally.{Tally}
 use Rattle.store.specs.declared.calls.SaveAnswer.the-variants as Sv
 use Rattle.store.specs.declared.calls.Saved.{Saved}
 use Rattle.store.specs.Layout.{Bytes, encodeIndex, encodeText}
@@ -30,8 +30,9 @@ use Rattle.store.specs.Decode.{decode}
 use Rattle.store.specs.Lines.{linesOf, wanted}
 use Rattle.store.specs.Refusals.{number, saveNumber}
 use Rattle.store.specs.Book.{turn, Turn, noRoom, under, Reached, after, stopped, reachWanted, reach, insertTurn}
-use Rattle.store.specs.Book.{onReached, insertLines, bookInsert, Attempt, refused, files, bookAttempt}
-use Rattle.store.specs.Store.{Done, unchanged, holding, onLines, fitting, storeClear, storeInsert, storeAttempt}
+use Rattle.store.specs.Book.{onReached, insertLines, bookWalk, insertedOf, Attempt, refused, files, bookAttempt}
+use Rattle.store.specs.Store.{Done, unchanged, holding, onLines, fitting, storeClear, storeWalk, storeInsert}
+use Rattle.store.specs.Store.{storeAttempt}
 use Rattle.store.specs.Saves.{SaveArgs, unsavedName, refusedSave, attemptAfter, attemptOf, storeSave}
 use Rattle.store.specs.Guarantee.{builtHeld, builtSave}
 use Rattle.store.specs.Promises.{Untouched, LinesBefore, firstLines, RefusalsLeave, BuildLeaves}
@@ -41,7 +42,7 @@ use Rattle.store.proofs.FrontLaws.{front-lines, front-utf8}
 -- ---- the lines that an insert walks
 
 module _ (n m : ℕ) where
-  count-least : (ls : List (List ℕ)) (hs : List Held) (c : ℕ) → c ≤ insertLines n m hs c ls .answer .count
+  pub count-least : (ls : List (List ℕ)) (hs : List Held) (c : ℕ) → c ≤ insertLines n m hs c ls .answer .count
   unfolding insertLines
   count-least [] hs c = omega arith
   count-least (l ∷ ls) hs c = go (reach n m hs l) (λ (ks : List Held). count-least ls ks (suc c))
@@ -101,14 +102,14 @@ module _ (n m : ℕ) where
   unfolding reach
   stops hs l = go (wanted l)
     where
-      full : (u : Uuid) (b : Bool) → Stops (pick b (stopped A.NoRoom) (after (file (under u l) hs)))
+      full : (u : Spelled) (b : Bool) → Stops (pick b (stopped A.NoRoom) (after (file (under (u .id) l) hs)))
       full u true = (λ e. omega (arith, e), λ e. omega (arith, e))
       full u false = tt
 
-      long : (u : Uuid) (b : Bool) → Stops (pick b (stopped A.LineTooLong)
-          (pick (noRoom n m (under u l) hs) (stopped A.NoRoom) (after (file (under u l) hs))))
+      long : (u : Spelled) (b : Bool) → Stops (pick b (stopped A.LineTooLong)
+          (pick (noRoom n m (under (u .id) l) hs) (stopped A.NoRoom) (after (file (under (u .id) l) hs))))
       long u true = (λ e. omega (arith, e), λ e. omega (arith, e))
-      long u false = full u (noRoom n m (under u l) hs)
+      long u false = full u (noRoom n m (under (u .id) l) hs)
 
       go : (p : UuidParse) → Stops (reachWanted n m hs l p)
       go Invalid = tt
@@ -192,20 +193,20 @@ module _ (i t : List ℕ) (b : Bytes i) where
   save-leaves a n = attempt-leaves (attemptOf a) (files-done a) n
 
   module _ (s : List ℕ) where
-    abbrev inserts : Option (List Held) → Done Inserted
-    inserts o = onLines i t o (record { answer = A.Unsound; count = 0 }) (λ hs. bookInsert (length i) (length t) hs s)
+    abbrev inserts : Option (List Held) → Done Tally
+    inserts o = onLines i t o (record { answer = A.Unsound; count = 0 }) (λ hs. bookWalk (length i) (length t) hs s)
 
     -- an insert's three ways: 19, 10, or a walk over the lines
-    abbrev walked : List Held → Turn Inserted
+    abbrev walked : List Held → Turn Tally
     walked hs = insertLines (length i) (length t) hs 0 (linesOf s)
 
-    inserts-by : (P : Done Inserted → Type 0)
+    inserts-by : (P : Done Tally → Type 0)
         → (decode i t ≡ none → P (unchanged i t (record { answer = A.Unsound; count = 0 })))
         → ((hs : List Held) → decode i t ≡ some hs → isUtf8 s ≡ false
         → P (holding i t (insertTurn hs (A.NotUtf8 (validRun s)) 0)))
         → ((hs : List Held) → decode i t ≡ some hs → isUtf8 s ≡ true → P (holding i t (walked hs)))
-        → P (storeInsert i t s)
-    unfolding storeInsert bookInsert
+        → P (storeWalk i t s)
+    unfolding storeWalk bookWalk
     inserts-by P f g h = go (decode i t) refl
       where
         valid : (x : Bool) (hs : List Held) → isUtf8 s ≡ x → decode i t ≡ some hs
@@ -217,40 +218,48 @@ module _ (i t : List ℕ) (b : Bytes i) where
         go none p = f p
         go (some hs) p = valid (isUtf8 s) hs refl p
 
-    insert-leaves : (k : ℕ) → ((a : Answer) → Walks (length i) (length t) a → number a ≡ k → ⊥)
-        → number (storeInsert i t s .answer .answer) ≡ k → Untouched i t (storeInsert i t s)
-    insert-leaves k never =
+    walk-leaves : (k : ℕ) → ((a : Answer) → Walks (length i) (length t) a → number a ≡ k → ⊥)
+        → number (storeWalk i t s .answer .answer) ≡ k → Untouched i t (storeWalk i t s)
+    walk-leaves k never =
         inserts-by (λ d. number (d .answer .answer) ≡ k → Untouched i t d)
         (λ p e. refl)
         (λ hs p v e. kept hs (record { answer = A.NotUtf8 (validRun s); count = 0 }) p)
         (λ hs p v e. absurd (never (walked hs .answer .answer) (walks (length i) (length t) (linesOf s) hs 0) e))
 
+    insert-leaves : (k : ℕ) → ((a : Answer) → Walks (length i) (length t) a → number a ≡ k → ⊥)
+        → number (storeInsert i t s .answer .answer) ≡ k → Untouched i t (storeInsert i t s)
+    unfolding storeInsert
+    insert-leaves k never e =
+        ap (λ (d : Done Tally). record
+        { answer = insertedOf s (storeWalk i t s .answer); index = d .index; text = d .text })
+        (walk-leaves k never e)
+
   before-leaves : (s before : List ℕ) → isUtf8 s ≡ true → isUtf8 before ≡ true
       → linesOf before ≡ take (storeInsert i t s .answer .count) (linesOf s)
       → (number (storeInsert i t s .answer .answer) ≡ 19 → ⊥)
       → LinesBefore i t s before
-  unfolding storeInsert bookInsert
+  unfolding storeInsert storeWalk bookWalk
   before-leaves s before v w cut n = go (decode i t) refl
     where
       go : (o : Option (List Held)) → decode i t ≡ o → LinesBefore i t s before
       go none p = absurd (n (rw p refl))
       go (some hs) p =
-          let x : Turn Inserted = walked s hs in
-          let is : storeInsert i t s ≡ holding i t x = rw (p, v) refl in
+          let x : Turn Tally = walked s hs in
+          let is : storeWalk i t s ≡ holding i t x = rw (p, v) refl in
           let by : linesOf before ≡ take (x .answer .count) (linesOf s)
-          = cut ∙ ap (λ (d : Done Inserted). take (d .answer .count) (linesOf s)) is in
+          = cut ∙ ap (λ (d : Done Tally). take (d .answer .count) (linesOf s)) is in
           let z : x .answer .count ≡ 0 + x .answer .count = omega arith in
           let y : walked before hs ≡ insertTurn (x .held) A.Done (0 + x .answer .count)
           = ap (insertLines (length i) (length t) hs 0) by
           ∙ lines-before (length i) (length t) (linesOf s) hs 0 (x .answer .count) z in
-          let own : storeInsert i t before ≡ holding i t (insertTurn (x .held) A.Done (0 + x .answer .count))
+          let own : storeWalk i t before ≡ holding i t (insertTurn (x .held) A.Done (0 + x .answer .count))
           = rw (p, w) (ap (holding i t) y) in
           record {
-            answer = ap (λ (d : Done Inserted). d .answer .answer) own;
-            count = ap (λ (d : Done Inserted). d .answer .count) own ∙ sym z
-                ∙ sym (ap (λ (d : Done Inserted). d .answer .count) is);
-            index = ap (λ (d : Done Inserted). d .index) own ∙ sym (ap (λ (d : Done Inserted). d .index) is);
-            text = ap (λ (d : Done Inserted). d .text) own ∙ sym (ap (λ (d : Done Inserted). d .text) is);
+            answer = ap (λ (d : Done Tally). d .answer .answer) own;
+            count = ap (λ (d : Done Tally). d .answer .count) own ∙ sym z
+                ∙ sym (ap (λ (d : Done Tally). d .answer .count) is);
+            index = ap (λ (d : Done Tally). d .index) own ∙ sym (ap (λ (d : Done Tally). d .index) is);
+            text = ap (λ (d : Done Tally). d .text) own ∙ sym (ap (λ (d : Done Tally). d .text) is);
           }
 
   pub refusals-leave : RefusalsLeave i t

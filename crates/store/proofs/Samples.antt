@@ -8,7 +8,8 @@ use Prim.Native.Nat.{ℕ}
 use lib.ListN.{replicate}
 use Rattle.text.specs.Bytes.{ascii, same, firstOf}
 use Rattle.text.specs.Utf8.{begins, firstLength, charLength, runOf, validRun, isUtf8}
-use Rattle.text.specs.Uuid.{hexDigit, readHex, uuidOf, bigEndian}
+use Rattle.text.specs.Uuid.{hexDigit, readHex, hyphenated, uuidOf, bigEndian}
+use Rattle.text.specs.declared.uuid.Form.the-variants as Fm
 use Rattle.text.specs.declared.uuid.Uuid.{Uuid}
 use Rattle.text.specs.declared.uuid.UuidParse.the-variants.{Parsed, Invalid}
 use Rattle.store.specs.declared.calls.Answer.the-variants as A
@@ -17,8 +18,8 @@ use Rattle.store.specs.Layout.{recordBytes, records, texts, padded, enco
 use Rattle.store.specs.Decode.{bodyAt, headAt, headFits, zeroes, walk, decode}
 use Rattle.store.specs.Lines.{linesOf, forPlatform, wanted}
 use Rattle.text.specs.Search.{firstText}
-use Rattle.store.specs.Book.{under, lengths, noRoom, reach, insertLines, bookInsert}
-use Rattle.store.specs.Store.{storeClear, storeInsert}
+use Rattle.store.specs.Book.{under, lengths, noRoom, reach, insertLines, bookWalk, otherSpellings}
+use Rattle.store.specs.Store.{storeClear, storeWalk, storeInsert}
 
 -- UUIDs of zeros, and of zeros and a one
 nil : Uuid
@@ -30,6 +31,10 @@ one = record { high = 0; low = 1 }
 -- U, 32 zeros
 u : List ℕ
 u = ascii "00000000000000000000000000000000"
+
+-- U with hyphens
+h : List ℕ
+h = ascii "00000000-0000-0000-0000-000000000000"
 
 -- ---- lines
 
@@ -69,19 +74,19 @@ module _ where
 -- ---- wanted lines
 
 module _ where
-  no-platform : wanted (u ++ ascii ",T") ≡ Parsed nil
+  no-platform : wanted (u ++ ascii ",T") ≡ Parsed (record { id = nil; form = Fm.Simple })
   unfolding wanted forPlatform firstText uuidOf readHex hexDigit firstOf same u nil
   no-platform = refl
 
-  uuid-alone : wanted u ≡ Parsed nil
+  uuid-alone : wanted u ≡ Parsed (record { id = nil; form = Fm.Simple })
   unfolding wanted forPlatform firstText uuidOf readHex hexDigit firstOf same u nil
   uuid-alone = refl
 
-  for-linux : wanted (u ++ ascii ",T,platform:Linux,") ≡ Parsed nil
+  for-linux : wanted (u ++ ascii ",T,platform:Linux,") ≡ Parsed (record { id = nil; form = Fm.Simple })
   unfolding wanted forPlatform firstText uuidOf readHex hexDigit firstOf same u nil
   for-linux = refl
 
-  in-the-name : wanted (u ++ ascii ",myplatform:Linux,platform:Windows") ≡ Parsed nil
+  in-the-name : wanted (u ++ ascii ",myplatform:Linux,platform:Windows") ≡ Parsed (record { id = nil; form = Fm.Simple })
   unfolding wanted forPlatform firstText uuidOf readHex hexDigit firstOf same u nil
   in-the-name = refl
 
@@ -217,37 +222,53 @@ module _ where
 module _ where
   -- 19 comes before 10
   unsound-first : storeInsert (9 ∷ []) [] (255 ∷ [])
-      ≡ record { answer = record { answer = A.Unsound; count = 0 }; index = 9 ∷ []; text = [] }
-  unfolding storeInsert decode walk headAt zeroes
+      ≡ record { answer = record { answer = A.Unsound; count = 0; «not_simple» = 0 }; index = 9 ∷ []; text = [] }
+  unfolding storeInsert storeWalk otherSpellings decode walk headAt zeroes linesOf
   unsound-first = refl
 
   -- 10 at the length of the valid run, and nothing filed
   not-utf8 : storeInsert (0 ∷ []) [] (65 ∷ 195 ∷ [])
-      ≡ record { answer = record { answer = A.NotUtf8 1; count = 0 }; index = 0 ∷ []; text = [] }
-  unfolding storeInsert decode walk headAt zeroes distinct bookInsert isUtf8 validRun runOf charLength firstLength
+      ≡ record { answer = record { answer = A.NotUtf8 1; count = 0; «not_simple» = 0 }; index = 0 ∷ []; text = [] }
+  unfolding storeInsert storeWalk otherSpellings decode walk headAt zeroes distinct bookWalk isUtf8 validRun runOf charLength firstLength
       begins encodeIndex encodeText records texts padded
   not-utf8 = refl
 
   -- an unwanted line is counted, a wanted one filed without its CR
   filed : storeInsert (replicate 22 0) (replicate 33 0) (ascii "x\n" ++ (u ++ ascii "\r\n"))
       ≡ record {
-        answer = record { answer = A.Done; count = 2 };
+        answer = record { answer = A.Done; count = 2; «not_simple» = 0 };
         index = rec nil 0 32 ++ (0 ∷ []);
         text =
             u ++ (0 ∷ []);
       }
-  unfolding storeInsert decode walk headAt zeroes distinct bookInsert isUtf8 validRun runOf charLength firstLength
+  unfolding storeInsert storeWalk otherSpellings decode walk headAt zeroes distinct bookWalk isUtf8 validRun runOf charLength firstLength
       begins encodeIndex encodeText records texts padded linesOf insertLines reach wanted forPlatform firstText uuidOf
       readHex hexDigit firstOf same noRoom strike lengths file recordBytes bigEndian rec u nil
   filed = refl
 
   -- "index of 20 bytes": 21, after one line
   full : storeInsert (replicate 20 0) (replicate 33 0) (ascii "x\n" ++ u)
-      ≡ record { answer = record { answer = A.NoRoom; count = 1 }; index = replicate 20 0; text = replicate 33 0 }
-  unfolding storeInsert decode walk headAt zeroes distinct bookInsert isUtf8 validRun runOf charLength firstLength
+      ≡ record {
+        answer = record { answer = A.NoRoom; count = 1; «not_simple» = 0 };
+        index = replicate 20 0;
+        text = replicate 33 0;
+      }
+  unfolding storeInsert storeWalk otherSpellings decode walk headAt zeroes distinct bookWalk isUtf8 validRun runOf charLength firstLength
       begins encodeIndex encodeText records texts padded linesOf insertLines reach wanted forPlatform firstText uuidOf
       readHex hexDigit firstOf same noRoom strike lengths u nil
   full = refl
+
+  -- request P11: of the lines that are filed those in another form than 32 digits; one is replaced, one is not wanted,
+  -- and the last has no room
+  forms : storeInsert (replicate 21 0) (replicate 99 0)
+      (h ++ (ascii "\n{" ++ (h ++ (ascii "},T\n" ++ (u ++ (ascii "\nxinput,T\n" ++ (h ++ (ascii ",platform:Mac\n"
+      ++ ascii "00000000-0000-0000-0000-000000000001"))))))))
+      .answer
+      ≡ record { answer = A.NoRoom; count = 5; «not_simple» = 2 }
+  unfolding storeInsert storeWalk otherSpellings decode walk headAt zeroes distinct bookWalk isUtf8 validRun runOf
+      charLength firstLength begins linesOf insertLines reach wanted forPlatform firstText uuidOf hyphenated readHex
+      hexDigit firstOf same noRoom strike lengths file sameKey h u nil
+  forms = refl
 
   cleared : storeClear (9 ∷ []) (1 ∷ 2 ∷ []) ≡ record { answer = A.Done; index = 0 ∷ []; text = 0 ∷ 0 ∷ [] }
   unfolding storeClear

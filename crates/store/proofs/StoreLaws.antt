@@ -7,19 +7,20 @@ use Prim.Native.Nat.{ℕ, _≤_}
 use native.Mathlib.Nat.{sub-zero}
 use lib.ListN.{length}
 use borrow.Author.Tests.{le-leb}
-use Rattle.store.specs.Book.{Turn, bookClear, bookInsert, bookAttempt, Attempt, refused, files, Saving, Call}
+use Rattle.store.specs.Book.{Turn, bookClear, bookWalk, insertedOf, bookInsert, bookAttempt, Attempt, refused, files, Saving, Call}
 use Rattle.store.specs.Book.{clear, insert, save, Reply, inserted, saved, Run, bookTurn, runBook}
 use Rattle.store.specs.Decode.{decode}
 use Rattle.store.specs.Guarantee.{fresh}
 use Rattle.store.specs.Inner.{Good, Builds}
 use Rattle.store.specs.Held.{Key, Held, find, indexMax, textMax}
 use Rattle.store.specs.Layout.{records, texts, padded, encodeIndex, encodeText}
-use Rattle.store.specs.Store.{Done, onLines, storeClear, storeInsert, storeAttempt, answered, storeCall, Runs}
+use Rattle.store.specs.Store.{Done, onLines, storeClear, storeWalk, storeInsert, storeAttempt, answered, storeCall, Runs}
 use Rattle.store.specs.Store.{andRuns, runStore, lookUp, lookedAt, lookedIn}
 use Rattle.store.proofs.BookLaws.{keeps-none, keeps-turn, keeps-run}
 use Rattle.store.proofs.BoolLaws.{and-both}
 use Rattle.store.proofs.DecodeLaws.{length-index, length-text, decode-encoded}
 use Rattle.store.specs.declared.calls.Answer.the-variants as A
+use Rattle.store.specs.declared.calls.Tally.{Tally}
 
 module _ (n m : ℕ) where
   -- a turn and a run of the book, with the buffers that encode its lines
@@ -56,9 +57,15 @@ module _ (n m : ℕ) where
             ← fresh-text,
           )
 
+      walks : (s : List ℕ) → storeWalk (encodeIndex n hs) (encodeText m hs) s ≡ done (bookWalk n m hs s)
+      unfolding storeWalk
+      walks s = on-lines (record { answer = A.Unsound; count = 0 }) (λ a b ks. bookWalk a b ks s)
+
       inserts : (s : List ℕ) → storeInsert (encodeIndex n hs) (encodeText m hs) s ≡ done (bookInsert n m hs s)
-      unfolding storeInsert
-      inserts s = on-lines (record { answer = A.Unsound; count = 0 }) (λ a b ks. bookInsert a b ks s)
+      unfolding storeInsert bookInsert
+      inserts s =
+          ap (λ (d : Done Tally). record { answer = insertedOf s (d .answer); index = d .index; text = d .text })
+          (walks s)
 
       saves : {B : Type 0} (unsound full : B) (x : Attempt B)
           → storeAttempt unsound full (encodeIndex n hs) (encodeText m hs) x ≡ done (bookAttempt full n m hs x)

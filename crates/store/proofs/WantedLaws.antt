@@ -14,7 +14,7 @@ use Rattle.text.proofs.SmallLaws.{uuid-small}
 use Rattle.text.specs.Bytes.{pick, same, firstOf}
 use Rattle.text.specs.Uuid.{Small}
 use Rattle.text.specs.Uuid.{uuidOf}
-use Rattle.text.specs.declared.uuid.Uuid.{Uuid}
+use Rattle.text.specs.declared.uuid.Spelled.{Spelled}
 use Rattle.text.specs.declared.uuid.UuidParse.the-variants.{Parsed, Invalid}
 use Rattle.store.specs.Lines.{platform, forPlatform, wanted}
 use Rattle.line.specs.Fields.{firstField}
@@ -80,7 +80,7 @@ pub wanted-is : (l : List ℕ) → forPlatform l ≡ true → wanted l ≡ uuidO
 unfolding wanted
 wanted-is l e = rw e
 
-wanted-uuid : (l : List ℕ) (u : Uuid) → wanted l ≡ Parsed u → uuidOf (firstField l) ≡ Parsed u
+pub wanted-uuid : (l : List ℕ) (u : Spelled) → wanted l ≡ Parsed u → uuidOf (firstField l) ≡ Parsed u
 wanted-uuid l u e = go (forPlatform l) refl
   where
     go : (t : Bool) → forPlatform l ≡ t → uuidOf (firstField l) ≡ Parsed u
@@ -88,7 +88,7 @@ wanted-uuid l u e = go (forPlatform l) refl
     go false p = let q : Invalid ≡ Parsed u = sym (wanted-not l p) ∙ e in let z : _≡_ {A = ℕ} 0 1 = cc in
         absurd (omega arith)
 
-pub wanted-some : (l : List ℕ) (u : Uuid) → wanted l ≡ Parsed u → 1 ≤ length l
+pub wanted-some : (l : List ℕ) (u : Spelled) → wanted l ≡ Parsed u → 1 ≤ length l
 wanted-some [] u e = let q : Invalid ≡ Parsed u = sym none ∙ wanted-uuid [] u e in let z : _≡_ {A = ℕ} 0 1 = cc in
     absurd (omega arith)
   where
@@ -96,5 +96,5 @@ wanted-some [] u e = let q : Invalid ≡ Parsed u = sym none ∙ wanted-uuid [] 
     none = unfold uuidOf firstOf in refl
 wanted-some (b ∷ l) u e = omega arith
 
-pub wanted-small : (l : List ℕ) (u : Uuid) → wanted l ≡ Parsed u → Small u
+pub wanted-small : (l : List ℕ) (u : Spelled) → wanted l ≡ Parsed u → Small (u .id)
 wanted-small l u e = uuid-small (firstField l) u (wanted-uuid l u e)

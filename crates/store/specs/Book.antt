@@ -5,15 +5,18 @@ use mathlib.Core.Bool.{Bool, _||_}
 use mathlib.Core.List.{List, [], _∷_}
 use Prim.Native.Nat.{ℕ, suc, _+_, _*_}
 use lib.Dec.{ltb}
-use lib.ListN.{length}
+use lib.ListN.{length, take}
 use Rattle.text.specs.Bytes.{pick}
 use Rattle.text.specs.Utf8.{isUtf8, validRun}
 use Rattle.text.specs.declared.uuid.Uuid.{Uuid}
+use Rattle.text.specs.declared.uuid.Form.{Form}
+use Rattle.text.specs.declared.uuid.Form.the-variants as Fm
 use Rattle.text.specs.declared.uuid.UuidParse.{UuidParse}
 use Rattle.text.specs.declared.uuid.UuidParse.the-variants.{Parsed, Invalid}
 use Rattle.store.specs.declared.calls.Answer.{Answer}
 use Rattle.store.specs.declared.calls.Answer.the-variants as A
 use Rattle.store.specs.declared.calls.Inserted.{Inserted}
+use Rattle.store.specs.declared.calls.Tally.{Tally}
 use Rattle.store.specs.Held.{Held, strike, file, recordSize, lineMax}
 use Rattle.store.specs.Lines.{linesOf, wanted}
 use Rattle.store.specs.Refusals.{number}
@@ -57,16 +60,16 @@ under u l = record { key = u; line = l }
 -- other is filed"
 abbrev pub reachWanted : ℕ → ℕ → List Held → List ℕ → UuidParse → Reached
 reachWanted n m hs l Invalid = after hs
-reachWanted n m hs l (Parsed u) =
+reachWanted n m hs l (Parsed g) =
     pick (ltb lineMax (length l)) (stopped A.LineTooLong)
-    (pick (noRoom n m (under u l) hs) (stopped A.NoRoom)
-    (after (file (under u l) hs)))
+    (pick (noRoom n m (under (g .id) l) hs) (stopped A.NoRoom)
+    (after (file (under (g .id) l) hs)))
 
 -- a line that an insert reaches
 unfoldable pub reach : ℕ → ℕ → List Held → List ℕ → Reached
 reach n m hs l = reachWanted n m hs l (wanted l)
 
-abbrev pub insertTurn : List Held → Answer → ℕ → Turn Inserted
+abbrev pub insertTurn : List Held → Answer → ℕ → Turn Tally
 insertTurn hs a count = turn (record { answer = a; count = count }) hs
 
 abbrev pub onReached : {A : Type 0} → Reached → (Answer → A) → (List Held → A) → A
@@ -74,16 +77,44 @@ onReached (after hs) stop on = on hs
 onReached (stopped a) stop on = stop a
 
 -- "reaches the lines of the text it is given in order: an unwanted one is counted; [..] any other is filed and counted"
-unfoldable pub insertLines : ℕ → ℕ → List Held → ℕ → List (List ℕ) → Turn Inserted
+unfoldable pub insertLines : ℕ → ℕ → List Held → ℕ → List (List ℕ) → Turn Tally
 insertLines n m hs count [] = insertTurn hs A.Done count
 insertLines n m hs count (l ∷ ls) =
     onReached (reach n m hs l) (λ a. insertTurn hs a count) (λ hs′. insertLines n m hs′ (suc count) ls)
 
 -- "Insert answers 10 and counts 0 where 10 applies, and else reaches the lines of the text";
 -- the place of 10 is the length of the valid run
-unfoldable pub bookInsert : ℕ → ℕ → List Held → List ℕ → Turn Inserted
-bookInsert n m hs s =
+unfoldable pub bookWalk : ℕ → ℕ → List Held → List ℕ → Turn Tally
+bookWalk n m hs s =
     pick (isUtf8 s) (insertLines n m hs 0 (linesOf s)) (insertTurn hs (A.NotUtf8 (validRun s)) 0)
+
+-- request P11: "Insert's result gains the number of lines it filed whose form isn't 32 digits.": a line that is walked
+-- was filed where it is wanted
+abbrev pub otherForm : Form → ℕ
+otherForm Fm.Simple = 0
+otherForm Fm.Hyphenated = 1
+otherForm Fm.Braced = 1
+otherForm Fm.Urn = 1
+otherForm Fm.Xinput = 1
+
+abbrev pub otherSpelling : UuidParse → ℕ
+otherSpelling Invalid = 0
+otherSpelling (Parsed g) = otherForm (g .form)
+
+unfoldable pub otherSpellings : List (List ℕ) → ℕ
+otherSpellings [] = 0
+otherSpellings (l ∷ ls) = otherSpelling (wanted l) + otherSpellings ls
+
+-- an insert's answer: of the lines of the text those are told that were walked
+abbrev pub insertedOf : List ℕ → Tally → Inserted
+insertedOf s r = record {
+  answer = r .answer;
+  count = r .count;
+  «not_simple» = otherSpellings (take (r .count) (linesOf s));
+}
+
+unfoldable pub bookInsert : ℕ → ℕ → List Held → List ℕ → Turn Inserted
+bookInsert n m hs s = turn (insertedOf s (bookWalk n m hs s .answer)) (bookWalk n m hs s .held)
 
 -- ---- saves
 

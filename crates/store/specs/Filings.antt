@@ -25,7 +25,7 @@ filing p x a h = record { held = h; at = p; by = x; answer = a }
 
 -- an insert files the wanted lines that it reaches, up to the one that stops it
 abbrev pub filedLine : {S : Saving} → ℕ → Call S → Reply S → List ℕ → UuidParse → List (Filing S)
-filedLine p x a l (Parsed u) = filing p x a (under u l) ∷ []
+filedLine p x a l (Parsed g) = filing p x a (under (g .id) l) ∷ []
 filedLine p x a l Invalid = []
 
 unfoldable pub filedLines : {S : Saving} → ℕ → Call S → Reply S → ℕ → ℕ → List Held → List (List ℕ) → List (Filing S)

@@ -9,7 +9,7 @@ use Prim.Native.Nat.{ℕ, suc, _≤_}
 use lib.ListN.{length, replicate}
 use Rattle.text.specs.Bytes.{pick}
 use Rattle.text.specs.Utf8.{isUtf8}
-use Rattle.text.specs.declared.uuid.Uuid.{Uuid}
+use Rattle.text.specs.declared.uuid.Spelled.{Spelled}
 use Rattle.text.specs.declared.uuid.UuidParse.the-variants.{Parsed}
 use Rattle.store.specs.Held.{lineMax, Key, Held, file}
 use Rattle.map.specs.Build.{builtLine, builtMap}
@@ -18,7 +18,7 @@ use Rattle.store.specs.declared.calls.SaveAnswer.the-variants as Sv
 use Rattle.store.specs.declared.calls.Saved.{Saved}
 use Rattle.store.specs.Lines.{linesOf, wanted}
 use Rattle.store.specs.Decode.{decode}
-use Rattle.store.specs.Book.{noRoom, under, insertTurn, insertLines, Call, insert, save, Reply}
+use Rattle.store.specs.Book.{noRoom, under, insertTurn, insertLines, insertedOf, Call, insert, save, Reply}
 use Rattle.store.specs.Book.{inserted, saved, numberOf, Run, runBook}
 use Rattle.store.specs.Store.{Done, Runs, runStore, storeCall, lookUp, lookedIn}
 use Rattle.store.specs.Filings.{Filing, filings, lastFiled, lineFiled, nth}
@@ -97,14 +97,14 @@ pub record Guarantee (n m : ℕ) (xs : Calls) : Type 0 where
       (booked n m xs .held) (file (builtHeld (c .args)) (booked n m xs .held)))
   -- "or a wanted line that its insert reaches": the lines before it are passed, and hs is held when it is reached;
   -- where it is filed, the insert goes on with the rest
-  pub insert-room : (s : List ℕ) (passed : List (List ℕ)) (l : List ℕ) (rest : List (List ℕ)) (u : Uuid)
+  pub insert-room : (s : List ℕ) (passed : List (List ℕ)) (l : List ℕ) (rest : List (List ℕ)) (u : Spelled)
       (hs : List Held)
       → isUtf8 s ≡ true → linesOf s ≡ passed ++ (l ∷ rest)
       → insertLines n m (booked n m xs .held) 0 passed ≡ insertTurn hs A.Done (length passed)
       → wanted l ≡ Parsed u → length l ≤ lineMax
       → Leaves (next n m xs (insert s))
-      (pick (noRoom n m (under u l) hs)
-      (inserted (record { answer = A.NoRoom; count = length passed }))
-      (inserted (insertLines n m (file (under u l) hs) (suc (length passed)) rest .answer)))
-      (pick (noRoom n m (under u l) hs) hs
-      (insertLines n m (file (under u l) hs) (suc (length passed)) rest .held))
+      (pick (noRoom n m (under (u .id) l) hs)
+      (inserted (insertedOf s (record { answer = A.NoRoom; count = length passed })))
+      (inserted (insertedOf s (insertLines n m (file (under (u .id) l) hs) (suc (length passed)) rest .answer))))
+      (pick (noRoom n m (under (u .id) l) hs) hs
+      (insertLines n m (file (under (u .id) l) hs) (suc (length passed)) rest .held))

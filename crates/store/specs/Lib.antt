@@ -13,6 +13,7 @@ pub mod Guarantee
 pub mod Promises
 pub mod Older
 pub mod Near
+pub mod Forms
 -- what private functions and proofs need
 pub mod Inner
 pub mod Keys

@@ -12,6 +12,7 @@ use Rattle.text.specs.Bytes.{pick}
 use Rattle.text.specs.Search.{lf}
 use Rattle.text.specs.Utf8.{isUtf8}
 use Rattle.text.specs.declared.uuid.Uuid.{Uuid}
+use Rattle.text.specs.declared.uuid.Form.the-variants as Fm
 use Rattle.text.specs.declared.uuid.UuidParse.the-variants.{Parsed}
 use Rattle.map.specs.declared.error.MappingError.{MappingError}
 use Rattle.map.specs.declared.error.MappingAnswer.the-variants.{Refused}
@@ -79,7 +80,7 @@ savedLine a = builtLine (a .slots) (a .buttons) (a .axes) (a .name) (a .uuid)
 
 -- an insert of that line alone wants it under the save's UUID; where it is held, every look-up stays as it was
 pub record SavedAgain (n m : ℕ) (xs : Calls) (a : SaveArgs) : Type 0 where
-  pub is-wanted : wanted (savedLine a) ≡ Parsed (a .uuid)
+  pub is-wanted : wanted (savedLine a) ≡ Parsed (record { id = a .uuid; form = Fm.Simple })
   pub one-line : linesOf (savedLine a) ≡ savedLine a ∷ []
   pub same : lookUp (a .uuid) (stored n m xs .index) (stored n m xs .text) ≡ found (savedLine a)
       → (k : Key)

@@ -10,12 +10,13 @@ use Rattle.text.specs.Bytes.{pick}
 use Rattle.store.specs.declared.calls.Answer.{Answer}
 use Rattle.store.specs.declared.calls.Answer.the-variants as A
 use Rattle.store.specs.declared.calls.Inserted.{Inserted}
+use Rattle.store.specs.declared.calls.Tally.{Tally}
 use Rattle.store.specs.declared.calls.Look.{Look}
 use Rattle.store.specs.declared.calls.Look.the-variants as L
 use Rattle.store.specs.Held.{Key, Held, find, indexMax, textMax}
 use Rattle.store.specs.Layout.{encodeIndex, encodeText}
 use Rattle.store.specs.Decode.{decode}
-use Rattle.store.specs.Book.{Turn, bookInsert, bookAttempt, Attempt, refused, files, Saving, Call}
+use Rattle.store.specs.Book.{Turn, bookWalk, insertedOf, bookAttempt, Attempt, refused, files, Saving, Call}
 use Rattle.store.specs.Book.{clear, insert, save, Reply, cleared, inserted, saved}
 
 -- an answer, and the two buffers afterwards
@@ -52,10 +53,18 @@ storeClear i t =
     (record { answer = A.Done; index = replicate (length i) 0; text = replicate (length t) 0 })
     (unchanged i t A.BufferTooLarge)
 
--- "Insert 19, 10, then per line 20, 21"; "0 on 19 or 10"
+-- "Insert 19, 10, then per line 20, 21"; "0 on 19 or 10": the answer, and the lines walked
+unfoldable pub storeWalk : List ℕ → List ℕ → List ℕ → Done Tally
+storeWalk i t s =
+    onLines i t (decode i t) (record { answer = A.Unsound; count = 0 }) (λ hs. bookWalk (length i) (length t) hs s)
+
+-- an insert; request P11: "Insert's result gains the number of lines it filed whose form isn't 32 digits."
 unfoldable pub storeInsert : List ℕ → List ℕ → List ℕ → Done Inserted
-storeInsert i t s =
-    onLines i t (decode i t) (record { answer = A.Unsound; count = 0 }) (λ hs. bookInsert (length i) (length t) hs s)
+storeInsert i t s = record {
+  answer = insertedOf s (storeWalk i t s .answer);
+  index = storeWalk i t s .index;
+  text = storeWalk i t s .text;
+}
 
 -- "then 22, 19, 21": a save, by what its own checks come to
 abbrev pub storeAttempt : {B : Type 0} → B → B → List ℕ → List ℕ → Attempt B → Done B

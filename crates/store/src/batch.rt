@@ -83,7 +83,7 @@ fn reach_slot(
           lens = now (lens .exit);
         }) (now (heads .exit)) (now (next .exit)) r ⌝ }
 {
-    let UuidParse::Parsed(uuid) = wanted(&lines[at..at + len]) else {
+    let UuidParse::Parsed(spelled) = wanted(&lines[at..at + len]) else {
         return Step {
             on: true,
             answer: Answer::Done,
@@ -93,6 +93,7 @@ fn reach_slot(
     if LINE_MAX < len {
         return stop(Answer::LineTooLong, fill);
     }
+    let uuid = spelled.id;
     let filled = file_slot(
         index,
         text,

@@ -10,6 +10,7 @@ use crate::soundness::INDEX_MAX;
 use crate::soundness::LINE_MAX;
 use crate::soundness::TEXT_MAX;
 use crate::soundness::sound;
+use crate::spellings::other_spellings;
 use line::mapping::Mapping;
 use map::error::MappingAnswer;
 use map::error::MappingError;
@@ -20,7 +21,7 @@ use text::utf8::valid_up_to;
 use text::uuid::Uuid;
 ghost use mathlib.Core.Path.{_≡_};
 ghost use Rattle.store.specs.Saves.{saveArgs, storeSave};
-ghost use Rattle.store.specs.Store.{storeClear, storeInsert, lookUp, lineOf, saysOf};
+ghost use Rattle.store.specs.Store.{storeClear, storeWalk, storeInsert, lookUp, lineOf, saysOf};
 
 // What a call answers; `NotUtf8` with the length of the text's valid run.
 pub enum Answer {
@@ -32,10 +33,17 @@ pub enum Answer {
     BufferTooLarge,
 }
 
-// An insert's answer, and the lines walked.
+// What a walk over the lines of an insert comes to: the answer, and the lines walked.
+pub struct Tally {
+    pub answer: Answer,
+    pub count: usize,
+}
+
+// An insert's answer, the lines walked, and how many of them were filed in another form of the UUID than 32 digits.
 pub struct Inserted {
     pub answer: Answer,
     pub count: usize,
+    pub not_simple: usize,
 }
 
 // What a save answers: done, build's refusal, a name that has LF or `platform:`, or as the other calls.
@@ -95,20 +103,20 @@ pub fn clear(index: &mut [u8], text: &mut [u8]) -> Answer
     Answer::Done
 }
 
-// Files the wanted lines of a text, in order, up to one that is too long or has no room.
-pub fn insert(index: &mut [u8], text: &mut [u8], lines: &[u8]) -> Inserted
+// An insert, but for the number of lines in another form than 32 digits.
+fn walk_insert(index: &mut [u8], text: &mut [u8], lines: &[u8]) -> Tally
     ensures { λ r. ⌜
         record { answer = r; index = now (index .exit); text = now (text .exit) }
-        ≡ storeInsert (now (index .entry)) (now (text .entry)) (now (lines .entry)) ⌝ }
+        ≡ storeWalk (now (index .entry)) (now (text .entry)) (now (lines .entry)) ⌝ }
 {
     if !sound(index, text) {
-        return Inserted {
+        return Tally {
             answer: Answer::Unsound,
             count: 0,
         };
     }
     if !is_utf8(lines) {
-        return Inserted {
+        return Tally {
             answer: Answer::NotUtf8(valid_up_to(lines)),
             count: 0,
         };
@@ -120,13 +128,31 @@ pub fn insert(index: &mut [u8], text: &mut [u8], lines: &[u8]) -> Inserted
         count += part.count;
         if !part.on {
             let answer = part.answer;
-            return Inserted { answer, count };
+            return Tally { answer, count };
         }
         at = part.at;
     }
-    Inserted {
+    Tally {
         answer: Answer::Done,
         count,
+    }
+}
+
+// Files the wanted lines of a text, in order, up to one that is too long or has no room; tells how many of those it filed
+// spell the UUID in another form than 32 digits.
+pub fn insert(index: &mut [u8], text: &mut [u8], lines: &[u8]) -> Inserted
+    ensures { λ r. ⌜
+        record { answer = r; index = now (index .exit); text = now (text .exit) }
+        ≡ storeInsert (now (index .entry)) (now (text .entry)) (now (lines .entry)) ⌝ }
+{
+    let walked = walk_insert(index, text, lines);
+    let answer = walked.answer;
+    let count = walked.count;
+    let not_simple = other_spellings(lines, count);
+    Inserted {
+        answer,
+        count,
+        not_simple,
     }
 }
 

@@ -14,3 +14,4 @@ mod search;
 mod settle;
 mod slots;
 mod soundness;
+mod spellings;

@@ -11,6 +11,7 @@ use Rattle.text.specs.Uuid.{hexDigit, readHex, hyphenated, uuidOf, hexTe
 use Rattle.text.specs.Uuid.{withoutChecksum}
 use Rattle.text.specs.declared.decimal.IndexParse.the-variants as Index
 use Rattle.text.specs.declared.uuid.Uuid.{Uuid}
+use Rattle.text.specs.declared.uuid.Form.the-variants as F
 use Rattle.text.specs.declared.uuid.UuidParse.the-variants.{Parsed, Invalid}
 
 -- ---- UTF-8
@@ -41,11 +42,11 @@ byte-ff = refl
 abbrev example : Uuid
 example = record { high = 0xf81d4fae7dec11d0; low = 0xa76500a0c91e6bf6 }
 
-urn : uuidOf (ascii "urn:uuid:f81d4fae-7dec-11d0-a765-00a0c91e6bf6") ≡ Parsed example
+urn : uuidOf (ascii "urn:uuid:f81d4fae-7dec-11d0-a765-00a0c91e6bf6") ≡ Parsed (record { id = example; form = F.Urn })
 unfolding uuidOf hyphenated readHex hexDigit same
 urn = refl
 
-upper-in-braces : uuidOf (ascii "{F81D4FAE-7DEC-11D0-A765-00A0C91E6BF6}") ≡ Parsed example
+upper-in-braces : uuidOf (ascii "{F81D4FAE-7DEC-11D0-A765-00A0C91E6BF6}") ≡ Parsed (record { id = example; form = F.Braced })
 unfolding uuidOf hyphenated readHex hexDigit same
 upper-in-braces = refl
 
@@ -57,6 +58,18 @@ bytes-high-first : uuidBytes example ≡
     0xf8 ∷ 0x1d ∷ 0x4f ∷ 0xae ∷ 0x7d ∷ 0xec ∷ 0x11 ∷ 0xd0 ∷ 0xa7 ∷ 0x65 ∷ 0x00 ∷ 0xa0 ∷ 0xc9 ∷ 0x1e ∷ 0x6b ∷ 0xf6 ∷ []
 unfolding bigEndian
 bytes-high-first = refl
+
+upper-hyphenated : uuidOf (ascii "F81D4FAE-7DEC-11D0-A765-00A0C91E6BF6") ≡ Parsed (record { id = example; form = F.Hyphenated })
+unfolding uuidOf hyphenated readHex hexDigit same
+upper-hyphenated = refl
+
+upper-simple : uuidOf (ascii "F81D4FAE7DEC11D0A76500A0C91E6BF6") ≡ Parsed (record { id = example; form = F.Simple })
+unfolding uuidOf hyphenated readHex hexDigit same
+upper-simple = refl
+
+braces-alone : uuidOf (ascii "{f81d4fae7dec11d0a76500a0c91e6bf6}") ≡ Invalid
+unfolding uuidOf hyphenated readHex hexDigit same
+braces-alone = refl
 
 upper-urn : uuidOf (ascii "URN:UUID:f81d4fae-7dec-11d0-a765-00a0c91e6bf6") ≡ Invalid
 unfolding uuidOf hyphenated readHex hexDigit same

@@ -18,6 +18,7 @@ use Rattle.text.specs.Uuid.{lowerDigit, hexText, uuidText}
 use Rattle.text.specs.Inner.{after, every, either, isAscii, isLowerHex}
 use Rattle.text.specs.Decimal.{isDigit}
 use Rattle.text.specs.declared.uuid.UuidParse.the-variants.{Parsed, Invalid}
+use Rattle.text.specs.declared.uuid.Form.the-variants as F
 use Rattle.text.specs.declared.uuid.Uuid.{Uuid}
 use Rattle.text.specs.declared.uuid.Hex.{Hex}
 use Rattle.text.specs.declared.uuid.Hex.the-variants.{Number, NotHex}
@@ -96,15 +97,15 @@ pub uuid-32 : (s : List ℕ) → length s ≡ 32 → uuidOf s ≡ simple s
 unfolding uuidOf
 uuid-32 s e = rw e
 
-pub uuid-36 : (s : List ℕ) → length s ≡ 36 → uuidOf s ≡ hyphenated s
+pub uuid-36 : (s : List ℕ) → length s ≡ 36 → uuidOf s ≡ hyphenated F.Hyphenated s
 unfolding uuidOf
 uuid-36 s e = rw e
 
-pub uuid-38 : (s : List ℕ) → length s ≡ 38 → uuidOf s ≡ pick (inBraces s) (hyphenated (take 36 (drop 1 s))) Invalid
+pub uuid-38 : (s : List ℕ) → length s ≡ 38 → uuidOf s ≡ pick (inBraces s) (hyphenated F.Braced (take 36 (drop 1 s))) Invalid
 unfolding uuidOf
 uuid-38 s e = rw e
 
-pub uuid-45 : (s : List ℕ) → length s ≡ 45 → uuidOf s ≡ pick (afterUrn s) (hyphenated (drop 9 s)) Invalid
+pub uuid-45 : (s : List ℕ) → length s ≡ 45 → uuidOf s ≡ pick (afterUrn s) (hyphenated F.Urn (drop 9 s)) Invalid
 unfolding uuidOf
 uuid-45 s e = rw e
 
@@ -167,7 +168,7 @@ half-back : (n : ℕ) → n < 2 ^ 64 → readHex 0 (hexText 16 n) ≡ Number n
 half-back n h = rw (← append-nil (hexText 16 n)) (hex-back 16 n [] h ∙ hex-end n)
 
 -- a UUID that is written is read back
-pub uuid-back : (u : Uuid) → Small u → uuidOf (uuidText u) ≡ Parsed u
+pub uuid-back : (u : Uuid) → Small u → uuidOf (uuidText u) ≡ Parsed (record { id = u; form = F.Simple })
 uuid-back u small =
     let p = hexText-length 16 (u .high) in
     let q = hexText-length 16 (u .low) in

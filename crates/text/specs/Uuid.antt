@@ -10,6 +10,8 @@ use Rattle.text.specs.Bytes.{pick, both, byte, ascii, same}
 use Rattle.text.specs.declared.uuid.Uuid.{Uuid}
 use Rattle.text.specs.declared.uuid.Hex.{Hex}
 use Rattle.text.specs.declared.uuid.Hex.the-variants.{Number, NotHex}
+use Rattle.text.specs.declared.uuid.Form.{Form}
+use Rattle.text.specs.declared.uuid.Form.the-variants as F
 use Rattle.text.specs.declared.uuid.UuidParse.{UuidParse}
 use Rattle.text.specs.declared.uuid.UuidParse.the-variants.{Parsed, Invalid}
 
@@ -33,21 +35,21 @@ readHex a (d ∷ ds) = pick (ltb (hexDigit d) 16) (readHex (a * 16 + hexDigit d)
 
 -- ---- reading
 
--- a UUID of the number of its first sixteen digits and that of its last sixteen
-abbrev pub withLow : ℕ → Hex → UuidParse
-withLow h (Number l) = Parsed (record { high = h; low = l })
-withLow h NotHex = Invalid
+-- a UUID of the number of its first sixteen digits and that of its last sixteen, and which form was read
+abbrev pub withLow : Form → ℕ → Hex → UuidParse
+withLow f h (Number l) = Parsed (record { id = record { high = h; low = l }; form = f })
+withLow f h NotHex = Invalid
 
-abbrev pub joined : Hex → Hex → UuidParse
-joined (Number h) low = withLow h low
-joined NotHex low = Invalid
+abbrev pub joined : Form → Hex → Hex → UuidParse
+joined f (Number h) low = withLow f h low
+joined f NotHex low = Invalid
 
-abbrev pub ofDigits : List ℕ → List ℕ → UuidParse
-ofDigits first last = joined (readHex 0 first) (readHex 0 last)
+abbrev pub ofDigits : Form → List ℕ → List ℕ → UuidParse
+ofDigits f first last = joined f (readHex 0 first) (readHex 0 last)
 
 -- "32 hex digits"
 abbrev pub simple : List ℕ → UuidParse
-simple s = ofDigits (take 16 s) (drop 16 s)
+simple s = ofDigits F.Simple (take 16 s) (drop 16 s)
 
 -- a hyphen stands at that place
 abbrev pub hyphenAt : List ℕ → ℕ → Bool
@@ -61,10 +63,10 @@ abbrev pub lastGroups : List ℕ → List ℕ
 lastGroups s = take 4 (drop 19 s) ++ take 12 (drop 24 s)
 
 -- time-low "-" time-mid "-" time-high-and-version "-" clock-seq "-" node: 8, 4, 4, 4 and 12 digits
-unfoldable pub hyphenated : List ℕ → UuidParse
-hyphenated s =
+unfoldable pub hyphenated : Form → List ℕ → UuidParse
+hyphenated f s =
     pick (both (hyphenAt s 8) (both (hyphenAt s 13) (both (hyphenAt s 18) (hyphenAt s 23))))
-    (ofDigits (firstGroups s) (lastGroups s))
+    (ofDigits f (firstGroups s) (lastGroups s))
     Invalid
 
 -- "in braces"
@@ -76,13 +78,13 @@ abbrev pub afterUrn : List ℕ → Bool
 afterUrn s = same (take 9 s) (ascii "urn:uuid:")
 
 -- "32 hex digits; RFC 4122's form with hyphens (36 characters); that form in braces (38);
--- that form after lower-case `urn:uuid:` (45)"
+-- that form after lower-case `urn:uuid:` (45)"; request P11: "The UUID reader shall say which of the four forms it read"
 unfoldable pub uuidOf : List ℕ → UuidParse
 uuidOf s =
     pick (eqb (length s) 32) (simple s)
-    (pick (eqb (length s) 36) (hyphenated s)
-    (pick (both (eqb (length s) 38) (inBraces s)) (hyphenated (take 36 (drop 1 s)))
-    (pick (both (eqb (length s) 45) (afterUrn s)) (hyphenated (drop 9 s))
+    (pick (eqb (length s) 36) (hyphenated F.Hyphenated s)
+    (pick (both (eqb (length s) 38) (inBraces s)) (hyphenated F.Braced (take 36 (drop 1 s)))
+    (pick (both (eqb (length s) 45) (afterUrn s)) (hyphenated F.Urn (drop 9 s))
     Invalid)))
 
 -- ---- writing

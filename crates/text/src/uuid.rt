@@ -22,9 +22,25 @@ enum Hex {
     NotHex,
 }
 
+// How a UUID is spelled: 32 digits, with hyphens, with hyphens in braces, after `urn:uuid:`. `Xinput` is the word of
+// that name in the first field of a line, which the walker takes for the UUID of zeros.
+pub enum Form {
+    Simple,
+    Hyphenated,
+    Braced,
+    Urn,
+    Xinput,
+}
+
+// A UUID, and how it was spelled.
+pub struct Spelled {
+    pub id: Uuid,
+    pub form: Form,
+}
+
 // What a text is as a UUID.
 pub enum UuidParse {
-    Parsed(Uuid),
+    Parsed(Spelled),
     Invalid,
 }
 
@@ -82,9 +98,9 @@ fn hex_then(h: Hex, s: &[u8]) -> Hex
     }
 }
 
-// A UUID of its two halves.
-fn join_halves(high: Hex, low: Hex) -> UuidParse
-    ensures { λ r. ⌜ r ≡ joined high low ⌝ }
+// A UUID of its two halves, in that form.
+fn join_halves(form: Form, high: Hex, low: Hex) -> UuidParse
+    ensures { λ r. ⌜ r ≡ joined form high low ⌝ }
 {
     let Hex::Number(h) = high else {
         return UuidParse::Invalid;
@@ -92,7 +108,8 @@ fn join_halves(high: Hex, low: Hex) -> UuidParse
     let Hex::Number(l) = low else {
         return UuidParse::Invalid;
     };
-    UuidParse::Parsed(Uuid { high: h, low: l })
+    let id = Uuid { high: h, low: l };
+    UuidParse::Parsed(Spelled { id, form })
 }
 
 // 32 digits.
@@ -102,7 +119,7 @@ fn simple_uuid(s: &[u8]) -> UuidParse
 {
     let high = hex_more(0, &s[0..16]);
     let low = hex_more(0, &s[16..]);
-    join_halves(high, low)
+    join_halves(Form::Simple, high, low)
 }
 
 // The first three groups of digits: 8, 4 and 4.
@@ -124,10 +141,10 @@ fn last_groups(s: &[u8]) -> Hex
     hex_then(a, &s[24..36])
 }
 
-// 8, 4, 4, 4 and 12 digits with hyphens between.
-fn hyphenated_uuid(s: &[u8]) -> UuidParse
+// 8, 4, 4, 4 and 12 digits with hyphens between; `form`: what stands around them.
+fn hyphenated_uuid(form: Form, s: &[u8]) -> UuidParse
     requires { ⌜ length (now s) ≡ 36 ⌝ }
-    ensures { λ r. ⌜ r ≡ hyphenated (now (s .entry)) ⌝ }
+    ensures { λ r. ⌜ r ≡ hyphenated form (now (s .entry)) ⌝ }
 {
     if s[8] != b'-' {
         return UuidParse::Invalid;
@@ -143,7 +160,7 @@ fn hyphenated_uuid(s: &[u8]) -> UuidParse
     }
     let high = first_groups(s);
     let low = last_groups(s);
-    join_halves(high, low)
+    join_halves(form, high, low)
 }
 
 // A lower-case hexadecimal digit.
@@ -193,7 +210,7 @@ impl Uuid {
             return simple_uuid(s);
         }
         if s.len() == 36 {
-            return hyphenated_uuid(s);
+            return hyphenated_uuid(Form::Hyphenated, s);
         }
         if s.len() == 38 {
             if s[0] != b'{' {
@@ -202,11 +219,11 @@ impl Uuid {
             if s[37] != b'}' {
                 return UuidParse::Invalid;
             }
-            return hyphenated_uuid(&s[1..37]);
+            return hyphenated_uuid(Form::Braced, &s[1..37]);
         }
         if s.len() == 45 {
             if same_bytes(&s[0..9], b"urn:uuid:") {
-                return hyphenated_uuid(&s[9..]);
+                return hyphenated_uuid(Form::Urn, &s[9..]);
             }
         }
         UuidParse::Invalid

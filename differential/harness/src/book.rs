@@ -58,24 +58,25 @@ impl Book {
         true
     }
 
-    /// A refusal, if any, and the number of lines walked.
-    pub fn insert(&mut self, text: &[u8]) -> (Option<Refusal>, usize) {
+    /// A refusal, if any, the number of lines walked, and of those filed in another form than 32 digits (P11).
+    pub fn insert(&mut self, text: &[u8]) -> (Option<Refusal>, usize, usize) {
         if let Err(e) = std::str::from_utf8(text) {
-            return (Some(refusal_at(10, e.valid_up_to())), 0);
+            return (Some(refusal_at(10, e.valid_up_to())), 0, 0);
         }
-        let mut n = 0;
+        let (mut n, mut others) = (0, 0);
         for line in lines(text) {
             if let Some(u) = wanted(line) {
                 if line.len() > LINE_MAX {
-                    return (Some(refusal(20)), n);
+                    return (Some(refusal(20)), n, others);
                 }
                 if !self.file(u, line) {
-                    return (Some(refusal(21)), n);
+                    return (Some(refusal(21)), n, others);
                 }
+                others += usize::from(line.split(|b| *b == b',').next().unwrap().len() != 32);
             }
             n += 1;
         }
-        (None, n)
+        (None, n, others)
     }
 
     /// Build's answer, or 22 or 21; the line is filed where nothing is refused.

@@ -7,6 +7,7 @@ use std::time::Instant;
 pub enum Group {
     Utf8,
     Uuid,
+    Forms,
     Index,
     Writers,
     Elements,
@@ -34,9 +35,10 @@ pub enum Group {
     TwoPads,
 }
 
-pub const GROUPS: [(&str, &str); 27] = [
+pub const GROUPS: [(&str, &str); 28] = [
     ("utf8", "the longest valid run of UTF-8, with Rust's own reader"),
     ("uuid", "UUID texts, with the crate uuid"),
+    ("forms", "how a UUID is spelled, by the reader and in the walker's first token (document 02, P11, alone)"),
     ("index", "index numbers, with Rust's own reader"),
     ("writers", "UUID and index writers, with Rust's own formatting"),
     ("elements", "to_nec, is_stick, is_dpad, second_axis, is_button, every number"),

@@ -2,7 +2,7 @@
 use crate::check::{shown, Group, Tally};
 use crate::gen::{self, Rng};
 use crate::plain::{placed, refusal, Entry, Map, Refusal, Slots, Tok, Uuid, AXIS, FULL};
-use crate::{doc01, plain, port};
+use crate::{doc01, doc02, plain, port};
 use std::cell::Cell;
 use std::collections::BTreeMap;
 use std::panic::{catch_unwind, AssertUnwindSafe};
@@ -40,6 +40,7 @@ pub fn text(t: &mut Tally, s: &[u8]) {
     t.case(Group::Utf8, 0, Some(&(run, run == s.len())), &(run, run == s.len()), &got, &input);
     let id = std.ok().map(|s| oracle::parse_uuid(s));
     t.case(Group::Uuid, 0, id.as_ref(), &doc01::uuid(s), &port::parse_uuid(s), &input);
+    t.case(Group::Forms, 0, None, &doc02::form(s), &port::uuid_form(s), &input);
     let index = std.ok().map(|s| s.parse::<u16>().ok());
     t.case(Group::Index, 0, index.as_ref(), &doc01::index(s), &port::parse_u16(s), &input);
 }
@@ -142,6 +143,9 @@ pub fn idents(t: &mut Tally, e: u16) {
 pub fn line(t: &mut Tally, line: &[u8], b: &[u32], a: &[u32]) {
     let text = std::str::from_utf8(line).ok();
     walker(t, line, text);
+    if text.is_some() {
+        t.case(Group::Forms, 0, None, &doc02::first_form(line), &port::first_form(line), &|| shown(line));
+    }
     reading(t, line, text, b, a);
 }
 

@@ -1,4 +1,5 @@
 //! Document 02 on plain data: a second program for what no Rust has.
+use crate::doc01;
 use crate::plain::{Entry, Uuid, AXIS};
 use std::cmp::Ordering;
 
@@ -210,5 +211,21 @@ impl Pads {
         let before = self.values();
         self.0[second as usize].change_map(entries);
         changes(&before, &self.values())
+    }
+}
+
+/// P11: the form that a UUID is spelled in, by its length: 1 to 4, and 0 for none.
+pub fn form(s: &[u8]) -> u8 {
+    let lengths = [32, 36, 38, 45];
+    doc01::uuid(s).map_or(0, |_| 1 + lengths.iter().position(|n| *n == s.len()).unwrap() as u8)
+}
+
+/// P11: the same of the first token of a line that is UTF-8; `xinput` is 5. A comma has to follow.
+pub fn first_form(line: &[u8]) -> u8 {
+    let field = line.split(|b| *b == b',').next().unwrap();
+    match (field, field.len() < line.len()) {
+        (_, false) => 0,
+        (b"xinput", true) => 5,
+        (s, true) => form(s),
     }
 }

@@ -91,6 +91,16 @@ pub fn parse_uuid(s: &[u8]) -> Option<Uuid> {
     r.valid.then_some(bytes(r.id))
 }
 
+/// The form that a UUID is spelled in, 0 for none.
+pub fn uuid_form(s: &[u8]) -> u8 {
+    unsafe { ffi::raspteal_uuid_parse_str(s.as_ptr(), s.len()) }.form
+}
+
+/// The form in a line's first token, 0 where that is none.
+pub fn first_form(line: &[u8]) -> u8 {
+    unsafe { ffi::raspteal_first_form(line.as_ptr(), line.len()) }
+}
+
 pub fn parse_u16(s: &[u8]) -> Option<u16> {
     let r = unsafe { ffi::raspteal_parse_u16(s.as_ptr(), s.len()) };
     r.valid.then_some(r.number)
@@ -346,15 +356,15 @@ impl Store {
             ffi::raspteal_store_clear(self.index.as_mut_ptr(), self.index.len(), self.text.as_mut_ptr(), self.text.len())
         })
     }
-    /// A refusal, if any, and the lines walked.
-    pub fn insert(&mut self, lines: &[u8]) -> (Option<Refusal>, usize) {
+    /// A refusal, if any, the lines walked, and those filed in another form than 32 digits.
+    pub fn insert(&mut self, lines: &[u8]) -> (Option<Refusal>, usize, usize) {
         let r = unsafe {
             ffi::raspteal_store_insert(
                 self.index.as_mut_ptr(), self.index.len(), self.text.as_mut_ptr(), self.text.len(), lines.as_ptr(),
                 lines.len(),
             )
         };
-        (refused(r.refusal), r.count)
+        (refused(r.refusal), r.count, r.not_simple)
     }
     pub fn save(
         &mut self, data: &Data, buttons: &[u32], axes: &[u32], name: &[u8], uuid: Uuid,

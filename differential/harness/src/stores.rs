@@ -56,7 +56,7 @@ impl Sides {
 
     pub fn insert(&mut self, t: &mut Tally, lines: &[u8]) {
         self.history += &format!("; insert {}", shown(lines));
-        let doc = if self.sized() { self.book.insert(lines) } else { (Some(refusal(19)), 0) };
+        let doc = if self.sized() { self.book.insert(lines) } else { (Some(refusal(19)), 0, 0) };
         // outside its domain the Rust files more: it is left behind
         if doc.0.is_none() {
             if let (Some(db), Ok(text)) = (&mut self.db, std::str::from_utf8(lines)) {
@@ -145,7 +145,7 @@ impl Sides {
         let here = near::look_near(&self.store, [0; 16]);
         t.case(Group::Near, 19, None, &Err(refusal(19)), &here, &input);
         let here = self.store.insert(lines);
-        t.case(Group::Insert, 19, None, &(Some(refusal(19)), 0), &here, &input);
+        t.case(Group::Insert, 19, None, &(Some(refusal(19)), 0, 0), &here, &input);
         // save makes build's checks and 22 first
         let doc = Book::new(usize::MAX, usize::MAX).save(&s.doc, &[1, 2], &[3], b"T", [7; 16]).and(Err(refusal(19)));
         let here = self.store.save(&s.here, &[1, 2], &[3], b"T", [7; 16]);

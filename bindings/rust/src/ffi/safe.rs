@@ -139,6 +139,10 @@ pub fn first_token(line: &[u8]) -> Token {
     unsafe { raspteal_first_token(line.as_ptr(), line.len()) }
 }
 
+pub fn first_form(line: &[u8]) -> u8 {
+    unsafe { raspteal_first_form(line.as_ptr(), line.len()) }
+}
+
 pub fn count_tokens(line: &[u8]) -> Tokens {
     unsafe { raspteal_count_tokens(line.as_ptr(), line.len()) }
 }

@@ -166,7 +166,7 @@ fn history(r: &mut Rng, corpus: &[&str]) -> Option<Vec<String>> {
             text += &if r.one_in(16) { r.pick(corpus).to_string() } else { short_line(r) };
             text.push_str(r.pick(&["\n", "\n", "\r\n", "\r\r\n", "\r", "\n\n", ""]));
         }
-        let (refused, _) = book.insert(text.as_bytes());
+        let (refused, _, _) = book.insert(text.as_bytes());
         if refused.is_some() || text.contains('|') || text.len() > 8192 {
             return None;
         }

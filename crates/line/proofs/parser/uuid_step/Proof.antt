@@ -40,7 +40,12 @@ returns-2 : tie.Need-returns-2
 returns-2 c = simp (c .before .before .enum-told .given .1, c .take-step .ensures, c .before .refused .ensures)
 
 returns-3 : tie.Need-returns-3
-returns-3 c = simp (c .before .before .before .id .given .1, ne-eqb _ _ (c .before .if1 .left), c .take-step3 .ensures)
+returns-3 c =
+    simp (
+      c .before .before .before .before .id .given .1,
+      ne-eqb _ _ (c .before .before .if1 .left),
+      c .take-step3 .ensures,
+    )
 
 pub uuid-step-spec : {M : Type 1} → statement M
 uuid-step-spec =

@@ -20,8 +20,8 @@ part-wanted-end c = search needs
 wanted-requires : tie.Need-wanted-requires
 wanted-requires c κs = search needs
 
-enum-known-uuid : tie.Need-enum-known-uuid
-enum-known-uuid c = search needs
+enum-known-spelled : tie.Need-enum-known-spelled
+enum-known-spelled c = search needs
 
 enum-told : tie.Need-enum-told
 enum-told c = search needs
@@ -48,7 +48,7 @@ returns-2 c =
     slot-long (args .index .now) (args .text .now) (args .lines .now) _
     (args .heads .now) (args .next .now) (args .fill) (args .at) (args .len) (pre .0 .1)
     _ (wanted-part (args .lines .now) (args .at) (args .len) _ _
-    (c .before .before .before .before .before .wanted .ensures) (c .before .before .before .uuid .given .1))
+    (c .before .before .before .before .before .wanted .ensures) (c .before .before .before .spelled .given .1))
     (c .before .if1 .taken) (c .stop .result) (c .stop .ensures)
 
 file-slot-requires : tie.Need-file-slot-requires
@@ -56,8 +56,8 @@ file-slot-requires c κs =
     let back5 = c .before .before .before .before .before in
     let back10 = back5 .before .before .before .before .before in
     let back15 = back10 .before .before .before .before .before in
-    let args = back15 .args in
-    let pre = back15 .pre in (
+    let args = back15 .before .args in
+    let pre = back15 .before .pre in (
       pre .0 .0,
       (
         args .lines .now,
@@ -67,9 +67,9 @@ file-slot-requires c κs =
             pre .1 .1 .0,
             slot-files (args .index .now) (args .text .now) (args .lines .now) _
                 (args .heads .now) (args .next .now) (args .fill) (args .at) (args .len) (pre .0 .1)
-                _ (wanted-part (args .lines .now) (args .at) (args .len) _ _ (back10 .wanted .ensures)
-                (back5 .before .before .before .uuid .given .1))
-                (back5 .before .if1 .left) (pre .1 .0) (pre .1 .1 .0) (pre .1 .1 .1),
+                _ (wanted-part (args .lines .now) (args .at) (args .len) _ _ (back10 .before .wanted .ensures)
+                (back5 .before .before .before .before .spelled .given .1))
+                (back5 .before .before .if1 .left) (pre .1 .0) (pre .1 .1 .0) (pre .1 .1 .1),
           ),
         ),
       ),
@@ -84,13 +84,13 @@ returns-3 c =
     let back10 = back5 .before .before .before .before .before in
     let back15 = back10 .before .before .before .before .before in
     let back20 = back15 .before .before .before .before .before in
-    let args = back20 .args in
-    let pre = back20 .pre in
+    let args = back20 .before .args in
+    let pre = back20 .before .pre in
     slot-full (args .index .now) (args .text .now) (args .lines .now) _
     (args .heads .now) (args .next .now) (args .fill) (args .at) (args .len) (pre .0 .1)
-    _ (wanted-part (args .lines .now) (args .at) (args .len) _ _ (back15 .wanted .ensures)
-    (back10 .before .before .before .uuid .given .1))
-    (back10 .before .if1 .left) _ _ _ (c .before .before .before .before .file-slot .result)
+    _ (wanted-part (args .lines .now) (args .at) (args .len) _ _ (back15 .before .wanted .ensures)
+    (back10 .before .before .before .before .spelled .given .1))
+    (back10 .before .before .if1 .left) _ _ _ (c .before .before .before .before .file-slot .result)
     (c .before .before .before .before .file-slot .ensures) (c .before .if2 .taken)
     (c .stop2 .result) (c .stop2 .ensures)
 
@@ -99,13 +99,13 @@ returns-4 c =
     let back5 = c .before .before .before .before .before in
     let back10 = back5 .before .before .before .before .before in
     let back15 = back10 .before .before .before .before .before in
-    let args = back15 .before .before .before .before .args in
-    let pre = back15 .before .before .before .before .pre in
+    let args = back15 .before .before .before .before .before .args in
+    let pre = back15 .before .before .before .before .before .pre in
     slot-filed (args .index .now) (args .text .now) (args .lines .now) _
     (args .heads .now) (args .next .now) (args .fill) (args .at) (args .len) (pre .0 .1)
     _ (wanted-part (args .lines .now) (args .at) (args .len) _ _
-    (back10 .before .before .before .before .wanted .ensures) (back10 .before .before .uuid .given .1))
-    (back10 .if1 .left) _ _ _ (c .before .before .before .file-slot .result)
+    (back15 .wanted .ensures) (back10 .before .before .before .spelled .given .1))
+    (back10 .before .if1 .left) _ _ _ (c .before .before .before .file-slot .result)
     (c .before .before .before .file-slot .ensures) (c .if2 .left)
 
 pub reach-slot-spec : {M : Type 1} → statement M
@@ -117,7 +117,7 @@ reach-slot-spec =
     part-wanted-start
     part-wanted-end
     wanted-requires
-    enum-known-uuid
+    enum-known-spelled
     enum-told
     returns
     stop-requires

@@ -5,6 +5,7 @@ use mathlib.Core.Path.{ap, sym, _∙_}
 use borrow.Author.Tests.{eq-eqb, ne-eqb}
 use lib.ListN.{getD}
 use Rattle.text.specs.Uuid.{hyphenated}
+use Rattle.text.specs.declared.uuid.Form.the-variants as F
 use Rattle.text.proofs.ListLaws.{part-to-end}
 use Rattle.text.proofs.UuidLaws.{uuid-32, uuid-36, uuid-38, uuid-45, uuid-other}
 use Rattle.text.proofs.uuid.Uuid.parse_str.Statement.{statement}
@@ -96,7 +97,7 @@ hyphenated-uuid-requires-3 c κs = search needs
 returns-6 : tie.Need-returns-6
 returns-6 c =
     let s = c .before .before .before .before .before .before .before .before .before .before .before .args .s .now in
-    c .hyphenated-uuid3 .ensures ∙ ap hyphenated (part-to-end s 9)
+    c .hyphenated-uuid3 .ensures ∙ ap (hyphenated F.Urn) (part-to-end s 9)
     ∙ sym (uuid-45 s (c .before .before .before .before .before .before .if6 .taken)
     ∙ rw (sym (c .before .before .before .same-bytes .ensures) ∙ c .before .before .if7 .taken))
 

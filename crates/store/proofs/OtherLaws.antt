@@ -1,0 +1,98 @@
+-- Lines in another form than 32 digits: counted line by line, and those that an insert filed.
+-- Assumes nothing.
+use mathlib.Core.List.{List, [], _∷_, _++_}
+use mathlib.Core.Path.{_≡_, refl, sym, ap, _∙_}
+use Prim.Native.Nat.{ℕ, zero, suc, _+_, _-_, _≤_, _<_}
+use native.Mathlib.Omega.{arith}
+use lib.ListN.{length, take, drop}
+use Rattle.text.specs.Bytes.{firstOf}
+use Rattle.text.specs.Search.{lf}
+use Rattle.store.specs.declared.calls.Inserted.{Inserted}
+use Rattle.store.specs.declared.calls.Tally.{Tally}
+use Rattle.store.specs.Book.{otherSpelling, otherSpellings, insertedOf}
+use Rattle.store.specs.Inner.{firstLine}
+use Rattle.store.specs.Lines.{linesOf, wanted}
+use Rattle.store.specs.Store.{Done, storeWalk, storeInsert}
+use Rattle.store.proofs.LineLaws.{cut-at, lines-end, plus-minus}
+
+others-cons : (l : List ℕ) (ls : List (List ℕ)) → otherSpellings (l ∷ ls) ≡ otherSpelling (wanted l) + otherSpellings ls
+unfolding otherSpellings
+others-cons l ls = refl
+
+others-none : (k : ℕ) → otherSpellings (take k []) ≡ 0
+unfolding otherSpellings
+others-none zero = refl
+others-none (suc k) = refl
+
+others-zero : (ls : List (List ℕ)) → otherSpellings (take 0 ls) ≡ 0
+unfolding otherSpellings
+others-zero ls = refl
+
+-- the loop of `other_spellings`: what is counted and what is left make up the whole
+pub record Othering (s : List ℕ) (count at left other : ℕ) : Type 0 where
+  pub within : at ≤ length s + 1
+  pub few : other ≤ at
+  pub run : other + otherSpellings (take left (linesOf (drop at s))) ≡ otherSpellings (take count (linesOf s))
+
+module _ (s : List ℕ) (count : ℕ) where
+  pub other-first : Othering s count 0 count 0
+  other-first = record { within = omega arith; few = omega arith; run = omega arith }
+
+  module _ (at left other : ℕ) (w : Othering s count at left other) where
+    pub other-turn : at < length s → 0 < left → (end : ℕ) → end ≡ firstOf lf (drop at s) → at + end ≤ length s
+        → (line : List ℕ) → line ≡ firstLine (drop at s) → (v : ℕ) → v ≡ otherSpelling (wanted line) → v ≤ 1
+        → Othering s count (at + (end + 1)) (left - 1) (other + v)
+    other-turn l p end e b line el v ev most = record {
+      within = omega arith;
+      few = omega (arith, w .few);
+      run = sum ∙ w .run;
+    }
+      where
+        rest : ℕ
+        rest = otherSpellings (take (left - 1) (linesOf (drop (at + (end + 1)) s)))
+
+        cut : otherSpellings (take left (linesOf (drop at s))) ≡ v + rest
+        cut =
+            let one : left ≡ suc (left - 1) = omega arith in
+            ap (λ (k : ℕ). otherSpellings (take k (linesOf (drop at s)))) one
+            ∙ ap (λ (ls : List (List ℕ)). otherSpellings (take (suc (left - 1)) ls)) (cut-at s at end l e)
+            ∙ others-cons (firstLine (drop at s)) (take (left - 1) (linesOf (drop (at + (end + 1)) s)))
+            ∙ ap (λ (x : List ℕ). otherSpelling (wanted x) + rest) (sym el) ∙ ap (λ (k : ℕ). k + rest) (sym ev)
+
+        sum : other + v + rest ≡ other + otherSpellings (take left (linesOf (drop at s)))
+        sum = omega (arith, cut)
+
+    pub other-end : length s ≤ at → other ≡ otherSpellings (take count (linesOf s))
+    other-end l =
+        let none : otherSpellings (take left (linesOf (drop at s))) ≡ 0
+        = ap (λ (ls : List (List ℕ)). otherSpellings (take left ls)) (lines-end s at l) ∙ others-none left in
+        omega (arith, none, w .run)
+
+    pub other-all : left ≤ 0 → other ≡ otherSpellings (take count (linesOf s))
+    other-all l =
+        let z : left ≡ 0 = omega arith in
+        let none : otherSpellings (take left (linesOf (drop at s))) ≡ 0
+        = ap (λ (k : ℕ). otherSpellings (take k (linesOf (drop at s)))) z ∙ others-zero (linesOf (drop at s)) in
+        omega (arith, none, w .run)
+
+-- the line that the loop cut off
+pub other-part : (s : List ℕ) (at len v : ℕ) → v ≡ otherSpelling (wanted (take (at + len - at) (drop at s)))
+    → v ≡ otherSpelling (wanted (take len (drop at s)))
+other-part s at len v e = e ∙ ap (λ (k : ℕ). otherSpelling (wanted (take k (drop at s)))) (plus-minus at len)
+
+-- what a walk comes to, with that number
+pub insert-told : (i t s i′ t′ : List ℕ) (w : Tally) (k : ℕ) → record { answer = w; index = i′; text = t′ } ≡ storeWalk i t s
+    → k ≡ otherSpellings (take (w .count) (linesOf s))
+    → record {
+      answer = record { answer = w .answer; count = w .count; «not_simple» = k };
+      index = i′;
+      text = t′;
+    } ≡ storeInsert i t s
+unfolding storeInsert
+insert-told i t s i′ t′ w k e q =
+    ap (λ (j : ℕ). record {
+      answer = record { answer = w .answer; count = w .count; «not_simple» = j };
+      index = i′;
+      text = t′;
+    }) q
+    ∙ ap (λ (d : Done Tally). record { answer = insertedOf s (d .answer); index = d .index; text = d .text }) e
