@@ -1,4 +1,4 @@
--- The steps of an insert by number: the exits of `reach_slot`, the turns of `take_lines`, and a batch's end.
+-- The steps of an insert by number: the exits of `reach_row`, the turns of `take_lines`, and a batch's end.
 -- Assumes nothing.
 use mathlib.Core.Bool.{Bool, true, false}
 use mathlib.Core.List.{List}
@@ -7,14 +7,14 @@ use mathlib.Core.Path.{_≡_, refl, sym, ap, ap₂, _∙_, subst}
 use Prim.Native.Nat.{ℕ, suc, _+_, _-_, _≤_, _<_}
 use native.Mathlib.Numerals.{add-one}
 use native.Mathlib.Omega.{arith}
-use lib.ListN.{length, take, drop, replicate, length-drop, length-replicate}
+use lib.ListN.{length, take, drop, length-drop}
 use lib.Seq.{length-take-le}
 use Rattle.text.proofs.ListLaws.{part-to-end}
 use Rattle.text.specs.Bytes.{firstOf}
 use Rattle.text.specs.declared.uuid.Spelled.{Spelled}
 use Rattle.text.specs.declared.uuid.UuidParse.{UuidParse}
 use Rattle.text.specs.declared.uuid.UuidParse.the-variants.{Parsed, Invalid}
-use Rattle.store.specs.declared.slots.Fill.{Fill}
+use Rattle.store.specs.declared.table.Fill.{Fill}
 use Rattle.store.specs.declared.calls.Answer.{Answer}
 use Rattle.store.specs.declared.batch.Step.{Step}
 use Rattle.store.specs.declared.batch.Walked.{Walked}
@@ -24,19 +24,19 @@ use Rattle.store.specs.Held.{Held, file, indexMax, textMax, lineMax}
 use Rattle.text.specs.Search.{lf}
 use Rattle.store.specs.Layout.{Bytes}
 use Rattle.store.specs.Inner.{Good, firstLine, known}
-use Rattle.store.specs.Keys.{slots}
+use Rattle.store.specs.Keys.{rowsMax}
 use Rattle.store.specs.Lines.{linesOf, wanted}
-use Rattle.store.specs.Slots.{Table, Long, Tabled, Settles, Settled, Slotted, Loads, Files′, Filed, fits, full}
-use Rattle.store.specs.Slots.{FilesSlot, Comes, goes, stops}
-use Rattle.store.specs.Slots.{Slotting, ReachesSlot, Takes, onward, halted, Went, TakesLines, Encoded, Batches}
+use Rattle.store.specs.Table.{Tabled, Settles, Settled, InRows, Loads, Files′, Filed, fits, full}
+use Rattle.store.specs.Table.{FilesRow, Comes, goes, stops}
+use Rattle.store.specs.Table.{SomeRows, ReachesRow, Takes, onward, halted, Went, TakesLines, Encoded, Batches}
 use Rattle.store.proofs.BookLaws.{wanted-shape, Kept, keeps-reach}
 use Rattle.store.proofs.DecodeLaws.{laid, lines-of}
 use Rattle.store.proofs.InsertLaws.{reach-not, reach-long, reach-room}
 use Rattle.store.proofs.LineLaws.{cut-at, plus-minus}
 use Rattle.store.specs.declared.calls.Answer.the-variants as A
 
--- the exits of `reach_slot`
-module _ (i t s : List ℕ) (a : Table) (heads next : List ℕ) (f : Fill) (at len : ℕ)
+-- the exits of `reach_row`
+module _ (i t s : List ℕ) (a : List ℕ) (heads next : List ℕ) (f : Fill) (at len : ℕ)
     (inside : at + len ≤ length s) where
   abbrev l : List ℕ
   l = take len (drop at s)
@@ -45,27 +45,27 @@ module _ (i t s : List ℕ) (a : Table) (heads next : List ℕ) (f : Fill) (at l
   part-long = length-take-le len (drop at s) (omega (arith, length-drop at s))
 
   pub slot-not : wanted l ≡ Invalid
-      → ReachesSlot i t s a heads next f l a heads next (record { on = true; answer = A.Done; fill = f })
+      → ReachesRow i t s a heads next f l a heads next (record { on = true; answer = A.Done; fill = f })
   slot-not e old hs w = goes hs (reach-not (length i) (length t) hs l e) refl w
 
   module _ (u : Spelled) (e : wanted l ≡ Parsed u) where
     pub slot-long : lineMax < len → (r : Step) → r ≡ record { on = false; answer = A.LineTooLong; fill = f }
-        → ReachesSlot i t s a heads next f l a heads next r
-    slot-long p r er = subst (ReachesSlot i t s a heads next f l a heads next) (sym er)
+        → ReachesRow i t s a heads next f l a heads next r
+    slot-long p r er = subst (ReachesRow i t s a heads next f l a heads next) (sym er)
         (λ old hs w. stops (reach-long (length i) (length t) hs l u e (omega (arith, part-long))) refl (w .tabled))
 
     module _ (p : len ≤ lineMax) where
-      pub slot-files : (old : ℕ) (hs : List Held) → Slotted i t s a heads next old f hs
+      pub slot-files : (old : ℕ) (hs : List Held) → InRows i t s a heads next old f hs
           → Files′ i t s a heads next old f (u .id) at len hs
       slot-files old hs w =
           let v = wanted-shape l u e (omega (arith, part-long)) in
-          record { slotted = w; inside = inside; shape = record { some = v .some; most = v .most } }
+          record { in-rows = w; inside = inside; shape = record { some = v .some; most = v .most } }
 
-      module _ (a′ : Table) (heads′ next′ : List ℕ) (r : Fill)
-          (g : FilesSlot i t a heads next f (u .id) at len a′ heads′ next′ r) where
+      module _ (a′ : List ℕ) (heads′ next′ : List ℕ) (r : Fill)
+          (g : FilesRow i t a heads next f (u .id) at len a′ heads′ next′ r) where
         pub slot-full : r .count ≡ f .count → (v : Step) → v ≡ record { on = false; answer = A.NoRoom; fill = f }
-            → ReachesSlot i t s a heads next f l a′ heads′ next′ v
-        slot-full z v ev = subst (ReachesSlot i t s a heads next f l a′ heads′ next′) (sym ev)
+            → ReachesRow i t s a heads next f l a′ heads′ next′ v
+        slot-full z v ev = subst (ReachesRow i t s a heads next f l a′ heads′ next′) (sym ev)
             (λ old hs w. go old hs (g s old hs (slot-files old hs w)))
           where
             go : (old : ℕ) (hs : List Held) → Filed i t s a′ heads′ next′ old f (under (u .id) l) hs r
@@ -74,7 +74,7 @@ module _ (i t s : List ℕ) (a : Table) (heads next : List ℕ) (f : Fill) (at l
             go old hs (full q c y) = stops (reach-room (length i) (length t) hs l u e (omega (arith, part-long)) false q) refl y
 
         pub slot-filed : (r .count ≡ f .count → ⊥)
-            → ReachesSlot i t s a heads next f l a′ heads′ next′ (record { on = true; answer = A.Done; fill = r })
+            → ReachesRow i t s a heads next f l a′ heads′ next′ (record { on = true; answer = A.Done; fill = r })
         slot-filed z old hs w = go (g s old hs (slot-files old hs w))
           where
             go : Filed i t s a′ heads′ next′ old f (under (u .id) l) hs r
@@ -107,23 +107,23 @@ runs-line n m s at end l e line el hs c =
     (λ ks. insertLines n m ks (suc c) (linesOf (drop (at + (end + 1)) s)))) (sym el)
 
 -- the loop of `take_lines`: the lines before `at` are filed, and the rest has the whole's answer
-pub record Took (i t s : List ℕ) (a : Table) (heads next : List ℕ) (from old : ℕ) (f : Fill) (at count : ℕ)
+pub record Took (i t s : List ℕ) (a : List ℕ) (heads next : List ℕ) (from old : ℕ) (f : Fill) (at count : ℕ)
     (hs : List Held) : Type 0 where
   pub ks : List Held
-  pub slotted : Slotted i t s a heads next old f ks
+  pub in-rows : InRows i t s a heads next old f ks
   pub keeps : Good (length i) (length t) hs → Good (length i) (length t) ks
   pub run : (c : ℕ) → insertLines (length i) (length t) hs c (linesOf (drop from s)) ≡ insertLines (length i) (length t) ks (c + count)
       (linesOf (drop at s))
 
-pub record Taking (i t s : List ℕ) (a₀ : Table) (heads₀ next₀ : List ℕ) (from : ℕ) (f₀ : Fill) (a : Table)
+pub record Taking (i t s : List ℕ) (a₀ : List ℕ) (heads₀ next₀ : List ℕ) (from : ℕ) (f₀ : Fill) (a : List ℕ)
     (heads next : List ℕ) (f : Fill) (at count : ℕ) : Type 0 where
   pub within : at ≤ length s + 1
   pub counted : from + count ≤ at
   pub still : at ≡ from → f .count ≡ f₀ .count
-  pub took : (old : ℕ) (hs : List Held) → Slotted i t s a₀ heads₀ next₀ old f₀ hs
+  pub took : (old : ℕ) (hs : List Held) → InRows i t s a₀ heads₀ next₀ old f₀ hs
       → Took i t s a heads next from old f at count hs
 
-module _ (i t s : List ℕ) (a₀ : Table) (heads₀ next₀ : List ℕ) (from : ℕ) (f₀ : Fill) where
+module _ (i t s : List ℕ) (a₀ : List ℕ) (heads₀ next₀ : List ℕ) (from : ℕ) (f₀ : Fill) where
   pub take-first : from ≤ length s + 1 → Taking i t s a₀ heads₀ next₀ from f₀ a₀ heads₀ next₀ f₀ from 0
   take-first l = record {
     within = l;
@@ -131,37 +131,37 @@ module _ (i t s : List ℕ) (a₀ : Table) (heads₀ next₀ : List ℕ) (from :
     still = λ e. refl;
     took = λ old hs w. record {
       ks = hs;
-      slotted = w;
+      in-rows = w;
       keeps = λ g. g;
       run = λ c. let z : c ≡ c + 0 = omega arith in
           ap (λ (k : ℕ). insertLines (length i) (length t) hs k (linesOf (drop from s))) z;
     };
   }
 
-  module _ (a : Table) (heads next : List ℕ) (f : Fill) (at count : ℕ)
+  module _ (a : List ℕ) (heads next : List ℕ) (f : Fill) (at count : ℕ)
       (w : Taking i t s a₀ heads₀ next₀ from f₀ a heads next f at count) where
-    pub taken : Slotting i t s a₀ heads₀ next₀ f₀ → Slotting i t s a heads next f
-    taken p = (p .0, (w .took (p .0) (p .1 .0) (p .1 .1) .ks, w .took (p .0) (p .1 .0) (p .1 .1) .slotted))
+    pub taken : SomeRows i t s a₀ heads₀ next₀ f₀ → SomeRows i t s a heads next f
+    taken p = (p .0, (w .took (p .0) (p .1 .0) (p .1 .1) .ks, w .took (p .0) (p .1 .0) (p .1 .1) .in-rows))
 
     pub first-at : from ≤ at
     first-at = omega (arith, w .counted)
 
     -- the insert goes on from `at`
-    pub take-on : (f₀ .count < slots → from < length s → from < at) → (r : Walked)
+    pub take-on : (f₀ .count < rowsMax → from < length s → from < at) → (r : Walked)
         → r ≡ record { on = true; answer = A.Done; at = at; count = count; filled = f .count }
         → TakesLines i t s a₀ heads₀ next₀ from f₀ a r × Went s from (f₀ .count) r
     take-on g r e =
         subst (λ (v : Walked). TakesLines i t s a₀ heads₀ next₀ from f₀ a v × Went s from (f₀ .count) v) (sym e) (
           λ old hs p.
               let x : Took i t s a heads next from old f at count hs = w .took old hs p in
-              onward (x .ks) refl (x .run) (x .keeps) (x .slotted .tabled),
+              onward (x .ks) refl (x .run) (x .keeps) (x .in-rows .tabled),
           record { within = w .within; counted = w .counted; moved = λ p q o. g p q },
         )
 
     -- one line on
     module _ (l : at < length s) (end : ℕ) (e : end ≡ firstOf lf (drop at s)) (line : List ℕ)
-        (el : line ≡ firstLine (drop at s)) (r : Step) (a′ : Table) (heads′ next′ : List ℕ)
-        (g : ReachesSlot i t s a heads next f line a′ heads′ next′ r) where
+        (el : line ≡ firstLine (drop at s)) (r : Step) (a′ : List ℕ) (heads′ next′ : List ℕ)
+        (g : ReachesRow i t s a heads next f line a′ heads′ next′ r) where
       stopped-at : r .on ≡ false
           → TakesLines i t s a₀ heads₀ next₀ from f₀ a′
           (record { on = false; answer = r .answer; at = at; count = count; filled = r .fill .count })
@@ -171,7 +171,7 @@ module _ (i t s : List ℕ) (a₀ : Table) (heads₀ next₀ : List ℕ) (from :
               → Takes (length i) (length t) s from hs
               (record { on = false; answer = r .answer; at = at; count = count; filled = r .fill .count })
               (Tabled i t s a′ old (r .fill .count))
-          go x = by (g old (x .ks) (x .slotted))
+          go x = by (g old (x .ks) (x .in-rows))
             where
               by : Comes i t s a′ heads′ next′ old line (x .ks) r
                   → Takes (length i) (length t) s from hs
@@ -208,7 +208,7 @@ module _ (i t s : List ℕ) (a₀ : Table) (heads₀ next₀ : List ℕ) (from :
         where
           go : (old : ℕ) (hs : List Held) → Took i t s a heads next from old f at count hs
               → Took i t s a′ heads′ next′ from old (r .fill) (at + (end + 1)) (count + 1) hs
-          go old hs x = by (g old (x .ks) (x .slotted))
+          go old hs x = by (g old (x .ks) (x .in-rows))
             where
               by : Comes i t s a′ heads′ next′ old line (x .ks) r
                   → Took i t s a′ heads′ next′ from old (r .fill) (at + (end + 1)) (count + 1) hs
@@ -216,7 +216,7 @@ module _ (i t s : List ℕ) (a₀ : Table) (heads₀ next₀ : List ℕ) (from :
                   let v : _≡_ {A = Bool} true false = sym z ∙ o in let k : _≡_ {A = ℕ} 0 1 = cc in absurd (omega arith)
               by (goes js q o y) = record {
                 ks = js;
-                slotted = y;
+                in-rows = y;
                 keeps = λ b. subst (Kept (length i) (length t)) q (keeps-reach (length i) (length t) (x .ks) (x .keeps b) line);
                 run = λ c.
                     let more : suc (c + count) ≡ c + (count + 1) = omega arith in
@@ -232,13 +232,13 @@ takes-held : {n m from : ℕ} {s : List ℕ} {hs : List Held} {r : Walked} {P : 
 takes-held (onward ks o run g p) = (ks, p)
 takes-held (halted ks o run g p) = (ks, p)
 
-module _ (i t s : List ℕ) (a : Table) (heads next : List ℕ) (f : Fill) (loaded : Loads i a heads next f) where
-  pub loads-held : known (decode i t) ≡ true → Slotting i t s a heads next f
+module _ (i t s : List ℕ) (a : List ℕ) (heads next : List ℕ) (f : Fill) (loaded : Loads i a heads next f) where
+  pub loads-held : known (decode i t) ≡ true → SomeRows i t s a heads next f
   loads-held k =
       let q : (hs : List Held) × (decode i t ≡ some hs) = lines-of (decode i t) k in
       (f .count, (q .0, loaded t s (q .0) (q .1)))
 
-  module _ (from : ℕ) (b : Table) (r : Walked)
+  module _ (from : ℕ) (b : List ℕ) (r : Walked)
       (takes : TakesLines i t s a heads next from f b r) where
     pub batch-settles : known (decode i t) ≡ true → Settles i t s b f (r .filled)
     batch-settles k =
@@ -257,22 +257,9 @@ module _ (i t s : List ℕ) (a : Table) (heads next : List ℕ) (f : Fill) (load
         go (onward ks o run g p) = onward ks o run g (held ks p)
         go (halted ks o run g p) = halted ks o run g (held ks p)
 
-pub went-from : (s : List ℕ) (from f : ℕ) (r : Walked) → f < slots → Went s from f r → Went s from 0 r
+pub went-from : (s : List ℕ) (from f : ℕ) (r : Walked) → f < rowsMax → Went s from f r → Went s from 0 r
 went-from s from f r l w =
     record { within = w .within; counted = w .counted; moved = λ p q o. w .moved l q o }
-
-pub empty-long : Long (record {
-  highs = replicate slots 0;
-  lows = replicate slots 0;
-  starts = replicate slots 0;
-  lens = replicate slots 0;
-})
-empty-long = record {
-  highs = length-replicate {A = ℕ} slots 0;
-  lows = length-replicate {A = ℕ} slots 0;
-  starts = length-replicate {A = ℕ} slots 0;
-  lens = length-replicate {A = ℕ} slots 0;
-}
 
 pub both-most : (i t : List ℕ) → Bytes i → known (decode i t) ≡ true → (length i ≤ indexMax) × (length t ≤ textMax)
 both-most i t b k =

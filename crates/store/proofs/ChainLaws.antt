@@ -14,7 +14,7 @@ use lib.Seq.{getD-set-same, getD-set-other}
 use borrow.Author.Count.{below-more}
 use borrow.Author.Tests.{ltb-true, ltb-false, eqb-true, eqb-false, eq-eqb, ne-eqb}
 use Rattle.store.specs.Held.{Key, sameKey}
-use Rattle.store.specs.Keys.{slots, bucket, AllApart, Twice, NotIn, Kin, Last, Linked, Headed}
+use Rattle.store.specs.Keys.{rowsMax, bucket, AllApart, Twice, NotIn, Kin, Last, Linked, Headed}
 use Rattle.store.specs.Keys.{Chained, Seeks, Sought, Says, Tells, seekSays, toldOf}
 use Rattle.store.specs.declared.chains.Verdict.{Verdict}
 use Rattle.store.specs.declared.chains.Verdict.the-variants as Vd
@@ -53,13 +53,13 @@ seek-turn K next k m c d links s pos ne hd = (
         ⊎-elim (λ q. unlike (K (c - 1)) (K k) ne (ap K q ∙ e)) (λ lt. s .passed j (omega arith) h e)
         (eq-or-lt-of-le (ltb-false j (c - 1) t))
 
-pub chained-none : (K : ℕ → Key) → Chained K (replicate slots 0) (replicate slots 0) 0
+pub chained-none : (K : ℕ → Key) → Chained K (replicate rowsMax 0) (replicate rowsMax 0) 0
 chained-none K = record {
   links = λ a l. absurd (omega arith);
-  ends = λ b l. subst (Last K b 0) (sym (getD-replicate {A = ℕ} slots b 0 0 l))
+  ends = λ b l. subst (Last K b 0) (sym (getD-replicate {A = ℕ} rowsMax b 0 0 l))
       (record { near = λ j m n e. omega arith; kin = λ p. absurd (omega arith); within = omega arith });
-  heads-long = length-replicate {A = ℕ} slots 0;
-  next-long = length-replicate {A = ℕ} slots 0;
+  heads-long = length-replicate {A = ℕ} rowsMax 0;
+  next-long = length-replicate {A = ℕ} rowsMax 0;
 }
 
 -- what the chain says, all numbers below k say
@@ -76,7 +76,7 @@ chain-from K next n k c links l e = subst (Last K (bucket (K k)) k) (sym e) (lin
 
 -- number k, of bucket h, is linked to c, the head of its chain
 module _ (K : ℕ → Key) (heads next : List ℕ) (k h c : ℕ) (s : Chained K heads next k) (hh : h ≡ bucket (K k))
-    (hl : h < slots) (hc : c ≡ getD heads h 0) (kl : k < slots) where
+    (hl : h < rowsMax) (hc : c ≡ getD heads h 0) (kl : k < rowsMax) where
   pub here : Last K (bucket (K k)) k c
   here = subst (λ (b : ℕ). Last K b k c) hh (subst (Last K h k) (sym hc) (s .ends h hl))
 

@@ -17,15 +17,16 @@ use Rattle.text.specs.Bytes.{pick, written}
 use Rattle.text.proofs.BytesLaws.{written-length}
 use Rattle.text.proofs.LentLaws.{tail-part, tail-back, tail-length}
 use Rattle.store.specs.declared.settle.Kept.{Kept}
-use Rattle.store.specs.declared.slots.Fill.{Fill}
+use Rattle.store.specs.declared.table.Fill.{Fill}
 use Rattle.store.specs.Decode.{decode}
 use Rattle.store.specs.Held.{Held, indexMax, textMax}
 use Rattle.store.specs.Layout.{Bytes}
 use Rattle.store.specs.Inner.{Sized, sizes}
-use Rattle.store.specs.Keys.{slots, keyAt}
+use Rattle.store.specs.Keys.{rowsMax}
+use Rattle.store.specs.Rows.{keyIn, startIn, lenIn}
 use Rattle.store.specs.Layout.{recordBytes, records, texts, encodeIndex, encodeText}
-use Rattle.store.specs.Slots.{living, Table, slotAt, Whole, Tabled, Takes-up, Keepable, Keeps, Extends, keptLines}
-use Rattle.store.specs.Slots.{behindKept, Lent, Closes, Closed, Settles, Settled}
+use Rattle.store.specs.Table.{living, lineAt, Whole, Tabled, Takes-up, Keepable, Keeps, Extends, keptLines}
+use Rattle.store.specs.Table.{behindKept, Lent, Closes, Closed, Settles, Settled}
 use Rattle.store.proofs.BufferLaws.{tail-written}
 use Rattle.store.proofs.DecodeLaws.{Laid, laid, long-index, long-text}
 use Rattle.store.proofs.HeldLaws.{texts-append}
@@ -36,14 +37,14 @@ use Rattle.store.proofs.SettleLaws.{settled-text}
 
 -- ---- `kept_rows`
 
-pub record Keeping (a : Table) (old at off k : ℕ) : Type 0 where
+pub record Keeping (a : List ℕ) (old at off k : ℕ) : Type 0 where
   pub given : Keepable a old
   pub rows : k ≤ old
-  pub whole : Whole (a .lens) k
+  pub whole : Whole a k
   pub takes : (i t s : List ℕ) (c : ℕ) (hs : List Held) → Tabled i t s a old c hs
-      → Takes-up (living (slotAt t s a old) k) at off
+      → Takes-up (living (lineAt t s a old) k) at off
 
-pub keep-first : (a : Table) (old : ℕ) → Keepable a old → Keeping a old 0 0 0
+pub keep-first : (a : List ℕ) (old : ℕ) → Keepable a old → Keeping a old 0 0 0
 keep-first a old g = record {
   given = g;
   rows = omega arith;
@@ -51,22 +52,22 @@ keep-first a old g = record {
   takes = λ i t s c hs T. (unfold living in (sym (sizes-none 0)), unfold living in (sym texts-none));
 }
 
-module _ (a : Table) (old at off k : ℕ) (w : Keeping a old at off k) where
-  pub kept-most : k < old → k < slots
+module _ (a : List ℕ) (old at off k : ℕ) (w : Keeping a old at off k) where
+  pub kept-most : k < old → k < rowsMax
   kept-most l = omega (arith, w .given .tabled .olds, w .given .tabled .most)
 
   pub keep-end : Keeps a old (record { rows = k; at = at; off = off })
   keep-end = record { rows = w .rows; whole = w .whole; takes = w .takes }
 
-  module _ (l : k < old) (n : getD (a .lens) k 0 ≡ 0 → ⊥) (size : ℕ)
-      (z : Sized (keyAt (a .highs) (a .lows) k) size) where
+  module _ (l : k < old) (n : lenIn a k ≡ 0 → ⊥) (size : ℕ)
+      (z : Sized (keyIn a k) size) where
     abbrev g : Keepable a old
     g = w .given
 
-    pub keep-fits : (at + size ≤ indexMax) × (off + getD (a .lens) k 0 ≤ textMax)
+    pub keep-fits : (at + size ≤ indexMax) × (off + lenIn a k ≤ textMax)
     keep-fits =
         let b : k < g .c = omega (arith, g .tabled .olds) in
-        let t : Takes-up (living (slotAt (g .t) (g .s) a old) k) at off =
+        let t : Takes-up (living (lineAt (g .t) (g .s) a old) k) at off =
         w .takes (g .i) (g .t) (g .s) (g .c) (g .hs) (g .tabled) in (
           omega (
             arith,
@@ -84,16 +85,16 @@ module _ (a : Table) (old at off k : ℕ) (w : Keeping a old at off k) where
           ),
         )
 
-    pub keep-turn : Keeping a old (at + size) (off + getD (a .lens) k 0) (k + 1)
+    pub keep-turn : Keeping a old (at + size) (off + lenIn a k) (k + 1)
     keep-turn = record {
       given = w .given;
       rows = omega arith;
-      whole = below-more (λ (j : ℕ). getD (a .lens) j 0 ≡ 0 → ⊥) k (w .whole) n;
+      whole = below-more (λ (j : ℕ). lenIn a j ≡ 0 → ⊥) k (w .whole) n;
       takes = λ i t s c hs T.
           let b : k < c = omega (arith, T .olds) in
-          let v : Takes-up (living (slotAt t s a old) k) at off = w .takes i t s c hs T in (
+          let v : Takes-up (living (lineAt t s a old) k) at off = w .takes i t s c hs T in (
             ap (λ (m : ℕ). m + size) (v .0) ∙ place-more T k b n size z,
-            ap (λ (m : ℕ). m + getD (a .lens) k 0) (v .1) ∙ used-more T k b n,
+            ap (λ (m : ℕ). m + lenIn a k) (v .1) ∙ used-more T k b n,
           );
     }
 
@@ -108,15 +109,15 @@ written-behind f p at v =
     (sym (drop-append-add f p (at + length v)) ∙ ap (λ (m : ℕ). drop m (f ++ p))
     (sym (add-assoc (length f) at (length v))))
 
-pub record Closing (part t s : List ℕ) (a : Table) (kept : Kept) (was : Fill) (c : ℕ) (part′ t′ : List ℕ)
+pub record Closing (part t s : List ℕ) (a : List ℕ) (kept : Kept) (was : Fill) (c : ℕ) (part′ t′ : List ℕ)
     (at off k : ℕ) : Type 0 where
   pub given : Closes part t s a kept was c
   pub run : Settling (behindKept t s a kept was part) t s a (was .count) c (behindKept t s a kept was part′) t′
       (kept .at + at) off k
 
-module _ (part t s : List ℕ) (a : Table) (kept : Kept) (was : Fill) (c : ℕ) where
+module _ (part t s : List ℕ) (a : List ℕ) (kept : Kept) (was : Fill) (c : ℕ) where
   abbrev F : List ℕ
-  F = records 0 (living (slotAt t s a (was .count)) (kept .rows))
+  F = records 0 (living (lineAt t s a (was .count)) (kept .rows))
 
   pub close-first : Closes part t s a kept was c → Closing part t s a kept was c part t 0 (kept .off) (kept .rows)
   close-first g =
@@ -139,15 +140,15 @@ module _ (part t s : List ℕ) (a : Table) (kept : Kept) (was : Fill) (c : ℕ) 
         };
       }
 
-module _ {part t s : List ℕ} {a : Table} {kept : Kept} {was : Fill} {c : ℕ} {part′ t′ : List ℕ} {at off k : ℕ}
+module _ {part t s : List ℕ} {a : List ℕ} {kept : Kept} {was : Fill} {c : ℕ} {part′ t′ : List ℕ} {at off k : ℕ}
     (w : Closing part t s a kept was c part′ t′ at off k) where
   abbrev G : List ℕ
-  G = records 0 (living (slotAt t s a (was .count)) (kept .rows))
+  G = records 0 (living (lineAt t s a (was .count)) (kept .rows))
 
-  pub close-most : k < c → k < slots
+  pub close-most : k < c → k < rowsMax
   close-most l = omega (arith, w .run .tabled .most)
 
-  pub close-skip : k < c → getD (a .lens) k 0 ≡ 0 → Closing part t s a kept was c part′ t′ at off (k + 1)
+  pub close-skip : k < c → lenIn a k ≡ 0 → Closing part t s a kept was c part′ t′ at off (k + 1)
   close-skip l e = record { given = w .given; run = settle-skip (w .run) l e }
 
   pub close-off : (off ≤ length t′) × (was .used ≤ length t′)
@@ -176,24 +177,24 @@ module _ {part t s : List ℕ} {a : Table} {kept : Kept} {was : Fill} {c : ℕ} 
     w .given .1 .takes .0,
   )
 
-  module _ (l : k < c) (n : getD (a .lens) k 0 ≡ 0 → ⊥) where
-    pub close-fits : length (recordBytes (keyAt (a .highs) (a .lows) k) off (getD (a .lens) k 0))
+  module _ (l : k < c) (n : lenIn a k ≡ 0 → ⊥) where
+    pub close-fits : length (recordBytes (keyIn a k) off (lenIn a k))
         ≤ length (midOf at (length part′ - at) part′)
     close-fits = omega (arith, fits-index (w .run) l n, front-long, tail-length at part′, close-within)
 
-    pub close-size : (size : ℕ) → Sized (keyAt (a .highs) (a .lows) k) size → at + size ≤ length part′
-    close-size size z = omega (arith, fits-index (w .run) l n, front-long, z off (getD (a .lens) k 0))
+    pub close-size : (size : ℕ) → Sized (keyIn a k) size → at + size ≤ length part′
+    close-size size z = omega (arith, fits-index (w .run) l n, front-long, z off (lenIn a k))
 
-    pub close-turn : (size : ℕ) → Sized (keyAt (a .highs) (a .lows) k) size → (ys t″ : List ℕ)
-        → ys ≡ recordBytes (keyAt (a .highs) (a .lows) k) off (getD (a .lens) k 0)
-        ++ drop (length (recordBytes (keyAt (a .highs) (a .lows) k) off (getD (a .lens) k 0)))
+    pub close-turn : (size : ℕ) → Sized (keyIn a k) size → (ys t″ : List ℕ)
+        → ys ≡ recordBytes (keyIn a k) off (lenIn a k)
+        ++ drop (length (recordBytes (keyIn a k) off (lenIn a k)))
         (midOf at (length part′ - at) part′)
         → t″ ≡ written t′ off
-        (take (getD (a .lens) k 0) (drop (getD (a .starts) k 0) (pick (ltb k (was .count)) t′ s)))
+        (take (lenIn a k) (drop (startIn a k) (pick (ltb k (was .count)) t′ s)))
         → Closing part t s a kept was c (putMid at (length part′ - at) part′ ys) t″ (at + size)
-        (off + getD (a .lens) k 0) (k + 1)
+        (off + lenIn a k) (k + 1)
     close-turn size z ys t″ ey et =
-        let v : List ℕ = recordBytes (keyAt (a .highs) (a .lows) k) off (getD (a .lens) k 0) in
+        let v : List ℕ = recordBytes (keyIn a k) off (lenIn a k) in
         let e : G ++ putMid at (length part′ - at) part′ ys ≡ written (G ++ part′) (kept .at + at) v
         = ap (λ (x : List ℕ). G ++ x) (tail-written at part′ v ys ey) ∙ written-behind G part′ at v
         ∙ ap (λ (m : ℕ). written (G ++ part′) (m + at) v) (sym (w .given .1 .takes .0)) in
@@ -201,7 +202,7 @@ module _ {part t s : List ℕ} {a : Table} {kept : Kept} {was : Fill} {c : ℕ} 
           given = w .given;
           run = subst (λ (m : ℕ). Settling (G ++ part) t s a (was .count) c
               (G ++ putMid at (length part′ - at) part′ ys) t″ m
-              (off + getD (a .lens) k 0) (k + 1)) (add-assoc (kept .at) at size)
+              (off + lenIn a k) (k + 1)) (add-assoc (kept .at) at size)
               (settle-turn (w .run) l n size z _ t″ e et);
         }
 
@@ -239,7 +240,7 @@ module _ {part t s : List ℕ} {a : Table} {kept : Kept} {was : Fill} {c : ℕ} 
 
 -- ---- `settle`
 
-module _ (i t s : List ℕ) (a : Table) (was : Fill) (c : ℕ) (b : Bytes i) (x : Extends i t was) where
+module _ (i t s : List ℕ) (a : List ℕ) (was : Fill) (c : ℕ) (b : Bytes i) (x : Extends i t was) where
   -- the store holds those lines, and others behind them
   module _ (fs bs : List Held) (d : decode i t ≡ some (fs ++ bs)) where
     l : Laid i t (fs ++ bs)
@@ -305,19 +306,19 @@ module _ (i t s : List ℕ) (a : Table) (was : Fill) (c : ℕ) (b : Bytes i) (x 
         c = c;
         hs = g .0;
         tabled = T;
-        index = limits (living (slotAt t s a (was .count)) 0) (q .0) (q .1) .0;
-        text = limits (living (slotAt t s a (was .count)) 0) (q .0) (q .1) .1;
+        index = limits (living (lineAt t s a (was .count)) 0) (q .0) (q .1) .0;
+        text = limits (living (lineAt t s a (was .count)) 0) (q .0) (q .1) .1;
       }
 
   module _ (r : Kept) (k : Keeps a (was .count) r) where
     abbrev L : List Held
-    L = living (slotAt t s a (was .count)) (r .rows)
+    L = living (lineAt t s a (was .count)) (r .rows)
 
     module _ (hs : List Held) (T : Tabled i t s a (was .count) c hs) where
       takes : Takes-up L (r .at) (r .off)
       takes = k .takes i t s c hs T
 
-      kept-index : take (r .at) i ≡ records 0 (living (slotAt t s a (was .count)) (r .rows))
+      kept-index : take (r .at) i ≡ records 0 (living (lineAt t s a (was .count)) (r .rows))
       kept-index =
           let q = T .stands (r .rows) (k .rows) (k .whole) in
           ap (λ (n : ℕ). take n i) (takes .0) ∙ front-index L (q .0) (q .1)

@@ -14,7 +14,7 @@ use Rattle.text.specs.declared.uuid.Spelled.{Spelled}
 use Rattle.text.specs.declared.uuid.UuidParse.the-variants.{Parsed, Invalid}
 use Rattle.store.specs.declared.calls.Tally.{Tally}
 use Rattle.store.specs.declared.batch.Walked.{Walked}
-use Rattle.store.specs.Slots.{Takes, onward, halted, Went, Encoded, Batches}
+use Rattle.store.specs.Table.{Takes, onward, halted, Went, Encoded, Batches}
 use Rattle.store.specs.Book.{noRoom, Turn, under, after, stopped, reach, insertTurn}
 use Rattle.store.specs.Inner.{Good, room, known}
 use Rattle.store.specs.Book.{insertLines, bookWalk}

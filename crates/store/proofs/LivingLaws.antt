@@ -14,9 +14,9 @@ use borrow.Author.Tests.{eq-eqb, ne-eqb}
 use Rattle.text.specs.Bytes.{pick}
 use Rattle.store.specs.Held.{Held}
 use Rattle.store.specs.Inner.{sizes, Sized}
-use Rattle.store.specs.Keys.{keyAt}
+use Rattle.store.specs.Rows.{keyIn, startIn, lenIn}
 use Rattle.store.specs.Layout.{recordBytes, records, texts}
-use Rattle.store.specs.Slots.{living, Table, heldAt, slotAt, Tabled}
+use Rattle.store.specs.Table.{living, heldAt, lineAt, Tabled}
 use Rattle.store.proofs.HeldLaws.{texts-append}
 use Rattle.store.proofs.RowLaws.{records-append, records-first, sizes-append, texts-sum}
 
@@ -49,25 +49,25 @@ living-texts S k c l =
     let r : (bs : List Held) × (living S c ≡ living S k ++ bs) = living-front S k (c - k) c (omega arith) in
     omega (arith, ap (λ (x : List Held). length (texts x)) (r .1), texts-sum (living S k) (r .0))
 
-pub slot-none : (t s : List ℕ) (a : Table) (old k : ℕ) → getD (a .lens) k 0 ≡ 0 → slotAt t s a old k ≡ []
-unfolding slotAt
-slot-none t s a old k e = ap (λ (b : Bool). pick b [] (heldAt t s a old k ∷ [])) (eq-eqb _ _ e)
+pub gives-none : (t s : List ℕ) (a : List ℕ) (old k : ℕ) → lenIn a k ≡ 0 → lineAt t s a old k ≡ []
+unfolding lineAt
+gives-none t s a old k e = ap (λ (b : Bool). pick b [] (heldAt t s a old k ∷ [])) (eq-eqb _ _ e)
 
-pub slot-some : (t s : List ℕ) (a : Table) (old k : ℕ) → (getD (a .lens) k 0 ≡ 0 → ⊥)
-    → slotAt t s a old k ≡ heldAt t s a old k ∷ []
-unfolding slotAt
-slot-some t s a old k n = ap (λ (b : Bool). pick b [] (heldAt t s a old k ∷ [])) (ne-eqb _ _ n)
+pub gives-some : (t s : List ℕ) (a : List ℕ) (old k : ℕ) → (lenIn a k ≡ 0 → ⊥)
+    → lineAt t s a old k ≡ heldAt t s a old k ∷ []
+unfolding lineAt
+gives-some t s a old k n = ap (λ (b : Bool). pick b [] (heldAt t s a old k ∷ [])) (ne-eqb _ _ n)
 
 -- ---- one number more
 
-module _ {i t s : List ℕ} {a : Table} {old c : ℕ} {hs : List Held} (T : Tabled i t s a old c hs) (k : ℕ) where
+module _ {i t s : List ℕ} {a : List ℕ} {old c : ℕ} {hs : List Held} (T : Tabled i t s a old c hs) (k : ℕ) where
   abbrev S : ℕ → List Held
-  S = slotAt t s a old
+  S = lineAt t s a old
 
-  pub sizes-within : k ≤ c → sizes 0 (living (slotAt t s a old) k) ≤ length i
+  pub sizes-within : k ≤ c → sizes 0 (living (lineAt t s a old) k) ≤ length i
   sizes-within l = omega (arith, living-sizes S k c l, ap (sizes 0) (T .is), T .good .index)
 
-  pub texts-within : k ≤ c → length (texts (living (slotAt t s a old) k)) ≤ length t
+  pub texts-within : k ≤ c → length (texts (living (lineAt t s a old) k)) ≤ length t
   texts-within l = omega (
     arith,
     living-texts S k c l,
@@ -76,58 +76,58 @@ module _ {i t s : List ℕ} {a : Table} {old c : ℕ} {hs : List Held} (T : Tabl
   )
 
   -- a number with no line
-  pub skipped : getD (a .lens) k 0 ≡ 0
-      → living (slotAt t s a old) (k + 1) ≡ living (slotAt t s a old) k
-  skipped e = living-next S k ∙ ap (λ (x : List Held). living S k ++ x) (slot-none t s a old k e)
+  pub skipped : lenIn a k ≡ 0
+      → living (lineAt t s a old) (k + 1) ≡ living (lineAt t s a old) k
+  skipped e = living-next S k ∙ ap (λ (x : List Held). living S k ++ x) (gives-none t s a old k e)
       ∙ append-nil (living S k)
 
   -- a number with a line
-  module _ (l : k < c) (n : getD (a .lens) k 0 ≡ 0 → ⊥) where
+  module _ (l : k < c) (n : lenIn a k ≡ 0 → ⊥) where
     abbrev len : ℕ
-    len = getD (a .lens) k 0
+    len = lenIn a k
 
     abbrev start : ℕ
-    start = getD (a .starts) k 0
+    start = startIn a k
 
     abbrev off : ℕ
     off = length (texts (living S k))
 
     abbrev new : List ℕ
-    new = recordBytes (keyAt (a .highs) (a .lows) k) off len
+    new = recordBytes (keyIn a k) off len
 
     abbrev h : Held
     h = heldAt t s a old k
 
-    pub line-long : length (heldAt t s a old k .line) ≡ getD (a .lens) k 0
+    pub line-long : length (heldAt t s a old k .line) ≡ lenIn a k
     line-long = length-take-le len (drop start (pick (ltb k old) t s))
         (rw (length-drop start (pick (ltb k old) t s)) (omega (arith, T .inside k l)))
 
     next : living S (k + 1) ≡ living S k ++ (h ∷ [])
-    next = living-next S k ∙ ap (λ (x : List Held). living S k ++ x) (slot-some t s a old k n)
+    next = living-next S k ∙ ap (λ (x : List Held). living S k ++ x) (gives-some t s a old k n)
 
-    pub records-more : records 0 (living (slotAt t s a old) (k + 1))
-        ≡ records 0 (living (slotAt t s a old) k)
-        ++ recordBytes (keyAt (a .highs) (a .lows) k) (length (texts (living (slotAt t s a old) k)))
-        (getD (a .lens) k 0)
+    pub records-more : records 0 (living (lineAt t s a old) (k + 1))
+        ≡ records 0 (living (lineAt t s a old) k)
+        ++ recordBytes (keyIn a k) (length (texts (living (lineAt t s a old) k)))
+        (lenIn a k)
     records-more =
         ap (records 0) next ∙ records-append (living S k) (h ∷ []) 0
         ∙ ap (λ (x : List ℕ). records 0 (living S k) ++ x)
         (records-first (0 + length (texts (living S k))) h [] ∙ unfold records in (append-nil _)
         ∙ ap₂ (λ (x m : ℕ). recordBytes (h .key) x m) (zero-add _) line-long)
 
-    pub texts-more : texts (living (slotAt t s a old) (k + 1))
-        ≡ texts (living (slotAt t s a old) k) ++ heldAt t s a old k .line
+    pub texts-more : texts (living (lineAt t s a old) (k + 1))
+        ≡ texts (living (lineAt t s a old) k) ++ heldAt t s a old k .line
     texts-more =
         ap texts next ∙ texts-append (living S k) (h ∷ [])
         ∙ ap (λ (x : List ℕ). texts (living S k) ++ x) (unfold texts in (append-nil (h .line)))
 
     -- how much they take
-    pub place-more : (size : ℕ) → Sized (keyAt (a .highs) (a .lows) k) size
-        → sizes 0 (living (slotAt t s a old) k) + size ≡ sizes 0 (living (slotAt t s a old) (k + 1))
+    pub place-more : (size : ℕ) → Sized (keyIn a k) size
+        → sizes 0 (living (lineAt t s a old) k) + size ≡ sizes 0 (living (lineAt t s a old) (k + 1))
     place-more size z = ap (λ (m : ℕ). sizes 0 (living S k) + m) (z off len)
         ∙ sym (ap length records-more ∙ length-append (records 0 (living S k)) new)
 
-    pub used-more : length (texts (living (slotAt t s a old) k)) + getD (a .lens) k 0
-        ≡ length (texts (living (slotAt t s a old) (k + 1)))
+    pub used-more : length (texts (living (lineAt t s a old) k)) + lenIn a k
+        ≡ length (texts (living (lineAt t s a old) (k + 1)))
     used-more = ap (λ (m : ℕ). length (texts (living S k)) + m) (sym line-long)
         ∙ sym (ap length texts-more ∙ length-append (texts (living S k)) (h .line))

@@ -9,25 +9,27 @@ use Prim.Native.Nat.{ℕ, zero, suc, _+_, _-_, _≤_, _<_}
 use native.Mathlib.Nat.{eq-or-lt-of-le}
 use native.Mathlib.Omega.{arith}
 use lib.Dec.{eqb, ltb}
-use lib.ListN.{length, getD, set, take, drop, length-set}
+use lib.ListN.{length, take, drop}
 use borrow.Author.Tests.{eq-eqb, ne-eqb, eqb-true, eqb-false, ltb-true, ltb-false, lt-ltb}
 use Rattle.text.specs.Bytes.{pick}
-use Rattle.store.specs.declared.slots.Fill.{Fill}
+use Rattle.store.specs.declared.table.Fill.{Fill}
 use Rattle.store.specs.declared.look.Seen.{Seen}
 use Rattle.store.specs.declared.look.Part.{Part}
 use Rattle.store.specs.declared.calls.Look.the-variants as L
 use Rattle.store.specs.Decode.{decode}
 use Rattle.store.specs.Held.{Key, Held, sameKey, find}
 use Rattle.store.specs.Inner.{known}
-use Rattle.store.specs.Keys.{slots, keyAt, Chained, Sought}
-use Rattle.store.specs.Slots.{living, Table, heldAt, slotAt, Slotted, Loads, lenBefore, Sees}
+use Rattle.store.specs.Keys.{rowsMax, Chained, Sought}
+use Rattle.store.specs.Rows.{Row, rowIn, keyIn, startIn, lenIn, rowPut, Long}
+use Rattle.store.specs.Table.{living, heldAt, lineAt, InRows, Loads, lenBefore, Sees}
 use Rattle.store.specs.Sights.{Ready, Agree, Spot, nowhere, there}
 use Rattle.store.specs.Store.{Looked, nothing, unsound, lookedIn, lookedAt, lookUp, saysOf, lineOf}
 use Rattle.store.specs.Store as store
 use Rattle.store.proofs.ChainLaws.{unlike}
 use Rattle.store.proofs.DecodeLaws.{lines-of}
 use Rattle.store.proofs.HeldLaws.{same-refl, same-eq}
-use Rattle.store.proofs.SlotLaws.{key-other, key-same, chained-agree}
+use Rattle.store.proofs.TableLaws.{chained-agree}
+use Rattle.store.proofs.WriteLaws.{put-long, row-same, row-other}
 
 look-unsound : (k : Key) (i t : List ℕ) → known (decode i t) ≡ false → lookUp k i t ≡ unsound
 unfolding lookUp
@@ -38,12 +40,12 @@ look-unsound k i t e = go (decode i t) e
     go (some hs) q = let z : _≡_ {A = ℕ} 0 1 = cc in absurd (omega arith)
 
 -- the lines of a sound store are in their chains
-pub look-ready : (i t : List ℕ) → known (decode i t) ≡ true → (a : Table) (heads next : List ℕ) (f : Fill)
-    → Loads i a heads next f → Ready (a .highs) (a .lows) heads next (f .count)
+pub look-ready : (i t : List ℕ) → known (decode i t) ≡ true → (a heads next : List ℕ) (f : Fill)
+    → Loads i a heads next f → Ready a heads next (f .count)
 look-ready i t e a heads next f loads =
     let q = lines-of (decode i t) e in
     let x = loads t [] (q .0) (q .1) in
-    record { highs-long = x .tabled .long .highs; lows-long = x .tabled .long .lows; chained = x .chained }
+    record { long = x .tabled .long; chained = x .chained }
 
 -- ---- found among the lines of numbers
 
@@ -86,43 +88,44 @@ module _ (u : Key) where
 
 -- ---- the key of number n, sought among the lines of the numbers before it
 
-pub some-before : (lens : List ℕ) (r len : ℕ) → len ≡ lenBefore lens r → (len ≡ 0 → ⊥) → 0 < r
-some-before lens r len el z = go (eqb r 0) refl
+pub some-before : (a : List ℕ) (r len : ℕ) → len ≡ lenBefore a r → (len ≡ 0 → ⊥) → 0 < r
+some-before a r len el z = go (eqb r 0) refl
   where
     go : (c : Bool) → eqb r 0 ≡ c → 0 < r
-    go true q = absurd (z (el ∙ ap (λ (c : Bool). pick c 0 (getD lens (r - 1) 0)) q))
+    go true q = absurd (z (el ∙ ap (λ (c : Bool). pick c 0 (lenIn a (r - 1))) q))
     go false q = let y : r ≡ 0 → ⊥ = eqb-false r 0 q in omega arith
 
-module _ (k : Key) (i t highs lows starts lens heads next : List ℕ) (f : Fill) (hs : List Held)
-    (x : Slotted i t [] (record { highs = highs; lows = lows; starts = starts; lens = lens }) heads next (f .count) f hs)
-    (K′ : ℕ → Key) (before : Agree (keyAt highs lows) K′ (f .count)) (new : K′ (f .count) ≡ k)
-    (r : ℕ) (so : Sought K′ (f .count) r) (rl : r ≤ f .count) (len : ℕ) (el : len ≡ lenBefore lens r) where
-  abbrev a : Table
-  a = record { highs = highs; lows = lows; starts = starts; lens = lens }
-
+-- a has the rows of the lines hs, and b has them too, and the key behind them
+module _ (k : Key) (i t a b heads next : List ℕ) (f : Fill) (hs : List Held)
+    (x : InRows i t [] a heads next (f .count) f hs)
+    (agree : Agree a b (f .count)) (new : keyIn b (f .count) ≡ k)
+    (r : ℕ) (so : Sought (keyIn b) (f .count) r) (rl : r ≤ f .count) (len : ℕ) (el : len ≡ lenBefore b r) where
   abbrev K : ℕ → Key
-  K j = keyAt highs lows j
+  K j = keyIn a j
 
   abbrev S : ℕ → List Held
-  S j = slotAt t [] a (f .count) j
+  S j = lineAt t [] a (f .count) j
+
+  before : (j : ℕ) → j < f .count → keyIn a j ≡ keyIn b j
+  before j l = ap (λ (v : Row). v .key) (agree j l)
 
   -- what a number gives
-  find-gone : (j : ℕ) → getD lens j 0 ≡ 0 → find k (S j) ≡ none
-  unfolding slotAt find
+  find-gone : (j : ℕ) → lenIn a j ≡ 0 → find k (S j) ≡ none
+  unfolding lineAt find
   find-gone j z = ap (λ (c : Bool). find k (pick c [] (heldAt t [] a (f .count) j ∷ []))) (eq-eqb _ _ z)
 
   find-other : (j : ℕ) → (K j ≡ k → ⊥) → find k (S j) ≡ none
-  unfolding slotAt find
-  find-other j z = go (eqb (getD lens j 0) 0) (sameKey k (K j)) refl
+  unfolding lineAt find
+  find-other j z = go (eqb (lenIn a j) 0) (sameKey k (K j)) refl
     where
       go : (c d : Bool) → sameKey k (K j) ≡ d → find k (pick c [] (heldAt t [] a (f .count) j ∷ [])) ≡ none
       go true d q = refl
       go false true q = absurd (z (sym (same-eq k (K j) q)))
       go false false q = ap (λ (v : Bool). pick v (some (heldAt t [] a (f .count) j .line)) none) q
 
-  find-here : (j : ℕ) → K j ≡ k → (getD lens j 0 ≡ 0 → ⊥)
+  find-here : (j : ℕ) → K j ≡ k → (lenIn a j ≡ 0 → ⊥)
       → find k (S j) ≡ some (heldAt t [] a (f .count) j .line)
-  unfolding slotAt find
+  unfolding lineAt find
   find-here j q z =
       ap (λ (c : Bool). find k (pick c [] (heldAt t [] a (f .count) j ∷ []))) (ne-eqb _ _ z)
       ∙ ap (λ (v : Bool). pick v (some (heldAt t [] a (f .count) j .line)) none)
@@ -150,8 +153,9 @@ module _ (k : Key) (i t highs lows starts lens heads next : List ℕ) (f : Fill)
     one : find k (living S (f .count)) ≡ find k (S (r - 1))
     one = find-only k S (r - 1) (f .count) (omega arith) others
 
-    len-is : len ≡ getD lens (r - 1) 0
-    len-is = el ∙ ap (λ (c : Bool). pick c 0 (getD lens (r - 1) 0)) (ne-eqb r 0 (λ z. omega arith))
+    len-is : len ≡ lenIn a (r - 1)
+    len-is = el ∙ ap (λ (c : Bool). pick c 0 (lenIn b (r - 1))) (ne-eqb r 0 (λ z. omega arith))
+        ∙ sym (ap (λ (v : Row). v .len) (agree (r - 1) (omega arith)))
 
   pub spot-none : len ≡ 0 → Spot t (find k hs) (record { start = 0; len = 0 })
   spot-none z = nowhere (ap (find k) (x .tabled .is) ∙ go (eqb r 0) refl) refl
@@ -165,38 +169,38 @@ module _ (k : Key) (i t highs lows starts lens heads next : List ℕ) (f : Fill)
           let p : 0 < r = omega arith in
           one p ∙ find-gone (r - 1) (sym (len-is p) ∙ z)
 
-  pub spot-line : (len ≡ 0 → ⊥) → Spot t (find k hs) (record { start = getD starts (r - 1) 0; len = len })
-  spot-line z =
-      let p : 0 < r = some-before lens r len el z in
+  pub spot-line : (len ≡ 0 → ⊥) → (start : ℕ) → start ≡ startIn b (r - 1)
+      → Spot t (find k hs) (record { start = start; len = len })
+  spot-line z start es =
+      let p : 0 < r = some-before b r len el z in
       let l : r - 1 < f .count = omega arith in
-      let w : getD starts (r - 1) 0 + getD lens (r - 1) 0 ≤ length t
-      = subst (λ (c : Bool). getD starts (r - 1) 0 + getD lens (r - 1) 0 ≤ length (pick c t []))
+      let st : start ≡ startIn a (r - 1) = es ∙ sym (ap (λ (v : Row). v .start) (agree (r - 1) l)) in
+      let w : startIn a (r - 1) + lenIn a (r - 1) ≤ length t
+      = subst (λ (c : Bool). startIn a (r - 1) + lenIn a (r - 1) ≤ length (pick c t []))
       (lt-ltb (r - 1) (f .count) l) (x .tabled .inside (r - 1) l) in
       there
       (ap (find k) (x .tabled .is) ∙ one p ∙ find-here (r - 1) (at-key p) (λ y. z (len-is p ∙ y))
-      ∙ ap (λ (c : Bool). some (take (getD lens (r - 1) 0) (drop (getD starts (r - 1) 0) (pick c t []))))
+      ∙ ap (λ (c : Bool). some (take (lenIn a (r - 1)) (drop (startIn a (r - 1)) (pick c t []))))
       (lt-ltb (r - 1) (f .count) l)
-      ∙ ap (λ (v : ℕ). some (take v (drop (getD starts (r - 1) 0) t))) (sym (len-is p)))
-      (omega arith) (omega (arith, w, len-is p))
+      ∙ ap₂ (λ (v q : ℕ). some (take v (drop q t))) (sym (len-is p)) (sym st))
+      (omega arith) (omega (arith, w, len-is p, st))
 
 -- ---- a key written down under number n
 
-module _ (highs lows heads next : List ℕ) (n : ℕ) (k : Key) (l : n < slots) (p : Ready highs lows heads next n) where
-  abbrev K″ : ℕ → Key
-  K″ = keyAt (set highs n (k .high)) (set lows n (k .low))
+module _ (a heads next : List ℕ) (n : ℕ) (k : Key) (l : n < rowsMax) (p : Ready a heads next n) (b : List ℕ)
+    (eb : b ≡ rowPut a n k 0 0) where
+  pub put-agree : Agree a b n
+  put-agree j m = sym (ap (λ (v : List ℕ). rowIn v j) eb ∙ row-other a n k 0 0 j (λ z. omega arith))
 
-  pub put-agree : Agree (keyAt highs lows) K″ n
-  put-agree j m = sym (key-other highs lows n (k .high) (k .low) j (λ z. omega arith))
-
-  pub put-ready : Ready (set highs n (k .high)) (set lows n (k .low)) heads next n
+  pub put-ready : Ready b heads next n
   put-ready = record {
-    highs-long = length-set highs n (k .high) ∙ p .highs-long;
-    lows-long = length-set lows n (k .low) ∙ p .lows-long;
-    chained = chained-agree (keyAt highs lows) K″ n put-agree heads next (p .chained);
+    long = subst Long (sym eb) (put-long a n k 0 0 (p .long));
+    chained = chained-agree (keyIn a) (keyIn b) n (λ j m. ap (λ (v : Row). v .key) (put-agree j m)) heads next
+        (p .chained);
   }
 
-  pub put-new : K″ n ≡ k
-  put-new = key-same highs lows n (k .high) (k .low) (omega (arith, p .highs-long)) (omega (arith, p .lows-long))
+  pub put-new : keyIn b n ≡ k
+  put-new = ap (λ (v : List ℕ). keyIn v n) eb ∙ ap (λ (v : Row). v .key) (row-same a n k 0 0 (p .long) l)
 
 -- ---- what a look-up says
 

@@ -2,21 +2,22 @@
 -- Assumes nothing.
 use mathlib.Core.Bool.{Bool, true, false, not, _&&_, _||_}
 use mathlib.Core.List.{List, [], _∷_}
-use mathlib.Core.Path.{_≡_, refl, sym, ap, ap₂, _∙_, subst}
+use mathlib.Core.Path.{_≡_, refl, sym, ap, _∙_, subst}
 use Prim.Native.Nat.{ℕ, zero, suc, _+_, _-_, _≤_, _<_}
 use native.Mathlib.Numerals.{add-one}
 use native.Mathlib.Omega.{arith}
-use lib.ListN.{length, getD, set, drop, length-set}
-use lib.Seq.{getD-set-same, getD-set-other}
+use lib.ListN.{length, drop}
 use borrow.Author.Count.{below-more}
 use Rattle.store.specs.declared.records.Head.{Head}
 use Rattle.store.specs.Decode.{headAt}
 use Rattle.store.specs.Held.{Key, Held, sameKey, holds, distinct}
 use Rattle.store.specs.Inner.{headOf, Lies, Once}
-use Rattle.store.specs.Keys.{slots, keyAt, keyOf, Lists, AllApart, Twice, Tells}
+use Rattle.store.specs.Keys.{rowsMax, keyOf, Lists, AllApart, Twice, Tells}
+use Rattle.store.specs.Rows.{Row, keyIn, rowPut, Long}
 use Rattle.store.proofs.BoolLaws.{and-both, and-false-left, and-false-right, or-false}
 use Rattle.store.proofs.HeldLaws.{same-refl, same-eq}
 use Rattle.store.proofs.RowLaws.{Rest, first, Onward, ended, stands, onward, size-not, next-within}
+use Rattle.store.proofs.WriteLaws.{put-long, row-same, row-other}
 
 -- ---- distinct lines, by their numbers
 
@@ -85,17 +86,15 @@ pub record Lists′ (i : List ℕ) (at : ℕ) (K : ℕ → Key) (n : ℕ) (hs : 
   pub done : (k : ℕ) → k < n → K k ≡ keyOf hs k
   pub behind : (k : ℕ) → keyOf hs (n + k) ≡ keyOf (rest .hs) k
 
-pub record Listing (i : List ℕ) (at : ℕ) (highs lows : List ℕ) (n : ℕ) : Type 0 where
+pub record Listing (i : List ℕ) (at : ℕ) (a : List ℕ) (n : ℕ) : Type 0 where
   pub within : at ≤ length i
-  pub highs-long : length highs ≡ slots
-  pub lows-long : length lows ≡ slots
-  pub lists : (off : ℕ) (hs : List Held) → Lies off hs i → Lists′ i at (keyAt highs lows) n hs
+  pub long : Long a
+  pub lists : (off : ℕ) (hs : List Held) → Lies off hs i → Lists′ i at (keyIn a) n hs
 
-pub list-first : (i highs lows : List ℕ) → length highs ≡ slots → length lows ≡ slots → Listing i 0 highs lows 0
-list-first i highs lows p q = record {
+pub list-first : (i a : List ℕ) → Long a → Listing i 0 a 0
+list-first i a p = record {
   within = omega arith;
-  highs-long = p;
-  lows-long = q;
+  long = p;
   lists = λ off hs l. record {
     rest = first i off hs l;
     count = omega arith;
@@ -104,43 +103,36 @@ list-first i highs lows p q = record {
   };
 }
 
-module _ (i : List ℕ) (at : ℕ) (highs lows : List ℕ) (n : ℕ) (w : Listing i at highs lows n) (head : Head)
+module _ (i : List ℕ) (at : ℕ) (a : List ℕ) (n : ℕ) (w : Listing i at a n) (head : Head)
     (e : head ≡ headAt (drop at i)) where
-  pub list-end : head .size ≡ 0 → Lists i (keyAt highs lows) n
+  pub list-end : head .size ≡ 0 → Lists i (keyIn a) n
   list-end z off hs l = go (w .lists off hs l) (onward i at head e (w .lists off hs l .rest))
     where
-      go : (x : Lists′ i at (keyAt highs lows) n hs) → Onward i at head e (x .rest)
-          → (n ≡ length hs) × ((k : ℕ) → k < n → keyAt highs lows k ≡ keyOf hs k)
+      go : (x : Lists′ i at (keyIn a) n hs) → Onward i at head e (x .rest)
+          → (n ≡ length hs) × ((k : ℕ) → k < n → keyIn a k ≡ keyOf hs k)
       go x (ended q y) = (let c : length (x .rest .hs) ≡ 0 = ap length q in omega (arith, x .count), x .done)
       go x (stands h ks q y l′) = absurd (size-not i at head e (x .rest .off) h y z)
 
   -- the keys with one more written down
   abbrev K′ : ℕ → Key
-  K′ k = keyAt (set highs n (head .key .high)) (set lows n (head .key .low)) k
+  K′ k = keyIn (rowPut a n (head .key) (head .off) (head .len)) k
 
-  pub list-turn : (head .size ≡ 0 → ⊥) → n < slots
-      → Listing i (at + head .size) (set highs n (head .key .high)) (set lows n (head .key .low)) (n + 1)
+  pub list-turn : (head .size ≡ 0 → ⊥) → n < rowsMax
+      → Listing i (at + head .size) (rowPut a n (head .key) (head .off) (head .len)) (n + 1)
   list-turn z m = record {
     within = next-within i at head e (w .within);
-    highs-long = length-set highs n (head .key .high) ∙ w .highs-long;
-    lows-long = length-set lows n (head .key .low) ∙ w .lows-long;
+    long = put-long a n (head .key) (head .off) (head .len) (w .long);
     lists = λ off hs l. go hs (w .lists off hs l) (onward i at head e (w .lists off hs l .rest));
   }
     where
-      old : (k : ℕ) → k < n → K′ k ≡ keyAt highs lows k
-      old k l =
-          ap₂ (λ (x y : ℕ). record { high = x; low = y })
-          (getD-set-other highs n k (head .key .high) 0 (λ q. omega arith))
-          (getD-set-other lows n k (head .key .low) 0 (λ q. omega arith))
+      old : (k : ℕ) → k < n → K′ k ≡ keyIn a k
+      old k l = ap (λ (r : Row). r .key) (row-other a n (head .key) (head .off) (head .len) k (λ q. omega arith))
 
       new : K′ n ≡ head .key
-      new =
-          ap₂ (λ (x y : ℕ). record { high = x; low = y })
-          (getD-set-same highs n (head .key .high) 0 (omega (arith, w .highs-long)))
-          (getD-set-same lows n (head .key .low) 0 (omega (arith, w .lows-long)))
+      new = ap (λ (r : Row). r .key) (row-same a n (head .key) (head .off) (head .len) (w .long) m)
 
-      go : (hs : List Held) (x : Lists′ i at (keyAt highs lows) n hs) → Onward i at head e (x .rest)
-          → Lists′ i (at + head .size) (keyAt (set highs n (head .key .high)) (set lows n (head .key .low))) (n + 1) hs
+      go : (hs : List Held) (x : Lists′ i at (keyIn a) n hs) → Onward i at head e (x .rest)
+          → Lists′ i (at + head .size) (keyIn (rowPut a n (head .key) (head .off) (head .len))) (n + 1) hs
       go hs x (ended q y) = absurd (z y)
       go hs x (stands h ks q y l) =
           let here : keyOf hs n ≡ head .key

@@ -1,4 +1,4 @@
--- One line filed by number: what `load`, `file_slot` and `settle` say together.
+-- One line filed by number: what `load`, `file_row` and `settle` say together.
 -- Assumes nothing.
 use mathlib.Core.Bool.{Bool, true, false, not}
 use mathlib.Core.List.{List}
@@ -9,18 +9,18 @@ use native.Mathlib.Omega.{arith}
 use lib.ListN.{length, take, drop}
 use lib.Seq.{take-length}
 use Rattle.text.specs.Bytes.{pick}
-use Rattle.store.specs.declared.slots.Fill.{Fill}
+use Rattle.store.specs.declared.table.Fill.{Fill}
 use Rattle.store.specs.Book.{under}
 use Rattle.store.specs.Decode.{decode}
 use Rattle.store.specs.Held.{Key, Held, file, lineMax}
 use Rattle.store.specs.Layout.{Bytes}
 use Rattle.store.specs.Inner.{known, room, Files}
 use Rattle.store.specs.Layout.{encodeIndex, encodeText}
-use Rattle.store.specs.Slots.{Table, Loads, Tabled, Slotted, Files′, Filed, fits, full, Fileable, FilesSlot}
-use Rattle.store.specs.Slots.{Settles, Settled}
+use Rattle.store.specs.Table.{Loads, Tabled, InRows, Files′, Filed, fits, full, Fileable, FilesRow}
+use Rattle.store.specs.Table.{Settles, Settled}
 use Rattle.store.proofs.DecodeLaws.{laid, lines-of, index-kept, text-kept}
 
-module _ (i t s : List ℕ) (a : Table) (heads next : List ℕ) (f : Fill) (loads : Loads i a heads next f) (k : Key)
+module _ (i t s : List ℕ) (a : List ℕ) (heads next : List ℕ) (f : Fill) (loads : Loads i a heads next f) (k : Key)
     (some-byte : 1 ≤ length s) (most : length s ≤ lineMax) where
   whole : take (length s) (drop 0 s) ≡ s
   whole = take-length s
@@ -28,7 +28,7 @@ module _ (i t s : List ℕ) (a : Table) (heads next : List ℕ) (f : Fill) (load
   ready : (hs : List Held) → decode i t ≡ some hs
       → Files′ i t s a heads next (f .count) f k 0 (length s) hs
   ready hs d = record {
-    slotted = loads t s hs d;
+    in-rows = loads t s hs d;
     inside = omega arith;
     shape = record {
       some = subst (λ (l : List ℕ). 1 ≤ length l) (sym whole) some-byte;
@@ -41,8 +41,8 @@ module _ (i t s : List ℕ) (a : Table) (heads next : List ℕ) (f : Fill) (load
       let q : (hs : List Held) × (decode i t ≡ some hs) = lines-of (decode i t) e in
       (s, (f .count, (q .0, ready (q .0) (q .1))))
 
-  module _ (b : Table) (heads′ next′ : List ℕ) (r : Fill)
-      (g : FilesSlot i t a heads next f k 0 (length s) b heads′ next′ r) where
+  module _ (b : List ℕ) (heads′ next′ : List ℕ) (r : Fill)
+      (g : FilesRow i t a heads next f k 0 (length s) b heads′ next′ r) where
     abbrev By : List Held → Type 0
     By hs = Filed i t s b heads′ next′ (f .count) f (under k (take (length s) (drop 0 s))) hs r
 

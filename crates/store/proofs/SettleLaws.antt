@@ -14,9 +14,9 @@ use Rattle.text.specs.Bytes.{pick, written, writeBuffer}
 use Rattle.text.proofs.BytesLaws.{buffer-fits, written-length}
 use Rattle.store.specs.Held.{Key, Held}
 use Rattle.store.specs.Inner.{sizes, Sized}
-use Rattle.store.specs.Keys.{keyAt}
 use Rattle.store.specs.Layout.{recordBytes, recordOf, records, texts, padded, encodeIndex, encodeText}
-use Rattle.store.specs.Slots.{living, Table, heldAt, slotAt, Tabled}
+use Rattle.store.specs.Table.{living, heldAt, lineAt, Tabled}
+use Rattle.store.specs.Rows.{keyIn, startIn, lenIn}
 use Rattle.store.proofs.BufferLaws.{written-part}
 use Rattle.store.proofs.LivingLaws.{sizes-within, texts-within, skipped, line-long, records-more, texts-more}
 use Rattle.store.proofs.LivingLaws.{used-more}
@@ -101,23 +101,23 @@ rest-more l l′ l″ at to v e q f g =
 
 -- ---- the lines of the first k numbers are written out; index and text behind them are as they were
 
-pub record Settling (i t s : List ℕ) (a : Table) (old c : ℕ) (i′ t′ : List ℕ) (at off k : ℕ) : Type 0 where
+pub record Settling (i t s : List ℕ) (a : List ℕ) (old c : ℕ) (i′ t′ : List ℕ) (at off k : ℕ) : Type 0 where
   pub hs : List Held
   pub tabled : Tabled i t s a old c hs
   pub most : k ≤ c
-  pub place : at ≡ sizes 0 (living (slotAt t s a old) k)
-  pub used : off ≡ length (texts (living (slotAt t s a old) k))
-  pub index : take at i′ ≡ records 0 (living (slotAt t s a old) k)
-  pub text : take off t′ ≡ texts (living (slotAt t s a old) k)
+  pub place : at ≡ sizes 0 (living (lineAt t s a old) k)
+  pub used : off ≡ length (texts (living (lineAt t s a old) k))
+  pub index : take at i′ ≡ records 0 (living (lineAt t s a old) k)
+  pub text : take off t′ ≡ texts (living (lineAt t s a old) k)
   pub index-rest : drop at i′ ≡ drop at i
   pub text-rest : drop off t′ ≡ drop off t
   pub index-long : length i′ ≡ length i
   pub text-long : length t′ ≡ length t
 
-module _ {i t s : List ℕ} {a : Table} {old c : ℕ} {i′ t′ : List ℕ} {at off k : ℕ}
+module _ {i t s : List ℕ} {a : List ℕ} {old c : ℕ} {i′ t′ : List ℕ} {at off k : ℕ}
     (w : Settling i t s a old c i′ t′ at off k) where
   abbrev S : ℕ → List Held
-  S = slotAt t s a old
+  S = lineAt t s a old
 
   pub at-within : at ≤ length i′
   at-within = omega (arith, w .index-long, w .place, sizes-within (w .tabled) k (w .most))
@@ -126,7 +126,7 @@ module _ {i t s : List ℕ} {a : Table} {old c : ℕ} {i′ t′ : List ℕ} {at
   off-within = omega (arith, w .text-long, w .used, texts-within (w .tabled) k (w .most))
 
   -- a number with no line
-  pub settle-skip : k < c → getD (a .lens) k 0 ≡ 0 → Settling i t s a old c i′ t′ at off (k + 1)
+  pub settle-skip : k < c → lenIn a k ≡ 0 → Settling i t s a old c i′ t′ at off (k + 1)
   settle-skip l e =
       let same : living S (k + 1) ≡ living S k = skipped (w .tabled) k e in record {
         hs = w .hs;
@@ -143,22 +143,22 @@ module _ {i t s : List ℕ} {a : Table} {old c : ℕ} {i′ t′ : List ℕ} {at
       }
 
   -- a number with a line
-  module _ (l : k < c) (n : getD (a .lens) k 0 ≡ 0 → ⊥) where
+  module _ (l : k < c) (n : lenIn a k ≡ 0 → ⊥) where
     abbrev len : ℕ
-    len = getD (a .lens) k 0
+    len = lenIn a k
 
     abbrev start : ℕ
-    start = getD (a .starts) k 0
+    start = startIn a k
 
     abbrev new : List ℕ
-    new = recordBytes (keyAt (a .highs) (a .lows) k) off len
+    new = recordBytes (keyIn a k) off len
 
     abbrev h : Held
     h = heldAt t s a old k
 
     records-next : records 0 (living S (k + 1)) ≡ records 0 (living S k) ++ new
     records-next = records-more (w .tabled) k l n
-        ∙ ap (λ (m : ℕ). records 0 (living S k) ++ recordBytes (keyAt (a .highs) (a .lows) k) m len) (sym (w .used))
+        ∙ ap (λ (m : ℕ). records 0 (living S k) ++ recordBytes (keyIn a k) m len) (sym (w .used))
 
     place-next : at + length new ≡ sizes 0 (living S (k + 1))
     place-next = ap (λ (m : ℕ). m + length new) (w .place)
@@ -167,23 +167,23 @@ module _ {i t s : List ℕ} {a : Table} {old c : ℕ} {i′ t′ : List ℕ} {at
     used-next : off + len ≡ length (texts (living S (k + 1)))
     used-next = ap (λ (x : ℕ). x + len) (w .used) ∙ used-more (w .tabled) k l n
 
-    pub fits-index : at + length (recordBytes (keyAt (a .highs) (a .lows) k) off (getD (a .lens) k 0)) ≤ length i′
+    pub fits-index : at + length (recordBytes (keyIn a k) off (lenIn a k)) ≤ length i′
     fits-index = omega (arith, place-next, w .index-long, sizes-within (w .tabled) (k + 1) (omega arith))
 
-    pub fits-size : (size : ℕ) → Sized (keyAt (a .highs) (a .lows) k) size → at + size ≤ length i′
+    pub fits-size : (size : ℕ) → Sized (keyIn a k) size → at + size ≤ length i′
     fits-size size z = omega (arith, fits-index, z off len)
 
-    pub fits-text : off + getD (a .lens) k 0 ≤ length t′
+    pub fits-text : off + lenIn a k ≤ length t′
     fits-text = omega (arith, used-next, w .text-long, texts-within (w .tabled) (k + 1) (omega arith))
 
-    pub fits-source : getD (a .starts) k 0 + getD (a .lens) k 0 ≤ length (pick (ltb k old) t′ s)
+    pub fits-source : startIn a k + lenIn a k ≤ length (pick (ltb k old) t′ s)
     fits-source = go (ltb k old) (w .tabled .inside k l)
       where
         go : (b : Bool) → start + len ≤ length (pick b t s) → start + len ≤ length (pick b t′ s)
         go true f = omega (arith, w .text-long)
         go false f = f
 
-    pub stands-ahead : ltb k old ≡ true → off ≤ getD (a .starts) k 0
+    pub stands-ahead : ltb k old ≡ true → off ≤ startIn a k
     stands-ahead e = omega (arith, w .used, w .tabled .ahead k (ltb-true k old e))
 
     line-is : take len (drop start (pick (ltb k old) t′ s)) ≡ h .line
@@ -197,10 +197,10 @@ module _ {i t s : List ℕ} {a : Table} {old c : ℕ} {i′ t′ : List ℕ} {at
             λ x. sym (drop-drop (start - off) off x ∙ ap (λ (m : ℕ). drop m x) d) in
             ap (take len) (f t′ ∙ ap (drop (start - off)) (w .text-rest) ∙ sym (f t))
 
-    pub settle-turn : (size : ℕ) → Sized (keyAt (a .highs) (a .lows) k) size → (i″ t″ : List ℕ)
-        → i″ ≡ written i′ at (recordBytes (keyAt (a .highs) (a .lows) k) off (getD (a .lens) k 0))
-        → t″ ≡ written t′ off (take (getD (a .lens) k 0) (drop (getD (a .starts) k 0) (pick (ltb k old) t′ s)))
-        → Settling i t s a old c i″ t″ (at + size) (off + getD (a .lens) k 0) (k + 1)
+    pub settle-turn : (size : ℕ) → Sized (keyIn a k) size → (i″ t″ : List ℕ)
+        → i″ ≡ written i′ at (recordBytes (keyIn a k) off (lenIn a k))
+        → t″ ≡ written t′ off (take (lenIn a k) (drop (startIn a k) (pick (ltb k old) t′ s)))
+        → Settling i t s a old c i″ t″ (at + size) (off + lenIn a k) (k + 1)
     settle-turn size z i″ t″ ei et =
         let line : List ℕ = h .line in
         let e : t″ ≡ written t′ off line = et ∙ ap (written t′ off) line-is in
@@ -249,10 +249,10 @@ zeroed l p r at end q z w b f g e y =
       length-take-le at p w,
     ))
 
-module _ {i t s : List ℕ} {a : Table} {old c : ℕ} {i′ t′ : List ℕ} {at off k : ℕ}
+module _ {i t s : List ℕ} {a : List ℕ} {old c : ℕ} {i′ t′ : List ℕ} {at off k : ℕ}
     (w : Settling i t s a old c i′ t′ at off k) (l : c ≤ k) (hs : List Held) (T : Tabled i t s a old c hs) where
-  all : living (slotAt t s a old) k ≡ hs
-  all = let e : k ≡ c = omega (arith, w .most) in ap (living (slotAt t s a old)) e ∙ sym (T .is)
+  all : living (lineAt t s a old) k ≡ hs
+  all = let e : k ≡ c = omega (arith, w .most) in ap (living (lineAt t s a old)) e ∙ sym (T .is)
 
   pub settled-index : (end : ℕ) → end ≤ length i → drop end i ≡ replicate (length i - end) 0 → (q : List ℕ)
       → q ≡ written i′ at (replicate (end - at) 0) → q ≡ encodeIndex (length i) hs

@@ -9,40 +9,41 @@ use lib.ListN.{length, drop}
 use Rattle.store.specs.declared.chains.Verdict.{Verdict}
 use Rattle.store.specs.declared.chains.Verdict.the-variants as Vd
 use Rattle.store.specs.declared.records.Head.{Head}
-use Rattle.store.specs.declared.slots.Fill.{Fill}
+use Rattle.store.specs.declared.table.Fill.{Fill}
 use Rattle.store.specs.declared.soundness.Stock.{Stock}
 use Rattle.store.specs.Decode.{noHead, headAt, headFits, walk, decode, zeroes}
 use Rattle.store.specs.Held.{Key, indexMax, recordSize}
 use Rattle.store.specs.Layout.{Bytes}
 use Rattle.store.specs.Inner.{known}
-use Rattle.store.specs.Keys.{slots, keyAt, Says, toldOf, Chained, Sought}
-use Rattle.store.specs.Slots.{Table, more, Long, Surveys, Stocks}
+use Rattle.store.specs.Keys.{rowsMax, Says, toldOf, Chained, Sought}
+use Rattle.store.specs.Rows.{Row, keyIn, rowPut, Long}
+use Rattle.store.specs.Table.{Surveys, Stocks}
 use Rattle.store.proofs.BoolLaws.{true-false}
 use Rattle.store.proofs.ChainLaws.{says-turn, says-agree}
 use Rattle.store.proofs.DecodeLaws.{laid, lines-of}
 use Rattle.store.proofs.LoadLaws.{Loading, load-first, load-less, load-end, load-turn}
 use Rattle.store.proofs.OnceLaws.{list-end}
 use Rattle.store.proofs.RecordLaws.{Fits, fits-of}
-use Rattle.store.proofs.SlotLaws.{key-other}
 use Rattle.store.proofs.SoundLaws.{Walking, walking, walking-end, walking-bad, walking-turn, sound-walk}
+use Rattle.store.proofs.WriteLaws.{row-other}
 
 -- n records lie before `at`, and their lines before `used`
-pub record Surveying (i t : List ℕ) (at : ℕ) (a : Table) (heads next : List ℕ) (n used : ℕ) (v : Verdict) : Type 0 where
+pub record Surveying (i t : List ℕ) (at : ℕ) (a : List ℕ) (heads next : List ℕ) (n used : ℕ) (v : Verdict) : Type 0 where
   pub walks : Walking i t (known (walk (suc (length i)) 0 i t)) at used
   pub loading : Loading i at a heads next n used
-  pub says : Says (keyAt (a .highs) (a .lows)) n v
+  pub says : Says (keyIn a) n v
 
-pub survey-first : (i t : List ℕ) (a : Table) (heads next : List ℕ) → length i ≤ indexMax → Long a
-    → Chained (keyAt (a .highs) (a .lows)) heads next 0 → Surveying i t 0 a heads next 0 0 Vd.Apart
+pub survey-first : (i t : List ℕ) (a : List ℕ) (heads next : List ℕ) → length i ≤ indexMax → Long a
+    → Chained (keyIn a) heads next 0 → Surveying i t 0 a heads next 0 0 Vd.Apart
 survey-first i t a heads next m l c = record {
   walks = walking i t;
   loading = load-first i a heads next m l c;
   says = λ x y p q e. omega arith;
 }
 
-module _ (i t : List ℕ) (at : ℕ) (a : Table) (heads next : List ℕ) (n used : ℕ) (v : Verdict)
+module _ (i t : List ℕ) (at : ℕ) (a : List ℕ) (heads next : List ℕ) (n used : ℕ) (v : Verdict)
     (w : Surveying i t at a heads next n used v) where
-  pub survey-less : n < slots
+  pub survey-less : n < rowsMax
   survey-less = load-less i at a heads next n used (w .loading)
 
   pub survey-end : noHead ≡ headAt (drop at i) → Bytes i → (b : Bool)
@@ -54,7 +55,7 @@ module _ (i t : List ℕ) (at : ℕ) (a : Table) (heads next : List ℕ) (n used
     most = survey-less;
     says = w .says;
     chained = w .loading .chained;
-    lists = λ z. list-end i at (a .highs) (a .lows) n (w .loading .listing) noHead e refl;
+    lists = λ z. list-end i at a n (w .loading .listing) noHead e refl;
     loads = λ z. load-end i at a heads next n used (w .loading) noHead e refl y;
   }
 
@@ -78,9 +79,9 @@ module _ (i t : List ℕ) (at : ℕ) (a : Table) (heads next : List ℕ) (n used
     pub survey-on : b ≡ true → Walking i t (known (walk (suc (length i)) 0 i t)) (at + head .size) (used + head .len)
     survey-on q = walking-turn i t _ at used (w .walks) head e some-size b fit q
 
-    pub survey-turn : b ≡ true → (c : Table) → c ≡ more a n (head .key) (head .off) (head .len)
-        → (heads′ next′ : List ℕ) → Chained (keyAt (c .highs) (c .lows)) heads′ next′ (n + 1)
-        → (r : ℕ) → Sought (keyAt (c .highs) (c .lows)) n r → (u : Verdict) → u ≡ toldOf v n r
+    pub survey-turn : b ≡ true → (c : List ℕ) → c ≡ rowPut a n (head .key) (head .off) (head .len)
+        → (heads′ next′ : List ℕ) → Chained (keyIn c) heads′ next′ (n + 1)
+        → (r : ℕ) → Sought (keyIn c) n r → (u : Verdict) → u ≡ toldOf v n r
         → Surveying i t (at + head .size) c heads′ next′ (n + 1) (used + head .len) u
     survey-turn q c ec heads′ next′ ch r so u eu =
         let fits : Fits used head (length t - used) = fits-of used head (length t - used) (sym fit ∙ q) in
@@ -89,17 +90,17 @@ module _ (i t : List ℕ) (at : ℕ) (a : Table) (heads next : List ℕ) (n used
           loading = subst (λ (x : ℕ). Loading i (at + head .size) c heads′ next′ (n + 1) (x + head .len))
               (fits .offset)
               (load-turn i at a heads next n used (w .loading) head e some-size c ec heads′ next′ ch);
-          says = subst (λ (x : Verdict). Says (keyAt (c .highs) (c .lows)) (n + 1) x) (sym eu)
-              (says-turn (keyAt (c .highs) (c .lows)) n r v
-              (says-agree (keyAt (a .highs) (a .lows)) (keyAt (c .highs) (c .lows)) n v same (w .says)) so);
+          says = subst (λ (x : Verdict). Says (keyIn c) (n + 1) x) (sym eu)
+              (says-turn (keyIn c) n r v
+              (says-agree (keyIn a) (keyIn c) n v same (w .says)) so);
         }
       where
-        same : (k : ℕ) → k < n → keyAt (a .highs) (a .lows) k ≡ keyAt (c .highs) (c .lows) k
-        same k l = sym (ap (λ (x : Table). keyAt (x .highs) (x .lows) k) ec
-            ∙ key-other (a .highs) (a .lows) n (head .key .high) (head .key .low) k (λ z. omega arith))
+        same : (k : ℕ) → k < n → keyIn a k ≡ keyIn c k
+        same k l = sym (ap (λ (x : List ℕ). keyIn x k) ec
+            ∙ ap (λ (x : Row). x .key) (row-other a n (head .key) (head .off) (head .len) k (λ z. omega arith)))
 
 -- `take_stock`
-pub no-stock : (i t : List ℕ) (a : Table) (heads next : List ℕ) (r : Stock) → r .sound ≡ false
+pub no-stock : (i t : List ℕ) (a : List ℕ) (heads next : List ℕ) (r : Stock) → r .sound ≡ false
     → known (decode i t) ≡ false → Stocks i t a heads next r
 no-stock i t a heads next r p q = record { is = p ∙ sym q; loads = λ e. absurd (true-false (sym e ∙ p)) }
 

@@ -1,5 +1,5 @@
--- The definitions of the store layer, in reading order. Decode computes what Layout says; Inner, Keys, Slots
--- and Sights serve private functions only.
+-- The definitions of the store layer, in reading order. Decode computes what Layout says; Inner, Keys, Rows,
+-- Table and Sights serve private functions only.
 pub mod Held
 pub mod Layout
 pub mod Decode
@@ -17,5 +17,6 @@ pub mod Forms
 -- what private functions and proofs need
 pub mod Inner
 pub mod Keys
-pub mod Slots
+pub mod Rows
+pub mod Table
 pub mod Sights

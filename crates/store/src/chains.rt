@@ -1,14 +1,16 @@
-// Keys by number, high and low halves in two arrays: chains of the numbers, one for each bucket, show whether a key
-// stands twice. Nothing here knows a record's bytes.
+// Keys by number, which is that of their row: chains of the numbers, one for each bucket, show whether a key stands
+// twice. Nothing here knows a record's bytes.
+use crate::rows::CELLS;
+use crate::rows::ROWS;
+use crate::rows::key_at;
+use crate::rows::same_at;
+use text::uuid::Uuid;
 ghost use mathlib.Core.Path.{_≡_};
 ghost use mathlib.Core.Bool.{true, false};
 ghost use Prim.Native.Nat.{ℕ, suc, _+_, _-_, _≤_, _<_};
-ghost use Rattle.store.specs.Held.{sameKey};
-ghost use Rattle.store.specs.Keys.{keyAt, slots, bucket, Linked, Kin, Chained, Seeks, Sought};
+ghost use Rattle.store.specs.Keys.{rowsMax, bucket, Linked, Kin, Chained, Seeks, Sought};
 ghost use Rattle.store.specs.Keys.{seekSays, toldOf, Tells};
-
-// The most keys that are compared at once: more than an index of 65535 bytes has records.
-pub const SLOTS: usize = 4096;
+ghost use Rattle.store.specs.Rows.{keyIn};
 
 // The most steps in a chain where an order can be had instead.
 const CHAIN_MAX: usize = 16;
@@ -27,40 +29,20 @@ pub fn number(x: u16) -> usize
     x as usize
 }
 
-// A number below `SLOTS` that the key gives.
-fn bucket_of(high: u64, low: u64) -> usize
-    ensures { λ r. ⌜ (r ≡ bucket (record { high = high; low = low })) × (r < slots) ⌝ }
+// A number below `ROWS` that the key gives.
+fn bucket_of(key: Uuid) -> usize
+    ensures { λ r. ⌜ (r ≡ bucket key) × (r < rowsMax) ⌝ }
 {
-    ((31 * (high % 65521) + low % 65521) % 4096) as usize
-}
-
-// Whether the keys of two numbers are the same.
-pub fn same_at(highs: &[u64; SLOTS], lows: &[u64; SLOTS], a: usize, b: usize) -> bool
-    requires { ⌜ (a < slots) × (b < slots) ⌝ }
-    ensures { λ r. ⌜
-        r ≡ sameKey (keyAt (now (highs .entry)) (now (lows .entry)) a)
-        (keyAt (now (highs .entry)) (now (lows .entry)) b) ⌝ }
-{
-    if highs[a] != highs[b] {
-        return false;
-    }
-    lows[a] == lows[b]
+    ((31 * (key.high % 65521) + key.low % 65521) % 4096) as usize
 }
 
 // Seeks the key of number k in the chain that starts before `from`: one more than the number that has it, 0 where none
 // has it, and k + 1 where the chain has more than `most` steps.
-fn seek(
-    highs: &[u64; SLOTS],
-    lows: &[u64; SLOTS],
-    next: &[u16; SLOTS],
-    from: usize,
-    k: usize,
-    most: usize,
-) -> usize
-    requires { ⌜ (k < slots) × (from ≤ k) ⌝ }
-    requires { ⌜ Linked (keyAt (now highs) (now lows)) (now next) k ⌝ }
-    requires { ⌜ Kin (keyAt (now highs) (now lows)) k from ⌝ }
-    ensures { λ r. ⌜ Seeks (keyAt (now (highs .entry)) (now (lows .entry))) k from r ⌝ }
+fn seek(rows: &[u64; CELLS], next: &[u16; ROWS], from: usize, k: usize, most: usize) -> usize
+    requires { ⌜ (k < rowsMax) × (from ≤ k) ⌝ }
+    requires { ⌜ Linked (keyIn (now rows)) (now next) k ⌝ }
+    requires { ⌜ Kin (keyIn (now rows)) k from ⌝ }
+    ensures { λ r. ⌜ Seeks (keyIn (now (rows .entry))) k from r ⌝ }
     ensures { λ r. ⌜ (from ≤ most → r ≤ k) ⌝ }
 {
     let mut c = from;
@@ -69,7 +51,7 @@ fn seek(
         if left == 0 {
             return k + 1;
         }
-        if same_at(highs, lows, c - 1, k) {
+        if same_at(rows, c - 1, k) {
             return c;
         }
         c = number(next[c - 1]);
@@ -80,42 +62,37 @@ fn seek(
 
 // Seeks the key of number k among the numbers before it, which are in their chains: one more than the last that has
 // it, or 0.
-pub fn seek_before(
-    highs: &[u64; SLOTS],
-    lows: &[u64; SLOTS],
-    heads: &[u16; SLOTS],
-    next: &[u16; SLOTS],
-    k: usize,
-) -> usize
-    requires { ⌜ k < slots ⌝ }
-    requires { ⌜ Chained (keyAt (now highs) (now lows)) (now heads) (now next) k ⌝ }
-    ensures { λ r. ⌜ Sought (keyAt (now (highs .entry)) (now (lows .entry))) k r ⌝ }
+pub fn seek_before(rows: &[u64; CELLS], heads: &[u16; ROWS], next: &[u16; ROWS], k: usize) -> usize
+    requires { ⌜ k < rowsMax ⌝ }
+    requires { ⌜ Chained (keyIn (now rows)) (now heads) (now next) k ⌝ }
+    ensures { λ r. ⌜ Sought (keyIn (now (rows .entry))) k r ⌝ }
     ensures { λ r. ⌜ r ≤ k ⌝ }
 {
-    let h = bucket_of(highs[k], lows[k]);
+    let key = key_at(rows, k);
+    let h = bucket_of(key);
     let head = heads[h];
-    seek(highs, lows, next, number(head), k, SLOTS)
+    seek(rows, next, number(head), k, ROWS)
 }
 
 // Puts number k in front of its chain, and answers as `seek` does.
 pub fn link(
-    highs: &[u64; SLOTS],
-    lows: &[u64; SLOTS],
-    heads: &mut [u16; SLOTS],
-    next: &mut [u16; SLOTS],
+    rows: &[u64; CELLS],
+    heads: &mut [u16; ROWS],
+    next: &mut [u16; ROWS],
     k: usize,
     most: usize,
 ) -> usize
-    requires { ⌜ k < slots ⌝ }
-    requires { ⌜ Chained (keyAt (now highs) (now lows)) (now heads) (now next) k ⌝ }
-    ensures { λ r. ⌜ Sought (keyAt (now (highs .entry)) (now (lows .entry))) k r ⌝ }
+    requires { ⌜ k < rowsMax ⌝ }
+    requires { ⌜ Chained (keyIn (now rows)) (now heads) (now next) k ⌝ }
+    ensures { λ r. ⌜ Sought (keyIn (now (rows .entry))) k r ⌝ }
     ensures { λ r. ⌜
-        Chained (keyAt (now (highs .entry)) (now (lows .entry))) (now (heads .exit)) (now (next .exit)) (k + 1) ⌝ }
-    ensures { λ r. ⌜ (slots ≤ most → r ≤ k) ⌝ }
+        Chained (keyIn (now (rows .entry))) (now (heads .exit)) (now (next .exit)) (k + 1) ⌝ }
+    ensures { λ r. ⌜ (rowsMax ≤ most → r ≤ k) ⌝ }
 {
-    let h = bucket_of(highs[k], lows[k]);
+    let key = key_at(rows, k);
+    let h = bucket_of(key);
     let head = heads[h];
-    let r = seek(highs, lows, next, number(head), k, most);
+    let r = seek(rows, next, number(head), k, most);
     next[k] = head;
     heads[h] = ((k + 1) % 65536) as u16;
     r
@@ -155,14 +132,14 @@ pub fn steps(known: Verdict) -> usize {
 }
 
 // Whether no key stands twice among the first n, each sought in its chain to the end.
-pub fn seek_all(highs: &[u64; SLOTS], lows: &[u64; SLOTS], next: &[u16; SLOTS], n: usize) -> bool
-    requires { ⌜ n ≤ slots ⌝ }
-    requires { ⌜ Linked (keyAt (now highs) (now lows)) (now next) n ⌝ }
-    ensures { λ r. ⌜ Tells (keyAt (now (highs .entry)) (now (lows .entry))) n r ⌝ }
+pub fn seek_all(rows: &[u64; CELLS], next: &[u16; ROWS], n: usize) -> bool
+    requires { ⌜ n ≤ rowsMax ⌝ }
+    requires { ⌜ Linked (keyIn (now rows)) (now next) n ⌝ }
+    ensures { λ r. ⌜ Tells (keyIn (now (rows .entry))) n r ⌝ }
 {
     let mut k = 0;
     while k < n {
-        let r = seek(highs, lows, next, number(next[k]), k, SLOTS);
+        let r = seek(rows, next, number(next[k]), k, ROWS);
         if 0 < r {
             return false;
         }

@@ -1,8 +1,9 @@
 // Filing one line in a sound store: by number, as an insert does.
-use crate::chains::SLOTS;
+use crate::rows::CELLS;
+use crate::rows::ROWS;
 use crate::settle::settle;
-use crate::slots::Fill;
-use crate::slots::file_slot;
+use crate::table::Fill;
+use crate::table::file_row;
 use text::uuid::Uuid;
 ghost use mathlib.Core.Path.{_≡_};
 ghost use mathlib.Core.Bool.{true};
@@ -12,20 +13,17 @@ ghost use Rattle.store.specs.Held.{lineMax};
 ghost use Rattle.store.specs.Book.{under};
 ghost use Rattle.store.specs.Decode.{decode};
 ghost use Rattle.store.specs.Inner.{known, Files};
-ghost use Rattle.store.specs.Keys.{slots};
-ghost use Rattle.store.specs.Slots.{Loads};
+ghost use Rattle.store.specs.Keys.{rowsMax};
+ghost use Rattle.store.specs.Table.{Loads};
 
 // Files a line under a key, if there is room: the one held under it is taken out, and the new one goes last. The lines
 // that are held are written down.
 pub fn file_line(
     index: &mut [u8],
     text: &mut [u8],
-    highs: &mut [u64; SLOTS],
-    lows: &mut [u64; SLOTS],
-    starts: &mut [usize; SLOTS],
-    lens: &mut [usize; SLOTS],
-    heads: &mut [u16; SLOTS],
-    next: &mut [u16; SLOTS],
+    rows: &mut [u64; CELLS],
+    heads: &mut [u16; ROWS],
+    next: &mut [u16; ROWS],
     fill: Fill,
     key: Uuid,
     line: &[u8],
@@ -34,31 +32,18 @@ pub fn file_line(
     requires { ⌜ (1 ≤ length (now line)) × (length (now line) ≤ lineMax) ⌝ }
     requires { ⌜
         Loads (now index)
-        (record { highs = now highs; lows = now lows; starts = now starts; lens = now lens }) (now heads) (now next)
-        fill × (fill .count < slots) ⌝ }
+        (now rows) (now heads) (now next)
+        fill × (fill .count < rowsMax) ⌝ }
     ensures { λ r. ⌜
         Files (now (index .entry)) (now (text .entry)) (under key (now (line .entry))) r
         (now (index .exit)) (now (text .exit)) ⌝ }
 {
     let len = line.len();
-    let filled = file_slot(
-        index,
-        text,
-        highs,
-        lows,
-        starts,
-        lens,
-        heads,
-        next,
-        fill,
-        key,
-        0,
-        len,
-    );
+    let filled = file_row(index, text, rows, heads, next, fill, key, 0, len);
     let count = filled.count;
     if count == fill.count {
         return false;
     }
-    settle(index, text, line, highs, lows, starts, lens, fill, count);
+    settle(index, text, line, rows, fill, count);
     true
 }

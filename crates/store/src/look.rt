@@ -1,15 +1,18 @@
 // A look-up: the line of a key, by number.
 use crate::calls::Look;
-use crate::chains::SLOTS;
 use crate::chains::seek_before;
-use crate::slots::Fill;
-use crate::slots::len_before;
+use crate::rows::CELLS;
+use crate::rows::ROWS;
+use crate::rows::put_row;
+use crate::rows::start_at;
 use crate::soundness::take_stock;
+use crate::table::Fill;
+use crate::table::len_before;
 use text::uuid::Uuid;
 ghost use mathlib.Core.Path.{_≡_};
 ghost use Prim.Native.Nat.{_<_};
-ghost use Rattle.store.specs.Keys.{slots, keyAt};
-ghost use Rattle.store.specs.Slots.{Sees};
+ghost use Rattle.store.specs.Keys.{rowsMax};
+ghost use Rattle.store.specs.Table.{Sees};
 ghost use Rattle.store.specs.Sights.{Ready, Agree, Spots};
 
 // Where in the text a line lies; length 0 where there is none.
@@ -28,35 +31,27 @@ pub struct Seen {
 // Where the line of a key lies: the key is written down behind the lines that are held, and its chain tells the one
 // before.
 pub fn part_of(
-    highs: &mut [u64; SLOTS],
-    lows: &mut [u64; SLOTS],
-    starts: &[usize; SLOTS],
-    lens: &[usize; SLOTS],
-    heads: &[u16; SLOTS],
-    next: &[u16; SLOTS],
+    rows: &mut [u64; CELLS],
+    heads: &[u16; ROWS],
+    next: &[u16; ROWS],
     fill: Fill,
     key: Uuid,
 ) -> Part
-    requires { ⌜ fill .count < slots ⌝ }
-    requires { ⌜ Ready (now highs) (now lows) (now heads) (now next) (fill .count) ⌝ }
-    ensures { λ _. ⌜
-        Ready (now (highs .exit)) (now (lows .exit)) (now (heads .entry)) (now (next .entry)) (fill .count) ⌝ }
-    ensures { λ _. ⌜
-        Agree (keyAt (now (highs .entry)) (now (lows .entry))) (keyAt (now (highs .exit)) (now (lows .exit)))
-        (fill .count) ⌝ }
+    requires { ⌜ fill .count < rowsMax ⌝ }
+    requires { ⌜ Ready (now rows) (now heads) (now next) (fill .count) ⌝ }
+    ensures { λ _. ⌜ Ready (now (rows .exit)) (now (heads .entry)) (now (next .entry)) (fill .count) ⌝ }
+    ensures { λ _. ⌜ Agree (now (rows .entry)) (now (rows .exit)) (fill .count) ⌝ }
     ensures { λ r. ⌜
-        Spots (now (highs .entry)) (now (lows .entry)) (now (starts .entry)) (now (lens .entry)) (now (heads .entry))
-        (now (next .entry)) fill key r ⌝ }
+        Spots (now (rows .entry)) (now (heads .entry)) (now (next .entry)) fill key r ⌝ }
 {
     let n = fill.count;
-    highs[n] = key.high;
-    lows[n] = key.low;
-    let r = seek_before(highs, lows, heads, next, n);
-    let len = len_before(lens, r);
+    put_row(rows, n, key, 0, 0);
+    let r = seek_before(rows, heads, next, n);
+    let len = len_before(rows, r);
     if len == 0 {
         return Part { start: 0, len: 0 };
     }
-    let start = starts[r - 1];
+    let start = start_at(rows, r - 1);
     Part { start, len }
 }
 
@@ -64,22 +59,10 @@ pub fn part_of(
 pub fn look(index: &[u8], text: &[u8], key: Uuid) -> Seen
     ensures { λ r. ⌜ Sees (now (index .entry)) (now (text .entry)) key r ⌝ }
 {
-    let mut highs = [0u64; SLOTS];
-    let mut lows = [0u64; SLOTS];
-    let mut starts = [0usize; SLOTS];
-    let mut lens = [0usize; SLOTS];
-    let mut heads = [0u16; SLOTS];
-    let mut next = [0u16; SLOTS];
-    let stock = take_stock(
-        index,
-        text,
-        &mut highs,
-        &mut lows,
-        &mut starts,
-        &mut lens,
-        &mut heads,
-        &mut next,
-    );
+    let mut rows = [0u64; CELLS];
+    let mut heads = [0u16; ROWS];
+    let mut next = [0u16; ROWS];
+    let stock = take_stock(index, text, &mut rows, &mut heads, &mut next);
     if !stock.sound {
         return Seen {
             how: Look::Unsound,
@@ -88,16 +71,7 @@ pub fn look(index: &[u8], text: &[u8], key: Uuid) -> Seen
         };
     }
     let fill = stock.fill;
-    let part = part_of(
-        &mut highs,
-        &mut lows,
-        &starts,
-        &lens,
-        &heads,
-        &next,
-        fill,
-        key,
-    );
+    let part = part_of(&mut rows, &heads, &next, fill, key);
     if part.len == 0 {
         return Seen {
             how: Look::Missing,

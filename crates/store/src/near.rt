@@ -1,12 +1,13 @@
 // A look-up that also tries a UUID without its checksum (document 02, P5). Both tries go by one walk over the store.
-use crate::chains::SLOTS;
 use crate::look::part_of;
-use crate::slots::Fill;
+use crate::rows::CELLS;
+use crate::rows::ROWS;
 use crate::soundness::take_stock;
+use crate::table::Fill;
 use text::uuid::Uuid;
 ghost use mathlib.Core.Path.{_≡_};
 ghost use Prim.Native.Nat.{_<_};
-ghost use Rattle.store.specs.Keys.{slots};
+ghost use Rattle.store.specs.Keys.{rowsMax};
 ghost use Rattle.store.specs.Near.{nearUp, nearSays, nearLine};
 ghost use Rattle.store.specs.Sights.{Ready, NearSees, Tries};
 
@@ -28,23 +29,18 @@ struct NearSeen {
 
 // Tries the whole UUID, then the same without its checksum, among the lines that are written down.
 fn try_both(
-    highs: &mut [u64; SLOTS],
-    lows: &mut [u64; SLOTS],
-    starts: &[usize; SLOTS],
-    lens: &[usize; SLOTS],
-    heads: &[u16; SLOTS],
-    next: &[u16; SLOTS],
+    rows: &mut [u64; CELLS],
+    heads: &[u16; ROWS],
+    next: &[u16; ROWS],
     fill: Fill,
     key: Uuid,
 ) -> NearSeen
-    requires { ⌜ fill .count < slots ⌝ }
-    requires { ⌜ Ready (now highs) (now lows) (now heads) (now next) (fill .count) ⌝ }
-    ensures { λ r. ⌜
-        Tries (now (highs .entry)) (now (lows .entry)) (now (starts .entry)) (now (lens .entry)) (now (heads .entry))
-        (now (next .entry)) fill key r ⌝ }
+    requires { ⌜ fill .count < rowsMax ⌝ }
+    requires { ⌜ Ready (now rows) (now heads) (now next) (fill .count) ⌝ }
+    ensures { λ r. ⌜ Tries (now (rows .entry)) (now (heads .entry)) (now (next .entry)) fill key r ⌝ }
 {
     let plain = key.without_checksum();
-    let whole = part_of(highs, lows, starts, lens, heads, next, fill, key);
+    let whole = part_of(rows, heads, next, fill, key);
     if 0 < whole.len {
         return NearSeen {
             how: NearLook::Exact,
@@ -52,7 +48,7 @@ fn try_both(
             len: whole.len,
         };
     }
-    let second = part_of(highs, lows, starts, lens, heads, next, fill, plain);
+    let second = part_of(rows, heads, next, fill, plain);
     if 0 < second.len {
         return NearSeen {
             how: NearLook::Near,
@@ -71,22 +67,10 @@ fn try_both(
 fn look_near(index: &[u8], text: &[u8], key: Uuid) -> NearSeen
     ensures { λ r. ⌜ NearSees (now (text .entry)) (nearUp key (now (index .entry)) (now (text .entry))) r ⌝ }
 {
-    let mut highs = [0u64; SLOTS];
-    let mut lows = [0u64; SLOTS];
-    let mut starts = [0usize; SLOTS];
-    let mut lens = [0usize; SLOTS];
-    let mut heads = [0u16; SLOTS];
-    let mut next = [0u16; SLOTS];
-    let stock = take_stock(
-        index,
-        text,
-        &mut highs,
-        &mut lows,
-        &mut starts,
-        &mut lens,
-        &mut heads,
-        &mut next,
-    );
+    let mut rows = [0u64; CELLS];
+    let mut heads = [0u16; ROWS];
+    let mut next = [0u16; ROWS];
+    let stock = take_stock(index, text, &mut rows, &mut heads, &mut next);
     if !stock.sound {
         return NearSeen {
             how: NearLook::Unsound,
@@ -95,16 +79,7 @@ fn look_near(index: &[u8], text: &[u8], key: Uuid) -> NearSeen
         };
     }
     let fill = stock.fill;
-    try_both(
-        &mut highs,
-        &mut lows,
-        &starts,
-        &lens,
-        &heads,
-        &next,
-        fill,
-        key,
-    )
+    try_both(&mut rows, &heads, &next, fill, key)
 }
 
 // Whether a line is held under that UUID, or only under the same without its checksum.

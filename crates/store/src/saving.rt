@@ -2,8 +2,9 @@
 use crate::calls::Answer;
 use crate::calls::SaveAnswer;
 use crate::calls::Saved;
-use crate::chains::SLOTS;
 use crate::filing::file_line;
+use crate::rows::CELLS;
+use crate::rows::ROWS;
 use crate::search::find_text;
 use crate::soundness::take_stock;
 use line::mapping::Mapping;
@@ -24,22 +25,10 @@ pub fn file_built(index: &mut [u8], text: &mut [u8], uuid: Uuid, line: &[u8]) ->
         record { answer = r; index = now (index .exit); text = now (text .exit) }
         ≡ storeFile (now (index .entry)) (now (text .entry)) (under uuid (now (line .entry))) ⌝ }
 {
-    let mut highs = [0u64; SLOTS];
-    let mut lows = [0u64; SLOTS];
-    let mut starts = [0usize; SLOTS];
-    let mut lens = [0usize; SLOTS];
-    let mut heads = [0u16; SLOTS];
-    let mut next = [0u16; SLOTS];
-    let stock = take_stock(
-        index,
-        text,
-        &mut highs,
-        &mut lows,
-        &mut starts,
-        &mut lens,
-        &mut heads,
-        &mut next,
-    );
+    let mut rows = [0u64; CELLS];
+    let mut heads = [0u16; ROWS];
+    let mut next = [0u16; ROWS];
+    let stock = take_stock(index, text, &mut rows, &mut heads, &mut next);
     if !stock.sound {
         return Answer::Unsound;
     }
@@ -47,10 +36,7 @@ pub fn file_built(index: &mut [u8], text: &mut [u8], uuid: Uuid, line: &[u8]) ->
     if !file_line(
         index,
         text,
-        &mut highs,
-        &mut lows,
-        &mut starts,
-        &mut lens,
+        &mut rows,
         &mut heads,
         &mut next,
         fill,

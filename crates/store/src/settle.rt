@@ -2,18 +2,20 @@
 // behind them. The index from the first removed record on is lent to `close_up`.
 use crate::bytes::move_down;
 use crate::bytes::zero_between;
-use crate::chains::SLOTS;
 use crate::records::put_record;
 use crate::records::record_size;
-use crate::slots::Fill;
+use crate::rows::CELLS;
+use crate::rows::key_at;
+use crate::rows::len_at;
+use crate::rows::start_at;
+use crate::table::Fill;
 use text::bytes::write_bytes;
-use text::uuid::Uuid;
 ghost use mathlib.Core.Path.{_≡_};
 ghost use mathlib.Core.Bool.{true};
 ghost use Prim.Native.Nat.{ℕ, suc, _+_, _-_, _≤_, _<_};
 ghost use lib.ListN.{length, take, drop};
 ghost use Rattle.text.specs.Bytes.{pick, written};
-ghost use Rattle.store.specs.Slots.{Keepable, Keeps, Closes, Closed, Extends, Settles, Settled};
+ghost use Rattle.store.specs.Table.{Keepable, Keeps, Closes, Closed, Extends, Settles, Settled};
 
 // The numbers before the first one that is struck out: how many, and where their records and their lines end.
 pub struct Kept {
@@ -40,39 +42,25 @@ fn put_text(text: &mut [u8], lines: &[u8], off: usize, start: usize, len: usize,
 }
 
 // Counts the first of `old` numbers, up to one that is struck out.
-fn kept_rows(
-    highs: &[u64; SLOTS],
-    lows: &[u64; SLOTS],
-    starts: &[usize; SLOTS],
-    lens: &[usize; SLOTS],
-    old: usize,
-) -> Kept
-    requires { ⌜ Keepable (record { highs = now highs; lows = now lows; starts = now starts; lens = now lens }) old ⌝ }
+fn kept_rows(rows: &[u64; CELLS], old: usize) -> Kept
+    requires { ⌜ Keepable (now rows) old ⌝ }
     ensures { λ r. ⌜
-        Keeps (record {
-          highs = now (highs .entry);
-          lows = now (lows .entry);
-          starts = now (starts .entry);
-          lens = now (lens .entry);
-        }) old r ⌝ }
+        Keeps (now (rows .entry)) old r ⌝ }
 {
-    let mut rows = 0;
+    let mut k = 0;
     let mut at = 0;
     let mut off = 0;
-    while rows < old {
-        let len = lens[rows];
+    while k < old {
+        let len = len_at(rows, k);
         if len == 0 {
-            return Kept { rows, at, off };
+            return Kept { rows: k, at, off };
         }
-        let key = Uuid {
-            high: highs[rows],
-            low: lows[rows],
-        };
+        let key = key_at(rows, k);
         at += record_size(key);
         off += len;
-        rows += 1;
+        k += 1;
     }
-    Kept { rows, at, off }
+    Kept { rows: k, at, off }
 }
 
 // Moves the records behind those that are kept down, with their lines, and zeroes the tail: the part is the index from
@@ -82,41 +70,31 @@ fn close_up(
     part: &mut [u8],
     text: &mut [u8],
     lines: &[u8],
-    highs: &[u64; SLOTS],
-    lows: &[u64; SLOTS],
-    starts: &[usize; SLOTS],
-    lens: &[usize; SLOTS],
+    rows: &[u64; CELLS],
     kept: Kept,
     was: Fill,
     count: usize,
 )
     requires { ⌜
         Closes (now part) (now text) (now lines)
-        (record { highs = now highs; lows = now lows; starts = now starts; lens = now lens }) kept was count ⌝ }
+        (now rows) kept was count ⌝ }
     ensures { λ r. ⌜
         Closed (now (part .entry)) (now (text .entry)) (now (lines .entry))
-        (record {
-          highs = now (highs .entry);
-          lows = now (lows .entry);
-          starts = now (starts .entry);
-          lens = now (lens .entry);
-        }) kept was count (now (part .exit)) (now (text .exit)) ⌝ }
+        (now (rows .entry)) kept was count (now (part .exit)) (now (text .exit)) ⌝ }
 {
     let mut at = 0;
     let mut off = kept.off;
     let mut k = kept.rows;
     while k < count {
-        let len = lens[k];
+        let len = len_at(rows, k);
         if len == 0 {
             k += 1;
             continue;
         }
-        let key = Uuid {
-            high: highs[k],
-            low: lows[k],
-        };
+        let key = key_at(rows, k);
+        let start = start_at(rows, k);
         put_record(&mut part[at..], key, off, len);
-        put_text(text, lines, off, starts[k], len, k < was.count);
+        put_text(text, lines, off, start, len, k < was.count);
         at += record_size(key);
         off += len;
         k += 1;
@@ -131,38 +109,19 @@ pub fn settle(
     index: &mut [u8],
     text: &mut [u8],
     lines: &[u8],
-    highs: &[u64; SLOTS],
-    lows: &[u64; SLOTS],
-    starts: &[usize; SLOTS],
-    lens: &[usize; SLOTS],
+    rows: &[u64; CELLS],
     was: Fill,
     count: usize,
 )
     requires { ⌜ Extends (now index) (now text) was ⌝ }
     requires { ⌜
         Settles (now index) (now text) (now lines)
-        (record { highs = now highs; lows = now lows; starts = now starts; lens = now lens }) was count ⌝ }
+        (now rows) was count ⌝ }
     ensures { λ r. ⌜
         Settled (now (index .entry)) (now (text .entry)) (now (lines .entry))
-        (record {
-          highs = now (highs .entry);
-          lows = now (lows .entry);
-          starts = now (starts .entry);
-          lens = now (lens .entry);
-        }) was count (now (index .exit)) (now (text .exit)) ⌝ }
+        (now (rows .entry)) was count (now (index .exit)) (now (text .exit)) ⌝ }
 {
-    let kept = kept_rows(highs, lows, starts, lens, was.count);
+    let kept = kept_rows(rows, was.count);
     let at = kept.at;
-    close_up(
-        &mut index[at..],
-        text,
-        lines,
-        highs,
-        lows,
-        starts,
-        lens,
-        kept,
-        was,
-        count,
-    );
+    close_up(&mut index[at..], text, lines, rows, kept, was, count);
 }

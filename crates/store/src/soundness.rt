@@ -1,6 +1,5 @@
 // Whether two buffers are a sound store: one walk over the records checks them and writes the lines down.
 use crate::bytes::all_zero;
-use crate::chains::SLOTS;
 use crate::chains::Verdict;
 use crate::chains::steps;
 use crate::chains::told;
@@ -8,8 +7,10 @@ use crate::order::each_once;
 use crate::records::Head;
 use crate::records::stands;
 use crate::records::whole_head;
-use crate::slots::Fill;
-use crate::slots::put_slot;
+use crate::rows::CELLS;
+use crate::rows::ROWS;
+use crate::table::Fill;
+use crate::table::add_row;
 ghost use mathlib.Core.Path.{_≡_};
 ghost use mathlib.Core.Bool.{_&&_, false};
 ghost use mathlib.Core.List.{List, _∷_, _++_};
@@ -18,8 +19,9 @@ ghost use lib.ListN.{length, take, drop};
 ghost use Rattle.store.specs.Decode.{headFits, zeroes, decode};
 ghost use Rattle.store.specs.Held.{indexMax, textMax};
 ghost use Rattle.store.specs.Inner.{known};
-ghost use Rattle.store.specs.Keys.{keyAt, Chained};
-ghost use Rattle.store.specs.Slots.{Long, Surveys, Stocks};
+ghost use Rattle.store.specs.Keys.{Chained};
+ghost use Rattle.store.specs.Rows.{keyIn, Long};
+ghost use Rattle.store.specs.Table.{Surveys, Stocks};
 
 // The most bytes of a line, of an index and of a text.
 pub const LINE_MAX: usize = 16384;
@@ -73,24 +75,16 @@ fn zero_behind(index: &[u8], text: &[u8], at: usize, off: usize) -> bool
 pub fn survey(
     index: &[u8],
     text: &[u8],
-    highs: &mut [u64; SLOTS],
-    lows: &mut [u64; SLOTS],
-    starts: &mut [usize; SLOTS],
-    lens: &mut [usize; SLOTS],
-    heads: &mut [u16; SLOTS],
-    next: &mut [u16; SLOTS],
+    rows: &mut [u64; CELLS],
+    heads: &mut [u16; ROWS],
+    next: &mut [u16; ROWS],
 ) -> Surveyed
     requires { ⌜ (length (now index) ≤ indexMax) × (length (now text) ≤ textMax) ⌝ }
-    requires { ⌜ Chained (keyAt (now highs) (now lows)) (now heads) (now next) 0 ⌝ }
-    requires { ⌜ Long (record { highs = now highs; lows = now lows; starts = now starts; lens = now lens }) ⌝ }
+    requires { ⌜ Chained (keyIn (now rows)) (now heads) (now next) 0 ⌝ }
+    requires { ⌜ Long (now rows) ⌝ }
     ensures { λ r. ⌜
         Surveys (now (index .entry)) (now (text .entry))
-        (record {
-          highs = now (highs .exit);
-          lows = now (lows .exit);
-          starts = now (starts .exit);
-          lens = now (lens .exit);
-        }) (now (heads .exit)) (now (next .exit)) r ⌝ }
+        (now (rows .exit)) (now (heads .exit)) (now (next .exit)) r ⌝ }
 {
     let mut at = 0;
     let mut used = 0;
@@ -109,11 +103,8 @@ pub fn survey(
                 },
             };
         }
-        let r = put_slot(
-            highs,
-            lows,
-            starts,
-            lens,
+        let r = add_row(
+            rows,
             heads,
             next,
             n,
@@ -156,23 +147,15 @@ fn unsound() -> Stock
 pub fn take_stock(
     index: &[u8],
     text: &[u8],
-    highs: &mut [u64; SLOTS],
-    lows: &mut [u64; SLOTS],
-    starts: &mut [usize; SLOTS],
-    lens: &mut [usize; SLOTS],
-    heads: &mut [u16; SLOTS],
-    next: &mut [u16; SLOTS],
+    rows: &mut [u64; CELLS],
+    heads: &mut [u16; ROWS],
+    next: &mut [u16; ROWS],
 ) -> Stock
-    requires { ⌜ Chained (keyAt (now highs) (now lows)) (now heads) (now next) 0 ⌝ }
-    requires { ⌜ Long (record { highs = now highs; lows = now lows; starts = now starts; lens = now lens }) ⌝ }
+    requires { ⌜ Chained (keyIn (now rows)) (now heads) (now next) 0 ⌝ }
+    requires { ⌜ Long (now rows) ⌝ }
     ensures { λ r. ⌜
         Stocks (now (index .entry)) (now (text .entry))
-        (record {
-          highs = now (highs .exit);
-          lows = now (lows .exit);
-          starts = now (starts .exit);
-          lens = now (lens .exit);
-        }) (now (heads .exit)) (now (next .exit)) r ⌝ }
+        (now (rows .exit)) (now (heads .exit)) (now (next .exit)) r ⌝ }
 {
     if INDEX_MAX < index.len() {
         return unsound();
@@ -180,13 +163,13 @@ pub fn take_stock(
     if TEXT_MAX < text.len() {
         return unsound();
     }
-    let seen = survey(index, text, highs, lows, starts, lens, heads, next);
+    let seen = survey(index, text, rows, heads, next);
     if !seen.whole {
         return unsound();
     }
     let fill = seen.fill;
     let verdict = seen.verdict;
-    let sound = each_once(highs, lows, next, fill.count, verdict);
+    let sound = each_once(rows, next, fill.count, verdict);
     Stock { sound, fill }
 }
 
@@ -194,21 +177,9 @@ pub fn take_stock(
 pub fn sound(index: &[u8], text: &[u8]) -> bool
     ensures { λ r. ⌜ r ≡ known (decode (now (index .entry)) (now (text .entry))) ⌝ }
 {
-    let mut highs = [0u64; SLOTS];
-    let mut lows = [0u64; SLOTS];
-    let mut starts = [0usize; SLOTS];
-    let mut lens = [0usize; SLOTS];
-    let mut heads = [0u16; SLOTS];
-    let mut next = [0u16; SLOTS];
-    let stock = take_stock(
-        index,
-        text,
-        &mut highs,
-        &mut lows,
-        &mut starts,
-        &mut lens,
-        &mut heads,
-        &mut next,
-    );
+    let mut rows = [0u64; CELLS];
+    let mut heads = [0u16; ROWS];
+    let mut next = [0u16; ROWS];
+    let stock = take_stock(index, text, &mut rows, &mut heads, &mut next);
     stock.sound
 }

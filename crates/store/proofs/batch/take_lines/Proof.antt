@@ -12,29 +12,30 @@ use Rattle.text.proofs.ListLaws.{part-to-end}
 use Rattle.text.proofs.LentLaws.{tail-length}
 use Rattle.text.proofs.BytesLaws.{first-le}
 use Rattle.text.specs.Search.{lf}
-use Rattle.store.specs.Keys.{slots}
+use Rattle.store.specs.Keys.{rowsMax}
 use Rattle.store.proofs.BatchLaws.{Taking, take-first, take-on, first-at, taken, line-part, take-off, take-turn}
 use Rattle.store.proofs.batch.take_lines.Statement.{statement}
 use Rattle.store.proofs.batch.take_lines.Tie as tie
 
 abbrev Inv-loop : tie.InvT-loop
-Inv-loop index text lines highs₀ lows₀ starts₀ lens₀ heads₀ next₀ from at₀ count₀ fill₀ highs lows starts lens heads
+Inv-loop index text lines rows₀ heads₀ next₀ from at₀ count₀ fill₀ rows heads
     next at count fill =
     Taking index text lines
-    (record { highs = highs₀; lows = lows₀; starts = starts₀; lens = lens₀ }) heads₀ next₀ from fill₀
-    (record { highs = highs; lows = lows; starts = starts; lens = lens }) heads next fill at count
+    rows₀ heads₀ next₀ from fill₀
+    rows heads next fill at count
 
 abbrev μ-loop : tie.MeasureT-loop
-μ-loop index text lines highs₀ lows₀ starts₀ lens₀ heads₀ next₀ from at₀ count₀ fill₀ highs lows starts lens heads next
+μ-loop index text lines rows₀ heads₀ next₀ from at₀ count₀ fill₀ rows heads next
     at count fill =
     length lines + 1 - at
 
 loop-holds : tie.Need-loop-holds Inv-loop μ-loop
 loop-holds c =
     let args = c .before .before .before .args in
+    let pre = c .before .before .before .pre in
     take-first (args .index .now) (args .text .now) (args .lines .now)
-    (record { highs = args .highs .now; lows = args .lows .now; starts = args .starts .now; lens = args .lens .now })
-    (args .heads .now) (args .next .now) (args .from) (args .first) (c .before .before .before .pre .0)
+    (args .rows .now)
+    (args .heads .now) (args .next .now) (args .from) (args .first) (pre .0)
 
 sub-find-far : tie.Need-sub-find-far Inv-loop μ-loop
 sub-find-far c = search needs
@@ -60,21 +61,22 @@ part-line-length-end c = search needs
 line-length-requires : tie.Need-line-length-requires Inv-loop μ-loop
 line-length-requires c κs = c .before .find-far .ensures
 
-reach-slot-requires : tie.Need-reach-slot-requires Inv-loop μ-loop
-reach-slot-requires c κs =
+reach-row-requires : tie.Need-reach-row-requires Inv-loop μ-loop
+reach-row-requires c κs =
     let back5 = c .before .before .before .before .before in
     let back10 = back5 .before .before .before .before .before in
-    let back15 = back10 .before .before .before .before .before in
-    let args = back15 .before .before .args in
-    let loop = back10 .before .before .before .loop in
-    let cut = back5 .before .line-length in
+    let args = back10 .before .before .before .before .args in
+    let pre = back10 .before .before .before .before .pre in
+    let loop = back10 .loop in
+    let if1 = back5 .before .before .if1 in
+    let cut = c .before .before .before .line-length in
     let now = taken (args .index .now) (args .text .now) (args .lines .now)
-    (record { highs = args .highs .now; lows = args .lows .now; starts = args .starts .now; lens = args .lens .now })
+    (args .rows .now)
     (args .heads .now) (args .next .now) (args .from) (args .first)
-    (record { highs = loop .highs; lows = loop .lows; starts = loop .starts; lens = loop .lens })
-    (loop .heads) (loop .next) (loop .fill) (loop .at) (loop .count) (loop .inv) (back15 .before .before .pre .1) in (
+    (loop .rows)
+    (loop .heads) (loop .next) (loop .fill) (loop .at) (loop .count) (loop .inv) (pre .1) in (
       (
-        ltb-true (loop .fill .count) slots (back10 .if1 .taken),
+        ltb-true (loop .fill .count) rowsMax (if1 .taken),
         omega
             (arith, tail-length (loop .at) (args .lines .now), cut .ensures .0),
       ),
@@ -89,20 +91,23 @@ returns c =
     let back5 = c .before .before .before .before .before in
     let back10 = back5 .before .before .before .before .before in
     let back15 = back10 .before .before .before .before .before in
-    let back20 = back15 .before .before .before .before .before in
-    let args = back20 .before .before .args in
-    let loop = back15 .before .before .before .loop in
+    let args = back15 .before .before .before .before .args in
+    let loop = back15 .loop in
+    let loop-test = back10 .before .before .before .before .loop-test in
+    let find-far = back10 .find-far in
+    let line-length = back5 .before .before .before .line-length in
+    let reach-row = c .before .before .before .before .reach-row in
     take-off (args .index .now) (args .text .now) (args .lines .now)
-    (record { highs = args .highs .now; lows = args .lows .now; starts = args .starts .now; lens = args .lens .now })
+    (args .rows .now)
     (args .heads .now) (args .next .now) (args .from) (args .first)
-    (record { highs = loop .highs; lows = loop .lows; starts = loop .starts; lens = loop .lens })
+    (loop .rows)
     (loop .heads) (loop .next) (loop .fill) (loop .at) (loop .count) (loop .inv)
-    (back15 .before .before .loop-test .taken) (back10 .before .before .before .find-far .result)
-    (back10 .before .before .before .find-far .ensures ∙ ap (firstOf lf) (part-to-end (args .lines .now) (loop .at))) _
-    (line-part (args .lines .now) (loop .at) (back10 .before .line-length .result)
-    (back10 .before .line-length .ensures .1))
-    (c .before .before .before .before .reach-slot .result) _ _ _
-    (c .before .before .before .before .reach-slot .ensures) (not-true _ (c .before .if2 .taken))
+    (loop-test .taken) (find-far .result)
+    (find-far .ensures ∙ ap (firstOf lf) (part-to-end (args .lines .now) (loop .at))) _
+    (line-part (args .lines .now) (loop .at) (line-length .result)
+    (line-length .ensures .1))
+    (reach-row .result) _ _ _
+    (reach-row .ensures) (not-true _ (c .before .if2 .taken))
     (c .report .result) (c .report .ensures)
 
 add-count : tie.Need-add-count Inv-loop μ-loop
@@ -110,25 +115,27 @@ add-count c =
     let back5 = c .before .before .before .before .before in
     let back10 = back5 .before .before .before .before .before in
     let back15 = back10 .before .before .before .before .before in
-    let back20 = back15 .before .before .before .before .before in
-    let args = back20 .before .args in
-    let loop = back15 .before .before .loop in
-    omega (arith, back15 .before .loop-test .taken, loop .inv .counted, back20 .before .good .1 .1 .0)
+    let good = back15 .before .before .before .good in
+    let loop = back10 .before .before .before .before .loop in
+    let loop-test = back10 .before .before .before .loop-test in
+    omega (arith, loop-test .taken, loop .inv .counted, good .1 .1 .0)
 
 add-at : tie.Need-add-at Inv-loop μ-loop
 add-at c =
     let back5 = c .before .before .before .before .before in
     let back10 = back5 .before .before .before .before .before in
     let back15 = back10 .before .before .before .before .before in
-    let back20 = back15 .before .before .before .before .before in
-    let args = back20 .before .args in
-    let loop = back15 .before .before .loop in
+    let args = back15 .before .before .before .args in
+    let good = back15 .before .before .before .good in
+    let loop = back10 .before .before .before .before .loop in
+    let loop-test = back10 .before .before .before .loop-test in
+    let find-far = back5 .before .before .before .before .find-far in
     omega (
       arith,
       tail-length (loop .at) (args .lines .now),
-      back10 .before .before .find-far .ensures,
-      back15 .before .loop-test .taken,
-      back20 .before .good .1 .1 .0,
+      find-far .ensures,
+      loop-test .taken,
+      good .1 .1 .0,
       first-le lf (take (length (args .lines .now) - loop .at) (drop (loop .at) (args .lines .now))),
     )
 
@@ -137,15 +144,17 @@ add-at-2 c =
     let back5 = c .before .before .before .before .before in
     let back10 = back5 .before .before .before .before .before in
     let back15 = back10 .before .before .before .before .before in
-    let back20 = back15 .before .before .before .before .before in
-    let args = back20 .before .args in
-    let loop = back15 .before .before .loop in
+    let args = back15 .before .before .before .args in
+    let good = back15 .before .before .before .good in
+    let loop = back10 .before .before .before .before .loop in
+    let loop-test = back10 .before .before .before .loop-test in
+    let find-far = back5 .before .before .before .before .find-far in
     omega (
       arith,
       tail-length (loop .at) (args .lines .now),
-      back10 .before .before .find-far .ensures,
-      back15 .before .loop-test .taken,
-      back20 .before .good .1 .1 .0,
+      find-far .ensures,
+      loop-test .taken,
+      good .1 .1 .0,
       first-le lf (take (length (args .lines .now) - loop .at) (drop (loop .at) (args .lines .now))),
     )
 
@@ -154,10 +163,10 @@ loop-less c =
     let back5 = c .before .before .before .before .before in
     let back10 = back5 .before .before .before .before .before in
     let back15 = back10 .before .before .before .before .before in
-    let back20 = back15 .before .before .before .before .before in
-    let args = back20 .before .args in
-    let loop = back15 .before .before .loop in
-    let found = back10 .before .before .find-far in
+    let args = back15 .before .before .before .args in
+    let loop = back10 .before .before .before .before .loop in
+    let loop-test = back10 .before .before .before .loop-test in
+    let found = back5 .before .before .before .before .find-far in
     let within : found .result ≤ length (args .lines .now) - loop .at
     = omega (
       arith,
@@ -165,17 +174,19 @@ loop-less c =
       first-le lf (take (length (args .lines .now) - loop .at) (drop (loop .at) (args .lines .now))),
       tail-length (loop .at) (args .lines .now),
     ) in
-    omega (arith, back15 .before .loop-test .taken, within)
+    omega (arith, loop-test .taken, within)
 
 loop-again : tie.Need-loop-again Inv-loop μ-loop
 loop-again c =
     let back5 = c .before .before .before .before .before in
     let back10 = back5 .before .before .before .before .before in
     let back15 = back10 .before .before .before .before .before in
-    let back20 = back15 .before .before .before .before .before in
-    let args = back20 .before .args in
-    let loop = back15 .before .before .loop in
-    let found = back10 .before .before .find-far in
+    let args = back15 .before .before .before .args in
+    let loop = back10 .before .before .before .before .loop in
+    let loop-test = back10 .before .before .before .loop-test in
+    let found = back5 .before .before .before .before .find-far in
+    let line-length = back5 .before .before .line-length in
+    let reach-row = c .before .before .before .reach-row in
     let within : found .result ≤ length (args .lines .now) - loop .at
     = omega (
       arith,
@@ -184,15 +195,15 @@ loop-again c =
       tail-length (loop .at) (args .lines .now),
     ) in
     take-turn (args .index .now) (args .text .now) (args .lines .now)
-    (record { highs = args .highs .now; lows = args .lows .now; starts = args .starts .now; lens = args .lens .now })
+    (args .rows .now)
     (args .heads .now) (args .next .now) (args .from) (args .first)
-    (record { highs = loop .highs; lows = loop .lows; starts = loop .starts; lens = loop .lens })
+    (loop .rows)
     (loop .heads) (loop .next) (loop .fill) (loop .at) (loop .count) (loop .inv)
-    (back15 .before .loop-test .taken) (back10 .before .before .find-far .result)
-    (back10 .before .before .find-far .ensures ∙ ap (firstOf lf) (part-to-end (args .lines .now) (loop .at))) _
-    (line-part (args .lines .now) (loop .at) (back10 .line-length .result) (back10 .line-length .ensures .1))
-    (c .before .before .before .reach-slot .result) _ _ _ (c .before .before .before .reach-slot .ensures)
-    (not-false _ (c .if2 .left)) (omega (arith, back15 .before .loop-test .taken, within))
+    (loop-test .taken) (found .result)
+    (found .ensures ∙ ap (firstOf lf) (part-to-end (args .lines .now) (loop .at))) _
+    (line-part (args .lines .now) (loop .at) (line-length .result) (line-length .ensures .1))
+    (reach-row .result) _ _ _ (reach-row .ensures)
+    (not-false _ (c .if2 .left)) (omega (arith, loop-test .taken, within))
 
 report-requires-2 : tie.Need-report-requires-2 Inv-loop μ-loop
 report-requires-2 c κs = search needs
@@ -203,18 +214,18 @@ returns-2 c =
     let args = back5 .before .args in
     let loop = c .before .before .loop in
     take-on (args .index .now) (args .text .now) (args .lines .now)
-    (record { highs = args .highs .now; lows = args .lows .now; starts = args .starts .now; lens = args .lens .now })
+    (args .rows .now)
     (args .heads .now) (args .next .now) (args .from) (args .first)
-    (record { highs = loop .highs; lows = loop .lows; starts = loop .starts; lens = loop .lens })
+    (loop .rows)
     (loop .heads) (loop .next) (loop .fill) (loop .at) (loop .count) (loop .inv)
     (λ p q. ⊎-elim
     (λ x. ⊎-elim (λ e. absurd (omega
-    (arith, loop .inv .still (sym e), ltb-false (loop .fill .count) slots (x .2 .left)))) (λ l. l)
+    (arith, loop .inv .still (sym e), ltb-false (loop .fill .count) rowsMax (x .2 .left)))) (λ l. l)
     (eq-or-lt-of-le (first-at (args .index .now) (args .text .now)
     (args .lines .now)
-    (record { highs = args .highs .now; lows = args .lows .now; starts = args .starts .now; lens = args .lens .now })
+    (args .rows .now)
     (args .heads .now) (args .next .now) (args .from) (args .first)
-    (record { highs = loop .highs; lows = loop .lows; starts = loop .starts; lens = loop .lens })
+    (loop .rows)
     (loop .heads) (loop .next) (loop .fill) (loop .at) (loop .count) (loop .inv))))
     (λ x. omega (arith, x .left)) (c .before .loop-test .came)) (c .report2 .result) (c .report2 .ensures)
 
@@ -233,7 +244,7 @@ take-lines-spec =
     part-line-length-start
     part-line-length-end
     line-length-requires
-    reach-slot-requires
+    reach-row-requires
     report-requires
     returns
     add-count

@@ -16,4 +16,9 @@ unfolding bucket
 returns c = (refl, search needs)
 
 pub bucket-of-spec : {M : Type 1} → statement M
-bucket-of-spec = tie.close (tie.spec mul-result add-result returns)
+bucket-of-spec =
+    tie.close
+    (tie.spec
+    mul-result
+    add-result
+    returns)

@@ -1,23 +1,15 @@
 -- The chain's head is the last number of its bucket; number k takes its place.
-use mathlib.Core.Path.{refl}
+use mathlib.Core.Path.{refl, ap, _∙_}
 use native.Mathlib.Omega.{arith}
 use borrow.Author.Needs.{needs}
-use Rattle.store.specs.Keys.{keyAt}
+use Rattle.store.specs.Keys.{bucket}
+use Rattle.store.specs.Rows.{keyIn}
 use Rattle.store.proofs.ChainLaws.{here, sought, chained-turn}
 use Rattle.store.proofs.chains.link.Statement.{statement}
 use Rattle.store.proofs.chains.link.Tie as tie
 
-mul-bucket-of : tie.Need-mul-bucket-of
-mul-bucket-of c = search needs
-
-element-copy-out-bucket-of : tie.Need-element-copy-out-bucket-of
-element-copy-out-bucket-of c = search needs
-
-mul-bucket-of-2 : tie.Need-mul-bucket-of-2
-mul-bucket-of-2 c = search needs
-
-element-copy-out-bucket-of-2 : tie.Need-element-copy-out-bucket-of-2
-element-copy-out-bucket-of-2 c = search needs
+key-at-requires : tie.Need-key-at-requires
+key-at-requires c κs = search needs
 
 bucket-of-requires : tie.Need-bucket-of-requires
 bucket-of-requires c κs = search needs
@@ -32,11 +24,15 @@ number-requires : tie.Need-number-requires
 number-requires c κs = search needs
 
 seek-requires : tie.Need-seek-requires
-seek-requires c κs = let args = c .before .before .before .before .before .before .args in
-    let pre = c .before .before .before .before .before .before .pre in
+seek-requires c κs =
+    let back5 = c .before .before .before .before .before in
+    let args = back5 .args in
+    let pre = back5 .pre in
+    let key-at = c .before .before .before .before .key-at in
     let bucket-of = c .before .before .before .bucket-of in
-    let last = here (keyAt (args .highs .now) (args .lows .now)) (args .heads .now) (args .next .now) (args .k)
-    (bucket-of .result) (c .number .result) (pre .1) (bucket-of .ensures .0) (bucket-of .ensures .1)
+    let bucket-is = bucket-of .ensures .0 ∙ ap bucket (key-at .ensures) in
+    let last = here (keyIn (args .rows .now)) (args .heads .now) (args .next .now) (args .k)
+    (bucket-of .result) (c .number .result) (pre .1) bucket-is (bucket-of .ensures .1)
     (c .number .ensures .0) (pre .0) in
     ((pre .0, last .within), (pre .1 .links, last .kin))
 
@@ -59,19 +55,23 @@ element-write-heads : tie.Need-element-write-heads
 element-write-heads c = search needs
 
 returns : tie.Need-returns
-returns c = let args = c .before .before .before .before .before .before .before .args in
-    let pre = c .before .before .before .before .before .before .before .pre in
+returns c =
+    let back5 = c .before .before .before .before .before in
+    let args = back5 .before .args in
+    let pre = back5 .before .pre in
+    let key-at = back5 .key-at in
     let bucket-of = c .before .before .before .before .bucket-of in
     let number = c .before .number in
-    let within = here (keyAt (args .highs .now) (args .lows .now)) (args .heads .now) (args .next .now) (args .k)
-    (bucket-of .result) (number .result) (pre .1) (bucket-of .ensures .0) (bucket-of .ensures .1)
+    let bucket-is = bucket-of .ensures .0 ∙ ap bucket (key-at .ensures) in
+    let within = here (keyIn (args .rows .now)) (args .heads .now) (args .next .now) (args .k)
+    (bucket-of .result) (number .result) (pre .1) bucket-is (bucket-of .ensures .1)
     (number .ensures .0) (pre .0) .within in (
-      sought (keyAt (args .highs .now) (args .lows .now)) (args .heads .now) (args .next .now) (args .k)
-          (bucket-of .result) (number .result) (pre .1) (bucket-of .ensures .0) (bucket-of .ensures .1)
+      sought (keyIn (args .rows .now)) (args .heads .now) (args .next .now) (args .k)
+          (bucket-of .result) (number .result) (pre .1) bucket-is (bucket-of .ensures .1)
           (number .ensures .0) (pre .0) (c .seek .result) (c .seek .ensures .0),
       (
-        chained-turn (keyAt (args .highs .now) (args .lows .now)) (args .heads .now) (args .next .now) (args .k)
-            (bucket-of .result) _ (pre .1) (bucket-of .ensures .0) (bucket-of .ensures .1) refl (pre .0) _
+        chained-turn (keyIn (args .rows .now)) (args .heads .now) (args .next .now) (args .k)
+            (bucket-of .result) _ (pre .1) bucket-is (bucket-of .ensures .1) refl (pre .0) _
             (omega arith),
         λ l. c .seek .ensures .1 (omega (arith, within)),
       ),
@@ -81,10 +81,7 @@ pub link-spec : {M : Type 1} → statement M
 link-spec =
     tie.close
     (tie.spec
-    mul-bucket-of
-    element-copy-out-bucket-of
-    mul-bucket-of-2
-    element-copy-out-bucket-of-2
+    key-at-requires
     bucket-of-requires
     mul-head
     element-copy-out-head

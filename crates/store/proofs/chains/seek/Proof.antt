@@ -3,17 +3,17 @@ use mathlib.Core.Path.{sym, _∙_}
 use native.Mathlib.Omega.{arith}
 use borrow.Author.Needs.{needs}
 use Prim.Native.Nat.{_≤_}
-use Rattle.store.specs.Keys.{keyAt}
+use Rattle.store.specs.Rows.{keyIn}
 use Rattle.store.proofs.ChainLaws.{Seeking, seek-turn}
 use Rattle.store.proofs.HeldLaws.{same-eq}
 use Rattle.store.proofs.chains.seek.Statement.{statement}
 use Rattle.store.proofs.chains.seek.Tie as tie
 
 abbrev Inv-loop : tie.InvT-loop
-Inv-loop highs lows next from k most c₀ left₀ c left = Seeking (keyAt highs lows) k from c × (from ≤ most → c ≤ left)
+Inv-loop rows next from k most c₀ left₀ c left = Seeking (keyIn rows) k from c × (from ≤ most → c ≤ left)
 
 abbrev μ-loop : tie.MeasureT-loop
-μ-loop highs lows next from k most c₀ left₀ c left = c
+μ-loop rows next from k most c₀ left₀ c left = c
 
 loop-holds : tie.Need-loop-holds Inv-loop μ-loop
 loop-holds c = (record { passed = λ j l m e. omega arith; kin = c .pre .1 .1; within = c .pre .0 .1 }, λ l. l)
@@ -63,7 +63,7 @@ loop-less c = let args = c .before .before .before .before .before .before .befo
     let loop = c .before .before .before .before .before .before .loop in
     let same-at = c .before .before .before .same-at in
     let if2 = c .before .before .if2 in
-    seek-turn (keyAt (args .highs .now) (args .lows .now)) (args .next .now) (args .k) (args .from) (loop .c)
+    seek-turn (keyIn (args .rows .now)) (args .next .now) (args .k) (args .from) (loop .c)
     (c .number .result) (pre .1 .0) (loop .inv .0) (omega arith) (sym (same-at .ensures) ∙ if2 .left)
     (c .number .ensures .0) .1
 
@@ -73,7 +73,7 @@ loop-again c = let args = c .before .before .before .before .before .before .bef
     let loop = c .before .before .before .before .before .before .loop in
     let same-at = c .before .before .before .same-at in
     let if2 = c .before .before .if2 in
-    let on = seek-turn (keyAt (args .highs .now) (args .lows .now)) (args .next .now) (args .k) (args .from) (loop .c)
+    let on = seek-turn (keyIn (args .rows .now)) (args .next .now) (args .k) (args .from) (loop .c)
     (c .number .result) (pre .1 .0) (loop .inv .0) (omega arith) (sym (same-at .ensures) ∙ if2 .left)
     (c .number .ensures .0) in
     (on .0, λ l. let left : loop .c ≤ loop .left = loop .inv .1 l in omega (arith, on .1))

@@ -2,16 +2,17 @@
 use native.Mathlib.Omega.{arith}
 use Prim.Native.Nat.{_-_, _≤_}
 use borrow.Author.Needs.{needs}
-use Rattle.store.specs.Keys.{keyAt, AllApart}
+use Rattle.store.specs.Keys.{AllApart}
+use Rattle.store.specs.Rows.{keyIn}
 use Rattle.store.proofs.ChainLaws.{chain-from, chain-sought, apart-turn, found-twice, tells-apart, tells-twice}
 use Rattle.store.proofs.chains.seek_all.Statement.{statement}
 use Rattle.store.proofs.chains.seek_all.Tie as tie
 
 abbrev Inv-loop : tie.InvT-loop
-Inv-loop highs lows next n k₀ k = (k ≤ n) × AllApart (keyAt highs lows) k
+Inv-loop rows next n k₀ k = (k ≤ n) × AllApart (keyIn rows) k
 
 abbrev μ-loop : tie.MeasureT-loop
-μ-loop highs lows next n k₀ k = n - k
+μ-loop rows next n k₀ k = n - k
 
 loop-holds : tie.Need-loop-holds Inv-loop μ-loop
 loop-holds c = (search needs, λ a b l m e. omega arith)
@@ -31,7 +32,7 @@ seek-requires c κs =
     let pre = c .before .before .before .before .pre in
     let loop = c .before .before .before .loop in
     let number = c .number in
-    let last = chain-from (keyAt (args .highs .now) (args .lows .now)) (args .next .now) (args .n) (loop .k) (number .result) (pre .1) (omega arith)
+    let last = chain-from (keyIn (args .rows .now)) (args .next .now) (args .n) (loop .k) (number .result) (pre .1) (omega arith)
     (number .ensures .0) in
     ((omega arith, last .within), (λ a l. pre .1 a (omega arith), last .kin))
 
@@ -41,12 +42,12 @@ returns c =
     let pre = c .before .before .before .before .before .before .pre in
     let loop = c .before .before .before .before .before .loop in
     let number = c .before .before .number in
-    let last = chain-from (keyAt (args .highs .now) (args .lows .now)) (args .next .now) (args .n) (loop .k) (number .result) (pre .1) (omega arith)
+    let last = chain-from (keyIn (args .rows .now)) (args .next .now) (args .n) (loop .k) (number .result) (pre .1) (omega arith)
     (number .ensures .0) in
     let seek = c .before .seek in
     let most = seek .ensures .1 (omega (arith, last .within)) in
-    tells-twice (keyAt (args .highs .now) (args .lows .now)) (args .n) (found-twice (keyAt (args .highs .now) (args .lows .now)) (args .n) (loop .k) (seek .result) (omega arith)
-    (chain-sought (keyAt (args .highs .now) (args .lows .now)) (loop .k) (number .result) last (seek .result) (seek .ensures .0)) most (omega arith))
+    tells-twice (keyIn (args .rows .now)) (args .n) (found-twice (keyIn (args .rows .now)) (args .n) (loop .k) (seek .result) (omega arith)
+    (chain-sought (keyIn (args .rows .now)) (loop .k) (number .result) last (seek .result) (seek .ensures .0)) most (omega arith))
 
 add-k : tie.Need-add-k Inv-loop μ-loop
 add-k c = search needs
@@ -60,19 +61,19 @@ loop-again c =
     let pre = c .before .before .before .before .before .before .pre in
     let loop = c .before .before .before .before .before .loop in
     let number = c .before .before .number in
-    let last = chain-from (keyAt (args .highs .now) (args .lows .now)) (args .next .now) (args .n) (loop .k) (number .result) (pre .1) (omega arith)
+    let last = chain-from (keyIn (args .rows .now)) (args .next .now) (args .n) (loop .k) (number .result) (pre .1) (omega arith)
     (number .ensures .0) in
     let seek = c .before .seek in (
       omega arith,
-      apart-turn (keyAt (args .highs .now) (args .lows .now)) (loop .k) (seek .result) (loop .inv .1)
-          (chain-sought (keyAt (args .highs .now) (args .lows .now)) (loop .k) (number .result) last (seek .result) (seek .ensures .0)) (omega arith),
+      apart-turn (keyIn (args .rows .now)) (loop .k) (seek .result) (loop .inv .1)
+          (chain-sought (keyIn (args .rows .now)) (loop .k) (number .result) last (seek .result) (seek .ensures .0)) (omega arith),
     )
 
 returns-2 : tie.Need-returns-2 Inv-loop μ-loop
 returns-2 c =
     let args = c .before .before .args in
     let loop = c .before .loop in
-    tells-apart (keyAt (args .highs .now) (args .lows .now)) (args .n) (λ a b l m e. loop .inv .1 a b l (omega arith) e)
+    tells-apart (keyIn (args .rows .now)) (args .n) (λ a b l m e. loop .inv .1 a b l (omega arith) e)
 
 pub seek-all-spec : {M : Type 1} → statement M
 seek-all-spec =

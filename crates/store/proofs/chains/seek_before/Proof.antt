@@ -1,22 +1,15 @@
 -- The head of the chain is the last number of its bucket.
+use mathlib.Core.Path.{ap, _∙_}
 use native.Mathlib.Omega.{arith}
 use borrow.Author.Needs.{needs}
-use Rattle.store.specs.Keys.{keyAt}
+use Rattle.store.specs.Keys.{bucket}
+use Rattle.store.specs.Rows.{keyIn}
 use Rattle.store.proofs.ChainLaws.{here, sought}
 use Rattle.store.proofs.chains.seek_before.Statement.{statement}
 use Rattle.store.proofs.chains.seek_before.Tie as tie
 
-mul-bucket-of : tie.Need-mul-bucket-of
-mul-bucket-of c = search needs
-
-element-copy-out-bucket-of : tie.Need-element-copy-out-bucket-of
-element-copy-out-bucket-of c = search needs
-
-mul-bucket-of-2 : tie.Need-mul-bucket-of-2
-mul-bucket-of-2 c = search needs
-
-element-copy-out-bucket-of-2 : tie.Need-element-copy-out-bucket-of-2
-element-copy-out-bucket-of-2 c = search needs
+key-at-requires : tie.Need-key-at-requires
+key-at-requires c κs = search needs
 
 bucket-of-requires : tie.Need-bucket-of-requires
 bucket-of-requires c κs = search needs
@@ -32,26 +25,31 @@ number-requires c κs = search needs
 
 seek-requires : tie.Need-seek-requires
 seek-requires c κs =
-    let args = c .before .before .before .before .before .args in
-    let pre = c .before .before .before .before .before .pre in
+    let args = c .before .before .before .before .args in
+    let pre = c .before .before .before .before .pre in
+    let key-at = c .before .before .before .key-at in
     let bucket-of = c .before .before .bucket-of in
     let number = c .number in
-    let last = here (keyAt (args .highs .now) (args .lows .now)) (args .heads .now) (args .next .now) (args .k)
-    (bucket-of .result) (number .result) (pre .1) (bucket-of .ensures .0) (bucket-of .ensures .1)
+    let bucket-is = bucket-of .ensures .0 ∙ ap bucket (key-at .ensures) in
+    let last = here (keyIn (args .rows .now)) (args .heads .now) (args .next .now) (args .k)
+    (bucket-of .result) (number .result) (pre .1) bucket-is (bucket-of .ensures .1)
     (number .ensures .0) (pre .0) in
     ((pre .0, last .within), (pre .1 .links, last .kin))
 
 returns : tie.Need-returns
 returns c =
-    let args = c .before .before .before .before .before .before .args in
-    let pre = c .before .before .before .before .before .before .pre in
+    let back5 = c .before .before .before .before .before in
+    let args = back5 .args in
+    let pre = back5 .pre in
+    let key-at = c .before .before .before .before .key-at in
     let bucket-of = c .before .before .before .bucket-of in
     let number = c .before .number in
-    let within = here (keyAt (args .highs .now) (args .lows .now)) (args .heads .now) (args .next .now) (args .k)
-    (bucket-of .result) (number .result) (pre .1) (bucket-of .ensures .0) (bucket-of .ensures .1)
+    let bucket-is = bucket-of .ensures .0 ∙ ap bucket (key-at .ensures) in
+    let within = here (keyIn (args .rows .now)) (args .heads .now) (args .next .now) (args .k)
+    (bucket-of .result) (number .result) (pre .1) bucket-is (bucket-of .ensures .1)
     (number .ensures .0) (pre .0) .within in (
-      sought (keyAt (args .highs .now) (args .lows .now)) (args .heads .now) (args .next .now) (args .k)
-          (bucket-of .result) (number .result) (pre .1) (bucket-of .ensures .0) (bucket-of .ensures .1)
+      sought (keyIn (args .rows .now)) (args .heads .now) (args .next .now) (args .k)
+          (bucket-of .result) (number .result) (pre .1) bucket-is (bucket-of .ensures .1)
           (number .ensures .0) (pre .0) (c .seek .result) (c .seek .ensures .0),
       c .seek .ensures .1 (omega (arith, within)),
     )
@@ -60,10 +58,7 @@ pub seek-before-spec : {M : Type 1} → statement M
 seek-before-spec =
     tie.close
     (tie.spec
-    mul-bucket-of
-    element-copy-out-bucket-of
-    mul-bucket-of-2
-    element-copy-out-bucket-of-2
+    key-at-requires
     bucket-of-requires
     mul-head
     element-copy-out-head

@@ -4,7 +4,7 @@ use mathlib.Core.List.{[]}
 use borrow.Author.Needs.{needs}
 use borrow.Author.Tests.{not-true, not-false}
 use Rattle.store.specs.Decode.{decode}
-use Rattle.store.proofs.BatchLaws.{empty-long}
+use Rattle.store.proofs.WriteLaws.{empty-long}
 use Rattle.store.proofs.ChainLaws.{chained-none}
 use Rattle.store.proofs.DecodeLaws.{lines-of}
 use Rattle.store.proofs.LookLaws.{look-ready, sees-unsound, sees-none, sees-line}
@@ -16,39 +16,58 @@ take-stock-requires c κs = (chained-none _, empty-long)
 
 returns : tie.Need-returns
 returns c =
-    let args = c .before .before .before .before .before .before .before .before .before .before .before .args in
+    let back5 = c .before .before .before .before .before in
+    let args = back5 .before .before .before .args in
     sees-unsound (args .key) (args .index .now) (args .text .now)
     (sym (c .before .before .take-stock .ensures .is) ∙ not-true _ (c .if1 .taken))
 
 part-of-requires : tie.Need-part-of-requires
 part-of-requires c κs =
-    let args = c .before .before .before .before .before .before .before .before .before .before .before .before .before .before .before .before .before .before .args in
-    let stock = c .before .before .before .before .before .before .before .before .before .take-stock in
-    let e = not-false _ (c .before .before .before .before .before .before .before .if1 .left) in
+    let back5 = c .before .before .before .before .before in
+    let back10 = back5 .before .before .before .before .before in
+    let args = back10 .before .before .args in
+    let stock = back5 .before .take-stock in
+    let if1 = c .before .before .before .before .if1 in
+    let e = not-false _ (if1 .left) in
     let l = stock .ensures .loads e in
     (l .1, look-ready (args .index .now) (args .text .now) (sym (stock .ensures .is) ∙ e) _ _ _ (stock .result .fill) (l .0))
 
 returns-2 : tie.Need-returns-2
 returns-2 c =
-    let args = c .before .before .before .before .before .before .before .before .before .before .before .before .before .before .before .before .before .before .before .before .before .args in
-    let stock = c .before .before .before .before .before .before .before .before .before .before .before .before .take-stock in
+    let back5 = c .before .before .before .before .before in
+    let back10 = back5 .before .before .before .before .before in
+    let back15 = back10 .before .before .before .before .before in
+    let args = back15 .args in
+    let stock = back5 .before .before .before .before .take-stock in
+    let if1 = back5 .before .before .if1 in
     let part = c .before .before .part-of in
-    let e = not-false _ (c .before .before .before .before .before .before .before .before .before .before .if1 .left) in
+    let e = not-false _ (if1 .left) in
     let q = lines-of (decode (args .index .now) (args .text .now)) (sym (stock .ensures .is) ∙ e) in
     sees-none (args .key) (args .index .now) (args .text .now) (q .0) (q .1) (part .result)
-    (part .ensures .1 .1 (args .index .now) (args .text .now) _ _ (q .0) (λ j m. refl)
+    (part .ensures .1 .1 (args .index .now) (args .text .now) _ (q .0) (λ j m. refl)
     (stock .ensures .loads e .0 (args .text .now) [] (q .0) (q .1))) (c .if2 .taken)
 
 returns-3 : tie.Need-returns-3
 returns-3 c =
-    let args = c .before .before .before .before .before .before .before .before .before .before .before .before .before .before .before .before .before .before .before .before .before .args in
-    let stock = c .before .before .before .before .before .before .before .before .before .before .before .before .take-stock in
+    let back5 = c .before .before .before .before .before in
+    let back10 = back5 .before .before .before .before .before in
+    let back15 = back10 .before .before .before .before .before in
+    let args = back15 .args in
+    let stock = back5 .before .before .before .before .take-stock in
+    let if1 = back5 .before .before .if1 in
     let part = c .before .before .part-of in
-    let e = not-false _ (c .before .before .before .before .before .before .before .before .before .before .if1 .left) in
+    let e = not-false _ (if1 .left) in
     let q = lines-of (decode (args .index .now) (args .text .now)) (sym (stock .ensures .is) ∙ e) in
     sees-line (args .key) (args .index .now) (args .text .now) (q .0) (q .1) (part .result)
-    (part .ensures .1 .1 (args .index .now) (args .text .now) _ _ (q .0) (λ j m. refl)
+    (part .ensures .1 .1 (args .index .now) (args .text .now) _ (q .0) (λ j m. refl)
     (stock .ensures .loads e .0 (args .text .now) [] (q .0) (q .1))) (c .if2 .left)
 
 pub look-spec : {M : Type 1} → statement M
-look-spec = tie.close (tie.spec take-stock-requires returns part-of-requires returns-2 returns-3)
+look-spec =
+    tie.close
+    (tie.spec
+    take-stock-requires
+    returns
+    part-of-requires
+    returns-2
+    returns-3)

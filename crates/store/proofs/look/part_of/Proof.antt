@@ -6,25 +6,17 @@ use Rattle.store.proofs.LookLaws.{some-before, spot-none, spot-line, pu
 use Rattle.store.proofs.look.part_of.Statement.{statement}
 use Rattle.store.proofs.look.part_of.Tie as tie
 
-mul-highs : tie.Need-mul-highs
-mul-highs c = search needs
-
-element-write-highs : tie.Need-element-write-highs
-element-write-highs c = search needs
-
-mul-lows : tie.Need-mul-lows
-mul-lows c = search needs
-
-element-write-lows : tie.Need-element-write-lows
-element-write-lows c = search needs
+put-row-requires : tie.Need-put-row-requires
+put-row-requires c κs = search needs
 
 seek-before-requires : tie.Need-seek-before-requires
 seek-before-requires c κs =
-    let args = c .before .before .args in
-    let pre = c .before .before .pre in (
+    let args = c .before .before .before .args in
+    let pre = c .before .before .before .pre in
+    let pre = pre in (
       pre .0,
-      put-ready (args .highs .now) (args .lows .now) (args .heads .now) (args .next .now) (args .fill .count) (args .key)
-          (pre .0) (pre .1) .chained,
+      put-ready (args .rows .now) (args .heads .now) (args .next .now) (args .fill .count) (args .key) (pre .0) (pre .1)
+          _ (c .before .put-row .ensures) .chained,
     )
 
 len-before-requires : tie.Need-len-before-requires
@@ -32,58 +24,68 @@ len-before-requires c κs = search needs
 
 returns : tie.Need-returns
 returns c =
-    let args = c .before .before .before .before .before .args in
-    let pre = c .before .before .before .before .before .pre in
-    let seek = c .before .before .seek-before in
-    let before = c .before .len-before in (
-      put-ready (args .highs .now) (args .lows .now) (args .heads .now) (args .next .now) (args .fill .count) (args .key)
-          (pre .0) (pre .1),
+    let back5 = c .before .before .before .before .before in
+    let args = back5 .before .before .args in
+    let pre = back5 .before .before .pre in
+    let put = back5 .put-row in
+    let seek = c .before .before .before .seek-before in
+    let before = c .before .len-before in
+    let agree = put-agree (args .rows .now) (args .heads .now) (args .next .now) (args .fill .count) (args .key) (pre .0)
+    (pre .1) _ (put .ensures) in (
+      put-ready (args .rows .now) (args .heads .now) (args .next .now) (args .fill .count) (args .key) (pre .0) (pre .1)
+          _ (put .ensures),
       (
-        put-agree (args .highs .now) (args .lows .now) (args .heads .now) (args .next .now) (args .fill .count)
-            (args .key) (pre .0) (pre .1),
-        λ i t firsts lasts hs ag x.
-            spot-none (args .key) i t firsts lasts (args .starts .now) (args .lens .now) (args .heads .now)
-            (args .next .now) (args .fill) hs x _
-            (λ j l. ag j l ∙ put-agree (args .highs .now) (args .lows .now) (args .heads .now) (args .next .now)
-            (args .fill .count) (args .key) (pre .0) (pre .1) j l)
-            (put-new (args .highs .now) (args .lows .now) (args .heads .now) (args .next .now) (args .fill .count)
-            (args .key) (pre .0) (pre .1))
+        agree,
+        λ i t b hs ag x.
+            spot-none (args .key) i t b _ (args .heads .now) (args .next .now) (args .fill) hs x
+            (λ j l. ag j l ∙ agree j l)
+            (put-new (args .rows .now) (args .heads .now) (args .next .now) (args .fill .count) (args .key) (pre .0)
+            (pre .1) _ (put .ensures))
             (seek .result) (seek .ensures .0) (seek .ensures .1) (before .result) (before .ensures) (c .if1 .taken),
       ),
     )
 
-sub-start : tie.Need-sub-start
-sub-start c =
-    let args = c .before .before .before .before .before .args in
-    let seek = c .before .before .seek-before in
-    let before = c .before .len-before in
-    omega (arith, some-before (args .lens .now) (seek .result) (before .result) (before .ensures) (c .if1 .left))
+sub-start-at : tie.Need-sub-start-at
+sub-start-at c =
+    let seek-before = c .before .before .before .before .seek-before in
+    omega (
+      arith,
+      some-before _ (seek-before .result) (c .before .before .len-before .result) (c .before .before .len-before .ensures) (c .before .if1 .left),
+    )
 
-mul-start : tie.Need-mul-start
-mul-start c = search needs
-
-element-copy-out-start : tie.Need-element-copy-out-start
-element-copy-out-start c = search needs
+start-at-requires : tie.Need-start-at-requires
+start-at-requires c κs =
+    let back5 = c .before .before .before .before .before in
+    let pre = back5 .before .before .before .pre in
+    let seek-before = c .before .before .before .before .seek-before in
+    omega (
+      arith,
+      some-before _ (seek-before .result) (c .before .before .len-before .result) (c .before .before .len-before .ensures) (c .before .if1 .left),
+      seek-before .ensures .1,
+      pre .0,
+    )
 
 returns-2 : tie.Need-returns-2
 returns-2 c =
-    let args = c .before .before .before .before .before .before .args in
-    let pre = c .before .before .before .before .before .before .pre in
-    let seek = c .before .before .before .seek-before in
-    let before = c .before .before .len-before in (
-      put-ready (args .highs .now) (args .lows .now) (args .heads .now) (args .next .now) (args .fill .count) (args .key)
-          (pre .0) (pre .1),
+    let back5 = c .before .before .before .before .before in
+    let args = back5 .before .before .before .before .args in
+    let pre = back5 .before .before .before .before .pre in
+    let put = back5 .before .before .put-row in
+    let seek = back5 .seek-before in
+    let before = c .before .before .before .len-before in
+    let agree = put-agree (args .rows .now) (args .heads .now) (args .next .now) (args .fill .count) (args .key) (pre .0)
+    (pre .1) _ (put .ensures) in (
+      put-ready (args .rows .now) (args .heads .now) (args .next .now) (args .fill .count) (args .key) (pre .0) (pre .1)
+          _ (put .ensures),
       (
-        put-agree (args .highs .now) (args .lows .now) (args .heads .now) (args .next .now) (args .fill .count)
-            (args .key) (pre .0) (pre .1),
-        λ i t firsts lasts hs ag x.
-            spot-line (args .key) i t firsts lasts (args .starts .now) (args .lens .now) (args .heads .now)
-            (args .next .now) (args .fill) hs x _
-            (λ j l. ag j l ∙ put-agree (args .highs .now) (args .lows .now) (args .heads .now) (args .next .now)
-            (args .fill .count) (args .key) (pre .0) (pre .1) j l)
-            (put-new (args .highs .now) (args .lows .now) (args .heads .now) (args .next .now) (args .fill .count)
-            (args .key) (pre .0) (pre .1))
-            (seek .result) (seek .ensures .0) (seek .ensures .1) (before .result) (before .ensures) (c .before .if1 .left),
+        agree,
+        λ i t b hs ag x.
+            spot-line (args .key) i t b _ (args .heads .now) (args .next .now) (args .fill) hs x
+            (λ j l. ag j l ∙ agree j l)
+            (put-new (args .rows .now) (args .heads .now) (args .next .now) (args .fill .count) (args .key) (pre .0)
+            (pre .1) _ (put .ensures))
+            (seek .result) (seek .ensures .0) (seek .ensures .1) (before .result) (before .ensures) (c .before .before .if1 .left)
+            (c .start-at .result) (c .start-at .ensures),
       ),
     )
 
@@ -91,14 +93,10 @@ pub part-of-spec : {M : Type 1} → statement M
 part-of-spec =
     tie.close
     (tie.spec
-    mul-highs
-    element-write-highs
-    mul-lows
-    element-write-lows
+    put-row-requires
     seek-before-requires
     len-before-requires
     returns
-    sub-start
-    mul-start
-    element-copy-out-start
+    sub-start-at
+    start-at-requires
     returns-2)

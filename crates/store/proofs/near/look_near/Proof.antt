@@ -4,7 +4,7 @@ use mathlib.Core.List.{[]}
 use borrow.Author.Needs.{needs}
 use borrow.Author.Tests.{not-true, not-false}
 use Rattle.store.specs.Decode.{decode}
-use Rattle.store.proofs.BatchLaws.{empty-long}
+use Rattle.store.proofs.WriteLaws.{empty-long}
 use Rattle.store.proofs.ChainLaws.{chained-none}
 use Rattle.store.proofs.DecodeLaws.{lines-of}
 use Rattle.store.proofs.LookLaws.{look-ready}
@@ -17,28 +17,41 @@ take-stock-requires c κs = (chained-none _, empty-long)
 
 returns : tie.Need-returns
 returns c =
-    let args = c .before .before .before .before .before .before .before .before .before .before .before .args in
+    let back5 = c .before .before .before .before .before in
+    let args = back5 .before .before .before .args in
     near-unsound (args .key) (args .index .now) (args .text .now)
     (sym (c .before .before .take-stock .ensures .is) ∙ not-true _ (c .if1 .taken))
 
 try-both-requires : tie.Need-try-both-requires
 try-both-requires c κs =
-    let args = c .before .before .before .before .before .before .before .before .before .before .before .before .before .before .before .before .before .before .args in
-    let stock = c .before .before .before .before .before .before .before .before .before .take-stock in
-    let e = not-false _ (c .before .before .before .before .before .before .before .if1 .left) in
+    let back5 = c .before .before .before .before .before in
+    let back10 = back5 .before .before .before .before .before in
+    let args = back10 .before .before .args in
+    let stock = back5 .before .take-stock in
+    let if1 = c .before .before .before .before .if1 in
+    let e = not-false _ (if1 .left) in
     let l = stock .ensures .loads e in
     (l .1, look-ready (args .index .now) (args .text .now) (sym (stock .ensures .is) ∙ e) _ _ _ (stock .result .fill) (l .0))
 
 returns-2 : tie.Need-returns-2
 returns-2 c =
-    let args = c .before .before .before .before .before .before .before .before .before .before .before .before .before .before .before .before .before .before .before .args in
-    let stock = c .before .before .before .before .before .before .before .before .before .before .take-stock in
+    let back5 = c .before .before .before .before .before in
+    let back10 = back5 .before .before .before .before .before in
+    let args = back10 .before .before .before .args in
+    let stock = back5 .before .before .take-stock in
+    let if1 = back5 .if1 in
     let both = c .try-both in
-    let e = not-false _ (c .before .before .before .before .before .before .before .before .if1 .left) in
+    let e = not-false _ (if1 .left) in
     let q = lines-of (decode (args .index .now) (args .text .now)) (sym (stock .ensures .is) ∙ e) in
     near-sound (args .key) (args .index .now) (args .text .now) (q .0) (q .1) (both .result)
     (both .ensures (args .index .now) (args .text .now) (q .0)
     (stock .ensures .loads e .0 (args .text .now) [] (q .0) (q .1)))
 
 pub look-near-spec : {M : Type 1} → statement M
-look-near-spec = tie.close (tie.spec take-stock-requires returns try-both-requires returns-2)
+look-near-spec =
+    tie.close
+    (tie.spec
+    take-stock-requires
+    returns
+    try-both-requires
+    returns-2)

@@ -17,40 +17,49 @@ part-of-requires c κs = search needs
 
 returns : tie.Need-returns
 returns c =
-    let args = c .before .before .before .before .before .before .args in
+    let back5 = c .before .before .before .before .before in
+    let args = back5 .args in
     let whole = c .before .before .part-of in
     λ i t hs x.
     sees-exact t (find (args .key) hs) (find (withoutChecksum (args .key)) hs) (whole .result)
-    (whole .ensures .1 .1 i t _ _ hs (λ j m. refl) x) (c .if1 .taken)
+    (whole .ensures .1 .1 i t _ hs (λ j m. refl) x) (c .if1 .taken)
 
 part-of-requires-2 : tie.Need-part-of-requires-2
-part-of-requires-2 c κs = (c .before .before .before .before .before .before .before .before .pre .0, c .before .before .before .before .part-of .ensures .0)
+part-of-requires-2 c κs =
+    let back5 = c .before .before .before .before .before in
+    let pre = back5 .before .pre in
+    let part-of = c .before .before .before .part-of in
+    (pre .0, part-of .ensures .0)
 
 returns-2 : tie.Need-returns-2
 returns-2 c =
-    let args = c .before .before .before .before .before .before .before .before .before .before .before .args in
-    let plain = c .before .before .before .before .before .before .before .before .before .before .without-checksum in
-    let whole = c .before .before .before .before .before .before .before .part-of in
+    let back5 = c .before .before .before .before .before in
+    let args = back5 .before .before .before .before .args in
+    let plain = back5 .before .before .before .without-checksum in
+    let whole = back5 .before .part-of in
+    let if1 = c .before .before .before .before .if1 in
     let second = c .before .before .part-of2 in
     λ i t hs x.
     sees-near t (find (args .key) hs) (find (withoutChecksum (args .key)) hs) (whole .result)
-    (whole .ensures .1 .1 i t _ _ hs (λ j m. refl) x) (second .result)
+    (whole .ensures .1 .1 i t _ hs (λ j m. refl) x) (second .result)
     (subst (λ (k : Key). Spot t (find k hs) (second .result)) (plain .ensures)
-    (second .ensures .1 .1 i t _ _ hs (whole .ensures .1 .0) x))
-    (omega (arith, c .before .before .before .before .before .if1 .left)) (c .if2 .taken)
+    (second .ensures .1 .1 i t _ hs (whole .ensures .1 .0) x))
+    (omega (arith, if1 .left)) (c .if2 .taken)
 
 returns-3 : tie.Need-returns-3
 returns-3 c =
-    let args = c .before .before .before .before .before .before .before .before .before .before .before .args in
-    let plain = c .before .before .before .before .before .before .before .before .before .before .without-checksum in
-    let whole = c .before .before .before .before .before .before .before .part-of in
+    let back5 = c .before .before .before .before .before in
+    let args = back5 .before .before .before .before .args in
+    let plain = back5 .before .before .before .without-checksum in
+    let whole = back5 .before .part-of in
+    let if1 = c .before .before .before .before .if1 in
     let second = c .before .before .part-of2 in
     λ i t hs x.
     sees-neither t (find (args .key) hs) (find (withoutChecksum (args .key)) hs) (whole .result)
-    (whole .ensures .1 .1 i t _ _ hs (λ j m. refl) x) (second .result)
+    (whole .ensures .1 .1 i t _ hs (λ j m. refl) x) (second .result)
     (subst (λ (k : Key). Spot t (find k hs) (second .result)) (plain .ensures)
-    (second .ensures .1 .1 i t _ _ hs (whole .ensures .1 .0) x))
-    (omega (arith, c .before .before .before .before .before .if1 .left)) (omega (arith, c .if2 .left))
+    (second .ensures .1 .1 i t _ hs (whole .ensures .1 .0) x))
+    (omega (arith, if1 .left)) (omega (arith, c .if2 .left))
 
 pub try-both-spec : {M : Type 1} → statement M
 try-both-spec =

@@ -1,5 +1,5 @@
 -- As `take_stock` says.
-use Rattle.store.proofs.BatchLaws.{empty-long}
+use Rattle.store.proofs.WriteLaws.{empty-long}
 use Rattle.store.proofs.ChainLaws.{chained-none}
 use Rattle.store.proofs.soundness.sound.Statement.{statement}
 use Rattle.store.proofs.soundness.sound.Tie as tie

@@ -2,8 +2,8 @@
 use lib.ListN.{length}
 use Rattle.store.proofs.BatchLaws.{wanted-part, slot-not, slot-long, slot-files, slot-full, slot-filed}
 use borrow.Author.Needs.{needs}
-use Rattle.store.proofs.batch.reach_slot.Statement.{statement}
-use Rattle.store.proofs.batch.reach_slot.Tie as tie
+use Rattle.store.proofs.batch.reach_row.Statement.{statement}
+use Rattle.store.proofs.batch.reach_row.Tie as tie
 
 add-wanted : tie.Need-add-wanted
 add-wanted c = search needs
@@ -45,19 +45,24 @@ returns-2 c =
     let back10 = back5 .before .before .before .before .before in
     let args = back10 .args in
     let pre = back10 .pre in
+    let wanted = back5 .wanted in
+    let spelled = c .before .before .before .spelled in
     slot-long (args .index .now) (args .text .now) (args .lines .now) _
     (args .heads .now) (args .next .now) (args .fill) (args .at) (args .len) (pre .0 .1)
     _ (wanted-part (args .lines .now) (args .at) (args .len) _ _
-    (c .before .before .before .before .before .wanted .ensures) (c .before .before .before .spelled .given .1))
+    (wanted .ensures) (spelled .given .1))
     (c .before .if1 .taken) (c .stop .result) (c .stop .ensures)
 
-file-slot-requires : tie.Need-file-slot-requires
-file-slot-requires c κs =
+file-row-requires : tie.Need-file-row-requires
+file-row-requires c κs =
     let back5 = c .before .before .before .before .before in
     let back10 = back5 .before .before .before .before .before in
-    let back15 = back10 .before .before .before .before .before in
-    let args = back15 .before .args in
-    let pre = back15 .before .pre in (
+    let args = back10 .before .before .before .args in
+    let pre = back10 .before .before .before .pre in
+    let wanted = back5 .before .before .before .wanted in
+    let spelled = back5 .before .spelled in
+    let if1 = c .before .before .before .before .if1 in
+    let pre = pre in (
       pre .0 .0,
       (
         args .lines .now,
@@ -67,9 +72,9 @@ file-slot-requires c κs =
             pre .1 .1 .0,
             slot-files (args .index .now) (args .text .now) (args .lines .now) _
                 (args .heads .now) (args .next .now) (args .fill) (args .at) (args .len) (pre .0 .1)
-                _ (wanted-part (args .lines .now) (args .at) (args .len) _ _ (back10 .before .wanted .ensures)
-                (back5 .before .before .before .before .spelled .given .1))
-                (back5 .before .before .if1 .left) (pre .1 .0) (pre .1 .1 .0) (pre .1 .1 .1),
+                _ (wanted-part (args .lines .now) (args .at) (args .len) _ _ (wanted .ensures)
+                (spelled .given .1))
+                (if1 .left) (pre .1 .0) (pre .1 .1 .0) (pre .1 .1 .1),
           ),
         ),
       ),
@@ -83,15 +88,18 @@ returns-3 c =
     let back5 = c .before .before .before .before .before in
     let back10 = back5 .before .before .before .before .before in
     let back15 = back10 .before .before .before .before .before in
-    let back20 = back15 .before .before .before .before .before in
-    let args = back20 .before .args in
-    let pre = back20 .before .pre in
+    let args = back15 .before .before .before .args in
+    let pre = back15 .before .before .before .pre in
+    let wanted = back10 .before .before .before .wanted in
+    let spelled = back10 .before .spelled in
+    let if1 = back5 .before .before .before .before .if1 in
+    let file-row = c .before .before .before .before .file-row in
     slot-full (args .index .now) (args .text .now) (args .lines .now) _
     (args .heads .now) (args .next .now) (args .fill) (args .at) (args .len) (pre .0 .1)
-    _ (wanted-part (args .lines .now) (args .at) (args .len) _ _ (back15 .before .wanted .ensures)
-    (back10 .before .before .before .before .spelled .given .1))
-    (back10 .before .before .if1 .left) _ _ _ (c .before .before .before .before .file-slot .result)
-    (c .before .before .before .before .file-slot .ensures) (c .before .if2 .taken)
+    _ (wanted-part (args .lines .now) (args .at) (args .len) _ _ (wanted .ensures)
+    (spelled .given .1))
+    (if1 .left) _ _ _ (file-row .result)
+    (file-row .ensures) (c .before .if2 .taken)
     (c .stop2 .result) (c .stop2 .ensures)
 
 returns-4 : tie.Need-returns-4
@@ -99,17 +107,21 @@ returns-4 c =
     let back5 = c .before .before .before .before .before in
     let back10 = back5 .before .before .before .before .before in
     let back15 = back10 .before .before .before .before .before in
-    let args = back15 .before .before .before .before .before .args in
-    let pre = back15 .before .before .before .before .before .pre in
+    let args = back15 .before .before .args in
+    let pre = back15 .before .before .pre in
+    let wanted = back10 .before .before .wanted in
+    let spelled = back10 .spelled in
+    let if1 = back5 .before .before .before .if1 in
+    let file-row = c .before .before .before .file-row in
     slot-filed (args .index .now) (args .text .now) (args .lines .now) _
     (args .heads .now) (args .next .now) (args .fill) (args .at) (args .len) (pre .0 .1)
     _ (wanted-part (args .lines .now) (args .at) (args .len) _ _
-    (back15 .wanted .ensures) (back10 .before .before .before .spelled .given .1))
-    (back10 .before .if1 .left) _ _ _ (c .before .before .before .file-slot .result)
-    (c .before .before .before .file-slot .ensures) (c .if2 .left)
+    (wanted .ensures) (spelled .given .1))
+    (if1 .left) _ _ _ (file-row .result)
+    (file-row .ensures) (c .if2 .left)
 
-pub reach-slot-spec : {M : Type 1} → statement M
-reach-slot-spec =
+pub reach-row-spec : {M : Type 1} → statement M
+reach-row-spec =
     tie.close
     (tie.spec
     add-wanted
@@ -122,7 +134,7 @@ reach-slot-spec =
     returns
     stop-requires
     returns-2
-    file-slot-requires
+    file-row-requires
     stop-requires-2
     returns-3
     returns-4)

@@ -8,27 +8,18 @@ use Prim.Native.Nat.{ℕ, zero, suc, _+_, _-_, _≤_, _<_}
 use native.Mathlib.Nat.{eq-or-lt-of-le}
 use native.Mathlib.Omega.{arith}
 use lib.Dec.{eqb}
-use lib.ListN.{length, getD, set, take, drop, length-set}
-use lib.Seq.{getD-set-same, getD-set-other}
+use lib.ListN.{length, getD, take, drop}
 use borrow.Author.Tests.{ne-eqb}
 use Rattle.text.specs.Bytes.{pick}
 use Rattle.store.specs.Held.{Key, Held, sameKey, strike}
-use Rattle.store.specs.Keys.{slots, bucket, keyAt, Last, Chained}
+use Rattle.store.specs.Keys.{rowsMax, bucket, Last, Chained}
 use Rattle.store.specs.Layout.{texts}
-use Rattle.store.specs.Slots.{living, Table, more, sourceOf, slotAt, Long}
+use Rattle.store.specs.Rows.{Row, rowIn, rowPut, Long}
+use Rattle.store.specs.Table.{living, sourceOf, lineAt}
 use Rattle.store.proofs.RowLaws.{texts-sum}
+use Rattle.store.proofs.WriteLaws.{row-same, row-other}
 
 -- ---- keys
-
-pub key-other : (highs lows : List ℕ) (n x y k : ℕ) → (k ≡ n → ⊥)
-    → keyAt (set highs n x) (set lows n y) k ≡ keyAt highs lows k
-key-other highs lows n x y k e =
-    ap₂ (λ (a b : ℕ). record { high = a; low = b }) (getD-set-other highs n k x 0 e) (getD-set-other lows n k y 0 e)
-
-pub key-same : (highs lows : List ℕ) (n x y : ℕ) → n < length highs → n < length lows
-    → keyAt (set highs n x) (set lows n y) n ≡ record { high = x; low = y }
-key-same highs lows n x y p q =
-    ap₂ (λ (a b : ℕ). record { high = a; low = b }) (getD-set-same highs n x 0 p) (getD-set-same lows n y 0 q)
 
 -- chains of the first n numbers know no other key
 module _ (K K′ : ℕ → Key) (n : ℕ) (f : (k : ℕ) → k < n → K k ≡ K′ k) where
@@ -123,55 +114,23 @@ living-most S S′ (suc n) g =
 
 -- ---- what a number gives
 
--- by what stands in the arrays
-abbrev slotOf : List ℕ → ℕ → ℕ → ℕ → ℕ → List Held
-slotOf src high low start len =
-    pick (eqb len 0) [] (record { key = record { high = high; low = low }; line = take len (drop start src) } ∷ [])
+-- by its row
+abbrev givenBy : List ℕ → Row → List Held
+givenBy src r = pick (eqb (r .len) 0) [] (record { key = r .key; line = take (r .len) (drop (r .start) src) } ∷ [])
 
-module _ (t s : List ℕ) (a : Table) (old n : ℕ) (u : Key) (start len : ℕ) where
-  pub slot-other : (k : ℕ) → (k ≡ n → ⊥) → slotAt t s (more a n u start len) old k ≡ slotAt t s a old k
-  unfolding slotAt
-  slot-other k e =
-      let src : List ℕ = sourceOf t s old k in
-      ap₂ (λ (x y : ℕ). slotOf src x y (getD (set (a .starts) n start) k 0) (getD (set (a .lens) n len) k 0))
-      (getD-set-other (a .highs) n k (u .high) 0 e) (getD-set-other (a .lows) n k (u .low) 0 e)
-      ∙ ap₂ (λ (x y : ℕ). slotOf src (getD (a .highs) k 0) (getD (a .lows) k 0) x y)
-      (getD-set-other (a .starts) n k start 0 e) (getD-set-other (a .lens) n k len 0 e)
+pub gives-same : (t s a b : List ℕ) (old k : ℕ) → rowIn b k ≡ rowIn a k → lineAt t s b old k ≡ lineAt t s a old k
+unfolding lineAt
+gives-same t s a b old k e = ap (λ (r : Row). givenBy (sourceOf t s old k) r) e
 
-  pub slot-new : Long a → n < slots → 1 ≤ len
-      → slotAt t s (more a n u start len) old n
+module _ (t s a : List ℕ) (old n : ℕ) (u : Key) (start len : ℕ) where
+  pub gives-other : (k : ℕ) → (k ≡ n → ⊥) → lineAt t s (rowPut a n u start len) old k ≡ lineAt t s a old k
+  gives-other k e = gives-same t s a (rowPut a n u start len) old k (row-other a n u start len k e)
+
+  pub gives-new : Long a → n < rowsMax → 1 ≤ len
+      → lineAt t s (rowPut a n u start len) old n
       ≡ record { key = u; line = take len (drop start (sourceOf t s old n)) } ∷ []
-  unfolding slotAt
-  slot-new l m p =
-      let src : List ℕ = sourceOf t s old n in
-      ap₂ (λ (x y : ℕ). slotOf src x y (getD (set (a .starts) n start) n 0) (getD (set (a .lens) n len) n 0))
-      (getD-set-same (a .highs) n (u .high) 0 (omega (arith, l .highs)))
-      (getD-set-same (a .lows) n (u .low) 0 (omega (arith, l .lows)))
-      ∙ ap₂ (λ (x y : ℕ). slotOf src (u .high) (u .low) x y)
-      (getD-set-same (a .starts) n start 0 (omega (arith, l .starts)))
-      (getD-set-same (a .lens) n len 0 (omega (arith, l .lens)))
-      ∙ ap (λ (b : Bool). pick b [] (record { key = u; line = take len (drop start src) } ∷ []))
+  unfolding lineAt
+  gives-new l m p =
+      ap (λ (r : Row). givenBy (sourceOf t s old n) r) (row-same a n u start len l m)
+      ∙ ap (λ (b : Bool). pick b [] (record { key = u; line = take len (drop start (sourceOf t s old n)) } ∷ []))
       (ne-eqb len 0 (λ z. omega arith))
-
-  pub more-long : Long a → Long (more a n u start len)
-  more-long l = record {
-    highs = length-set (a .highs) n (u .high) ∙ l .highs;
-    lows = length-set (a .lows) n (u .low) ∙ l .lows;
-    starts = length-set (a .starts) n start ∙ l .starts;
-    lens = length-set (a .lens) n len ∙ l .lens;
-  }
-
--- other lengths
-module _ (t s : List ℕ) (a : Table) (old : ℕ) (lens : List ℕ) where
-  abbrev b : Table
-  b = record { highs = a .highs; lows = a .lows; starts = a .starts; lens = lens }
-
-  pub slot-lens : (k : ℕ) → getD lens k 0 ≡ getD (a .lens) k 0 → slotAt t s b old k ≡ slotAt t s a old k
-  unfolding slotAt
-  slot-lens k e =
-      ap (slotOf (sourceOf t s old k) (getD (a .highs) k 0) (getD (a .lows) k 0) (getD (a .starts) k 0)) e
-
-  pub slot-gone : (k : ℕ) → getD lens k 0 ≡ 0 → slotAt t s b old k ≡ []
-  unfolding slotAt
-  slot-gone k e =
-      ap (slotOf (sourceOf t s old k) (getD (a .highs) k 0) (getD (a .lows) k 0) (getD (a .starts) k 0)) e

@@ -8,8 +8,8 @@ use Rattle.text.specs.Bytes.{pick}
 use Rattle.store.specs.Layout.{recordBytes}
 use Rattle.store.proofs.RecordLaws.{length-record}
 use borrow.Author.Needs.{needs}
-use Rattle.store.proofs.slots.end_with.Statement.{statement}
-use Rattle.store.proofs.slots.end_with.Tie as tie
+use Rattle.store.proofs.table.end_with.Statement.{statement}
+use Rattle.store.proofs.table.end_with.Tie as tie
 
 record-size-requires : tie.Need-record-size-requires
 record-size-requires c κs = search needs
@@ -33,4 +33,10 @@ returns-2 c = λ (off len : ℕ).
     (ne-eqb (args .had) 0 (c .if1 .left)))
 
 pub end-with-spec : {M : Type 1} → statement M
-end-with-spec = tie.close (tie.spec record-size-requires add-result returns returns-2)
+end-with-spec =
+    tie.close
+    (tie.spec
+    record-size-requires
+    add-result
+    returns
+    returns-2)

@@ -1,5 +1,5 @@
--- Lines by number while an insert files them: their keys, starts and lengths in arrays, and the lines that are still
--- held. What is struck out has length 0.
+-- Lines by number while an insert files them: a row for each, and the lines that are still held. What is struck out
+-- has length 0.
 -- No public contract rests on these: a reader may leave them out.
 use mathlib.Core.Path.{_≡_}
 use mathlib.Core.Bool.{true, false}
@@ -7,9 +7,9 @@ use mathlib.Core.Option.{Option, some}
 use mathlib.Core.List.{List, [], _∷_, _++_}
 use Prim.Native.Nat.{ℕ, zero, suc, _+_, _-_, _≤_, _<_}
 use lib.Dec.{eqb, ltb}
-use lib.ListN.{length, getD, set, take, drop, replicate}
+use lib.ListN.{length, take, drop, replicate}
 use Rattle.text.specs.Bytes.{pick}
-use Rattle.store.specs.declared.slots.Fill.{Fill}
+use Rattle.store.specs.declared.table.Fill.{Fill}
 use Rattle.store.specs.declared.settle.Kept.{Kept}
 use Rattle.store.specs.declared.soundness.Surveyed.{Surveyed}
 use Rattle.store.specs.declared.soundness.Stock.{Stock}
@@ -21,7 +21,8 @@ use Rattle.store.specs.Decode.{walk, decode}
 use Rattle.store.specs.Book.{under, after, stopped, reach, insertTurn, insertLines}
 use Rattle.store.specs.Lines.{linesOf}
 use Rattle.store.specs.Layout.{recordBytes, records, texts, encodeIndex, encodeText}
-use Rattle.store.specs.Keys.{slots, keyAt, Says, Lists, Chained}
+use Rattle.store.specs.Keys.{rowsMax, Says, Lists, Chained}
+use Rattle.store.specs.Rows.{keyIn, startIn, lenIn, lenPut, Long}
 use Rattle.store.specs.Inner.{known, Good, Fitted, room, sizes}
 use Rattle.store.specs.Store.{lookUp, saysOf, lineOf}
 
@@ -30,45 +31,23 @@ unfoldable pub living : (ℕ → List Held) → ℕ → List Held
 living S zero = []
 living S (suc n) = living S n ++ S n
 
--- the arrays
-pub record Table : Type 0 where
-  pub highs : List ℕ
-  pub lows : List ℕ
-  pub starts : List ℕ
-  pub lens : List ℕ
-
--- the arrays with one line more
-abbrev pub more : Table → ℕ → Key → ℕ → ℕ → Table
-more a n k start len = record {
-  highs = set (a .highs) n (k .high);
-  lows = set (a .lows) n (k .low);
-  starts = set (a .starts) n start;
-  lens = set (a .lens) n len;
-}
-
 -- where the line of number k stands: the first `old` in the text, the others in the lines that are inserted
 abbrev pub sourceOf : List ℕ → List ℕ → ℕ → ℕ → List ℕ
 sourceOf t s old k = pick (ltb k old) t s
 
 -- the line of number k, and what it gives
-abbrev pub heldAt : List ℕ → List ℕ → Table → ℕ → ℕ → Held
+abbrev pub heldAt : List ℕ → List ℕ → List ℕ → ℕ → ℕ → Held
 heldAt t s a old k = record {
-  key = keyAt (a .highs) (a .lows) k;
-  line = take (getD (a .lens) k 0) (drop (getD (a .starts) k 0) (sourceOf t s old k));
+  key = keyIn a k;
+  line = take (lenIn a k) (drop (startIn a k) (sourceOf t s old k));
 }
 
-unfoldable pub slotAt : List ℕ → List ℕ → Table → ℕ → ℕ → List Held
-slotAt t s a old k = pick (eqb (getD (a .lens) k 0) 0) [] (heldAt t s a old k ∷ [])
-
-pub record Long (a : Table) : Type 0 where
-  pub highs : length (a .highs) ≡ slots
-  pub lows : length (a .lows) ≡ slots
-  pub starts : length (a .starts) ≡ slots
-  pub lens : length (a .lens) ≡ slots
+unfoldable pub lineAt : List ℕ → List ℕ → List ℕ → ℕ → ℕ → List Held
+lineAt t s a old k = pick (eqb (lenIn a k) 0) [] (heldAt t s a old k ∷ [])
 
 -- none of the first k numbers is struck out
 abbrev pub Whole : List ℕ → ℕ → Type 0
-Whole lens k = (j : ℕ) → j < k → getD lens j 0 ≡ 0 → ⊥
+Whole a k = (j : ℕ) → j < k → lenIn a j ≡ 0 → ⊥
 
 -- a store holds those lines, and others behind them
 abbrev pub Begins : Option (List Held) → List Held → Type 0
@@ -76,18 +55,18 @@ Begins o fs = (bs : List Held) × (o ≡ some (fs ++ bs))
 
 -- the first c numbers give the lines hs, for an index i and a text t; each old line starts behind the old lines before
 -- it that are still held, and before the first one that is struck out they stand as in the store
-pub record Tabled (i t s : List ℕ) (a : Table) (old c : ℕ) (hs : List Held) : Type 0 where
-  pub is : hs ≡ living (slotAt t s a old) c
-  pub inside : (k : ℕ) → k < c → getD (a .starts) k 0 + getD (a .lens) k 0 ≤ length (sourceOf t s old k)
-  pub ahead : (k : ℕ) → k < old → length (texts (living (slotAt t s a old) k)) ≤ getD (a .starts) k 0
-  pub stands : (k : ℕ) → k ≤ old → Whole (a .lens) k → Begins (decode i t) (living (slotAt t s a old) k)
+pub record Tabled (i t s : List ℕ) (a : List ℕ) (old c : ℕ) (hs : List Held) : Type 0 where
+  pub is : hs ≡ living (lineAt t s a old) c
+  pub inside : (k : ℕ) → k < c → startIn a k + lenIn a k ≤ length (sourceOf t s old k)
+  pub ahead : (k : ℕ) → k < old → length (texts (living (lineAt t s a old) k)) ≤ startIn a k
+  pub stands : (k : ℕ) → k ≤ old → Whole a k → Begins (decode i t) (living (lineAt t s a old) k)
   pub olds : old ≤ c
-  pub most : c ≤ slots
+  pub most : c ≤ rowsMax
   pub long : Long a
   pub good : Fitted (length i) (length t) hs
 
 -- `kept_rows`: the numbers before the first one that is struck out, and how much the lines of those take
-pub record Keepable (a : Table) (old : ℕ) : Type 0 where
+pub record Keepable (a : List ℕ) (old : ℕ) : Type 0 where
   pub i : List ℕ
   pub t : List ℕ
   pub s : List ℕ
@@ -100,25 +79,25 @@ pub record Keepable (a : Table) (old : ℕ) : Type 0 where
 abbrev pub Takes-up : List Held → ℕ → ℕ → Type 0
 Takes-up hs end used = (end ≡ sizes 0 hs) × (used ≡ length (texts hs))
 
-pub record Keeps (a : Table) (old : ℕ) (r : Kept) : Type 0 where
+pub record Keeps (a : List ℕ) (old : ℕ) (r : Kept) : Type 0 where
   pub rows : r .rows ≤ old
-  pub whole : Whole (a .lens) (r .rows)
+  pub whole : Whole a (r .rows)
   pub takes : (i t s : List ℕ) (c : ℕ) (hs : List Held) → Tabled i t s a old c hs
-      → Takes-up (living (slotAt t s a old) (r .rows)) (r .at) (r .off)
+      → Takes-up (living (lineAt t s a old) (r .rows)) (r .at) (r .off)
 
 -- where the records and the lines of a store end
 abbrev pub Extends : List ℕ → List ℕ → Fill → Type 0
 Extends i t f = (hs : List Held) → decode i t ≡ some hs → Takes-up hs (f .end) (f .used)
 
 -- the lines of the numbers that are kept, and the index with a part of it behind their records
-abbrev pub keptLines : List ℕ → List ℕ → Table → Kept → Fill → List Held
-keptLines t s a kept was = living (slotAt t s a (was .count)) (kept .rows)
+abbrev pub keptLines : List ℕ → List ℕ → List ℕ → Kept → Fill → List Held
+keptLines t s a kept was = living (lineAt t s a (was .count)) (kept .rows)
 
-abbrev pub behindKept : List ℕ → List ℕ → Table → Kept → Fill → List ℕ → List ℕ
+abbrev pub behindKept : List ℕ → List ℕ → List ℕ → Kept → Fill → List ℕ → List ℕ
 behindKept t s a kept was part = records 0 (keptLines t s a kept was) ++ part
 
 -- `close_up`: the part of the index behind the records that are kept, and the store that it is of
-pub record Lent (part t s : List ℕ) (a : Table) (kept : Kept) (was : Fill) (c : ℕ) (hs : List Held) : Type 0 where
+pub record Lent (part t s : List ℕ) (a : List ℕ) (kept : Kept) (was : Fill) (c : ℕ) (hs : List Held) : Type 0 where
   pub tabled : Tabled (behindKept t s a kept was part) t s a (was .count) c hs
   pub rows : kept .rows ≤ c
   pub takes : Takes-up (keptLines t s a kept was) (kept .at) (kept .off)
@@ -130,54 +109,54 @@ pub record Lent (part t s : List ℕ) (a : Table) (kept : Kept) (was : Fill) (c 
   pub text-within : was .used ≤ length t
   pub text-free : drop (was .used) t ≡ replicate (length t - was .used) 0
 
-abbrev pub Closes : List ℕ → List ℕ → List ℕ → Table → Kept → Fill → ℕ → Type 0
+abbrev pub Closes : List ℕ → List ℕ → List ℕ → List ℕ → Kept → Fill → ℕ → Type 0
 Closes part t s a kept was c = (hs : List Held) × Lent part t s a kept was c hs
 
-abbrev pub Closed : List ℕ → List ℕ → List ℕ → Table → Kept → Fill → ℕ → List ℕ → List ℕ → Type 0
+abbrev pub Closed : List ℕ → List ℕ → List ℕ → List ℕ → Kept → Fill → ℕ → List ℕ → List ℕ → Type 0
 Closed part t s a kept was c part′ t′ =
     (hs : List Held) → Lent part t s a kept was c hs
     → (behindKept t s a kept was part′ ≡ encodeIndex (length (behindKept t s a kept was part)) hs)
     × (t′ ≡ encodeText (length t) hs)
 
 -- `settle`: the lines that are still held, written out
-abbrev pub Settles : List ℕ → List ℕ → List ℕ → Table → Fill → ℕ → Type 0
+abbrev pub Settles : List ℕ → List ℕ → List ℕ → List ℕ → Fill → ℕ → Type 0
 Settles i t s a was c = (hs : List Held) × Tabled i t s a (was .count) c hs
 
-abbrev pub Settled : List ℕ → List ℕ → List ℕ → Table → Fill → ℕ → List ℕ → List ℕ → Type 0
+abbrev pub Settled : List ℕ → List ℕ → List ℕ → List ℕ → Fill → ℕ → List ℕ → List ℕ → Type 0
 Settled i t s a was c i′ t′ =
     (hs : List Held) → Tabled i t s a (was .count) c hs
     → (i′ ≡ encodeIndex (length i) hs) × (t′ ≡ encodeText (length t) hs)
 
 -- such numbers, in chains by their keys; of two with one key the first is struck out; and how much is in use
-pub record Slotted (i t s : List ℕ) (a : Table) (heads next : List ℕ) (old : ℕ) (f : Fill) (hs : List Held)
+pub record InRows (i t s : List ℕ) (a : List ℕ) (heads next : List ℕ) (old : ℕ) (f : Fill) (hs : List Held)
     : Type 0 where
   pub tabled : Tabled i t s a old (f .count) hs
-  pub older : (j k : ℕ) → j < k → k < f .count → keyAt (a .highs) (a .lows) j ≡ keyAt (a .highs) (a .lows) k
-      → getD (a .lens) j 0 ≡ 0
-  pub chained : Chained (keyAt (a .highs) (a .lows)) heads next (f .count)
+  pub older : (j k : ℕ) → j < k → k < f .count → keyIn a j ≡ keyIn a k
+      → lenIn a j ≡ 0
+  pub chained : Chained (keyIn a) heads next (f .count)
   pub end : f .end ≡ sizes 0 hs
   pub used : f .used ≡ length (texts hs)
   pub limits : (length i ≤ indexMax) × (length t ≤ textMax)
 
 -- the lines of a sound store are written down, all of them old
-abbrev pub Loads : List ℕ → Table → List ℕ → List ℕ → Fill → Type 0
+abbrev pub Loads : List ℕ → List ℕ → List ℕ → List ℕ → Fill → Type 0
 Loads i a heads next f =
     (t s : List ℕ) (hs : List Held) → decode i t ≡ some hs
-    → Slotted i t s a heads next (f .count) f hs
+    → InRows i t s a heads next (f .count) f hs
 
 -- `survey`: the store is sound but for keys that stand twice; what is told of those
-pub record Surveys (i t : List ℕ) (a : Table) (heads next : List ℕ) (r : Surveyed) : Type 0 where
+pub record Surveys (i t : List ℕ) (a : List ℕ) (heads next : List ℕ) (r : Surveyed) : Type 0 where
   pub is : r .whole ≡ known (walk (suc (length i)) 0 i t)
-  pub most : r .fill .count < slots
-  pub says : Says (keyAt (a .highs) (a .lows)) (r .fill .count) (r .verdict)
-  pub chained : Chained (keyAt (a .highs) (a .lows)) heads next (r .fill .count)
-  pub lists : r .whole ≡ true → Lists i (keyAt (a .highs) (a .lows)) (r .fill .count)
+  pub most : r .fill .count < rowsMax
+  pub says : Says (keyIn a) (r .fill .count) (r .verdict)
+  pub chained : Chained (keyIn a) heads next (r .fill .count)
+  pub lists : r .whole ≡ true → Lists i (keyIn a) (r .fill .count)
   pub loads : r .whole ≡ true → Loads i a heads next (r .fill)
 
 -- `take_stock`: the store is sound
-pub record Stocks (i t : List ℕ) (a : Table) (heads next : List ℕ) (r : Stock) : Type 0 where
+pub record Stocks (i t : List ℕ) (a : List ℕ) (heads next : List ℕ) (r : Stock) : Type 0 where
   pub is : r .sound ≡ known (decode i t)
-  pub loads : r .sound ≡ true → Loads i a heads next (r .fill) × (r .fill .count < slots)
+  pub loads : r .sound ≡ true → Loads i a heads next (r .fill) × (r .fill .count < rowsMax)
 
 -- `look`: what a look-up says, and where the line lies
 pub record Sees (i t : List ℕ) (k : Key) (r : Seen) : Type 0 where
@@ -185,12 +164,12 @@ pub record Sees (i t : List ℕ) (k : Key) (r : Seen) : Type 0 where
   pub within : r .start + r .len ≤ length t
   pub line : take (r .len) (drop (r .start) t) ≡ lineOf (lookUp k i t)
 
--- `len_before`, `strike_slot`: of the number before r; none where r is 0
+-- `len_before`, `strike_before`: of the number before r; none where r is 0
 abbrev pub lenBefore : List ℕ → ℕ → ℕ
-lenBefore lens r = pick (eqb r 0) 0 (getD lens (r - 1) 0)
+lenBefore a r = pick (eqb r 0) 0 (lenIn a (r - 1))
 
 abbrev pub struckBefore : List ℕ → ℕ → List ℕ
-struckBefore lens r = pick (eqb r 0) lens (set lens (r - 1) 0)
+struckBefore a r = pick (eqb r 0) a (lenPut a (r - 1) 0)
 
 -- `end_with`: where the records end with one more of that key, if none of that key is struck out for it
 abbrev pub Ends : ℕ → ℕ → Key → ℕ → Type 0
@@ -201,46 +180,46 @@ pub record Short (l : List ℕ) : Type 0 where
   pub some : 1 ≤ length l
   pub most : length l ≤ lineMax
 
--- `file_slot`: a line of those that are inserted, for lines that are so written down
-pub record Files′ (i t s : List ℕ) (a : Table) (heads next : List ℕ) (old : ℕ) (f : Fill) (u : Key)
+-- `file_row`: a line of those that are inserted, for lines that are so written down
+pub record Files′ (i t s : List ℕ) (a : List ℕ) (heads next : List ℕ) (old : ℕ) (f : Fill) (u : Key)
     (start len : ℕ) (hs : List Held) : Type 0 where
-  pub slotted : Slotted i t s a heads next old f hs
+  pub in-rows : InRows i t s a heads next old f hs
   pub inside : start + len ≤ length s
   pub shape : Short (take len (drop start s))
 
-abbrev pub Fileable : List ℕ → List ℕ → Table → List ℕ → List ℕ → Fill → Key → ℕ → ℕ → Type 0
+abbrev pub Fileable : List ℕ → List ℕ → List ℕ → List ℕ → List ℕ → Fill → Key → ℕ → ℕ → Type 0
 Fileable i t a heads next f u start len =
     (s : List ℕ) × ((old : ℕ) × ((hs : List Held) × Files′ i t s a heads next old f u start len hs))
 
 -- it is filed, or there is no room and the lines are as before
-pub data Filed (i t s : List ℕ) (a : Table) (heads next : List ℕ) (old : ℕ) (f : Fill) (h : Held)
+pub data Filed (i t s : List ℕ) (a : List ℕ) (heads next : List ℕ) (old : ℕ) (f : Fill) (h : Held)
     (hs : List Held) (r : Fill) : Type 0 where
-  fits : room (length i) (length t) h hs ≡ true → r .count ≡ f .count + 1 → Slotted i t s a heads next old r (file h hs)
+  fits : room (length i) (length t) h hs ≡ true → r .count ≡ f .count + 1 → InRows i t s a heads next old r (file h hs)
       → Filed i t s a heads next old f h hs r
   full : room (length i) (length t) h hs ≡ false → r .count ≡ f .count → Tabled i t s a old (f .count) hs
       → Filed i t s a heads next old f h hs r
 
-abbrev pub FilesSlot : List ℕ → List ℕ → Table → List ℕ → List ℕ → Fill → Key → ℕ → ℕ → Table → List ℕ → List ℕ
+abbrev pub FilesRow : List ℕ → List ℕ → List ℕ → List ℕ → List ℕ → Fill → Key → ℕ → ℕ → List ℕ → List ℕ → List ℕ
     → Fill → Type 0
-FilesSlot i t a heads next f u start len a′ heads′ next′ r =
+FilesRow i t a heads next f u start len a′ heads′ next′ r =
     (s : List ℕ) (old : ℕ) (hs : List Held) → Files′ i t s a heads next old f u start len hs
     → Filed i t s a′ heads′ next′ old f (under u (take len (drop start s))) hs r
 
-abbrev pub Slotting : List ℕ → List ℕ → List ℕ → Table → List ℕ → List ℕ → Fill → Type 0
-Slotting i t s a heads next f = (old : ℕ) × ((hs : List Held) × Slotted i t s a heads next old f hs)
+abbrev pub SomeRows : List ℕ → List ℕ → List ℕ → List ℕ → List ℕ → List ℕ → Fill → Type 0
+SomeRows i t s a heads next f = (old : ℕ) × ((hs : List Held) × InRows i t s a heads next old f hs)
 
--- `reach_slot`: what one line of an insert does
-pub data Comes (i t s : List ℕ) (a : Table) (heads next : List ℕ) (old : ℕ) (l : List ℕ) (hs : List Held)
+-- `reach_row`: what one line of an insert does
+pub data Comes (i t s : List ℕ) (a : List ℕ) (heads next : List ℕ) (old : ℕ) (l : List ℕ) (hs : List Held)
     (r : Step) : Type 0 where
-  goes : (ks : List Held) → reach (length i) (length t) hs l ≡ after ks → r .on ≡ true → Slotted i t s a heads next old (r .fill) ks
+  goes : (ks : List Held) → reach (length i) (length t) hs l ≡ after ks → r .on ≡ true → InRows i t s a heads next old (r .fill) ks
       → Comes i t s a heads next old l hs r
   stops : reach (length i) (length t) hs l ≡ stopped (r .answer) → r .on ≡ false → Tabled i t s a old (r .fill .count) hs
       → Comes i t s a heads next old l hs r
 
-abbrev pub ReachesSlot : List ℕ → List ℕ → List ℕ → Table → List ℕ → List ℕ → Fill → List ℕ → Table → List ℕ → List ℕ
+abbrev pub ReachesRow : List ℕ → List ℕ → List ℕ → List ℕ → List ℕ → List ℕ → Fill → List ℕ → List ℕ → List ℕ → List ℕ
     → Step → Type 0
-ReachesSlot i t s a heads next f l a′ heads′ next′ r =
-    (old : ℕ) (hs : List Held) → Slotted i t s a heads next old f hs → Comes i t s a′ heads′ next′ old l hs r
+ReachesRow i t s a heads next f l a′ heads′ next′ r =
+    (old : ℕ) (hs : List Held) → InRows i t s a heads next old f hs → Comes i t s a′ heads′ next′ old l hs r
 
 -- `take_lines`, `insert_batch`: the lines from `from` on are walked, to the end, to one that stops the insert, or to a
 -- place from which it goes on; P holds of the lines that are held then
@@ -257,11 +236,11 @@ pub data Takes (n m : ℕ) (s : List ℕ) (from : ℕ) (hs : List Held) (r : Wal
 pub record Went (s : List ℕ) (from f : ℕ) (r : Walked) : Type 0 where
   pub within : r .at ≤ length s + 1
   pub counted : from + r .count ≤ r .at
-  pub moved : f < slots → from < length s → r .on ≡ true → from < r .at
+  pub moved : f < rowsMax → from < length s → r .on ≡ true → from < r .at
 
-abbrev pub TakesLines : List ℕ → List ℕ → List ℕ → Table → List ℕ → List ℕ → ℕ → Fill → Table → Walked → Type 0
+abbrev pub TakesLines : List ℕ → List ℕ → List ℕ → List ℕ → List ℕ → List ℕ → ℕ → Fill → List ℕ → Walked → Type 0
 TakesLines i t s a heads next from f a′ r =
-    (old : ℕ) (hs : List Held) → Slotted i t s a heads next old f hs
+    (old : ℕ) (hs : List Held) → InRows i t s a heads next old f hs
     → Takes (length i) (length t) s from hs r (Tabled i t s a′ old (r .filled))
 
 -- the buffers encode those lines
