@@ -51,7 +51,7 @@ def names_in(path):
                 names.add(m.group(1))
             m = re.match(r"\s+(?:pub )?([^\s(:{]+) :\s", line)
         else:
-            for m in re.finditer(r"\b(?:fn|struct|enum|const|mod) (\w+)", line):
+            for m in re.finditer(r"\b(?:fn|struct|enum|const|mod|impl) (\w+)", line):
                 names.add(m.group(1))
             m = re.match(r"\s+(?:pub )?(\w+)(?:,|\(|:| \{|$)", line)
         if m:

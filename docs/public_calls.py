@@ -26,7 +26,7 @@ CROSSES_AS = {
 NAMED = {"event": "raspteal_mapping_event"}
 
 # The definitions that give an answer its number.
-REFUSING = re.compile(r"^(kindNumber|\w+Outcome|readingRefusal|mappingRefusal|nearNumber) :")
+REFUSING = re.compile(r"^(kindNumber|\w+Outcome|readingRefusal|mappingRefusal) :")
 
 # A promise of an answer and a buffer at once; a C function says the two apart.
 PARTS = {"Wrote": ["writeAnswer", "writeBuffer"], "Builds": ["buildOf", "outputOf"]}
@@ -46,7 +46,7 @@ How to read an entry:
 
 REFUSALS = """## Refusals
 
-Document 01's number of each refusal, its words in the header, and the answers of the layers that say it; the definitions that give each answer its number, place and code are `kindNumber`, `putOutcome`, `readingRefusal` (`crates/line/specs/Refusals.antt`), `mappingRefusal` (`crates/map/specs/Refusals.antt`), `storeOutcome`, `saveOutcome`, `lookOutcome` (`crates/store/specs/Refusals.antt`) and `nearNumber` (`crates/store/specs/Near.antt`).
+Document 01's number of each refusal, its words in the header, and the answers of the layers that say it; the definitions that give each answer its number, place and code are `kindNumber`, `putOutcome`, `readingRefusal` (`crates/line/specs/Refusals.antt`), `mappingRefusal` (`crates/map/specs/Refusals.antt`), `storeOutcome`, `saveOutcome`, `lookOutcome` (`crates/store/specs/Refusals.antt`) and `nearOutcome` (`crates/store/specs/Near.antt`).
 
 | No. | Means | Answers that say it |
 |---|---|---|"""

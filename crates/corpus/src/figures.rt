@@ -1,8 +1,6 @@
 // What is counted over a list of lines.
 use line::ev::AxisOrBtn;
 use line::mapping::Mapping;
-use line::parser::ErrorKind;
-use line::reading::ParseSdlMappingError;
 use line::reading::SdlAnswer;
 use line::reading::SdlMapping;
 use std::num::wrapping_add_u64;
@@ -46,7 +44,7 @@ impl Figures {
                 let map = reading.map;
                 next.accept(map)
             }
-            SdlAnswer::Refused(e) => next.refuse(number(e)),
+            SdlAnswer::Refused(e) => next.refuse(e.refusal().number as usize),
         }
     }
 
@@ -128,32 +126,5 @@ fn element_number(e: AxisOrBtn) -> u64 {
     match e {
         AxisOrBtn::Axis(a) => a.0 as u64,
         AxisOrBtn::Btn(b) => b.0 as u64,
-    }
-}
-
-// Document 01's number of a refused reading.
-fn number(e: ParseSdlMappingError) -> usize {
-    match e {
-        ParseSdlMappingError::UnknownHatDirection => 7,
-        ParseSdlMappingError::ParseError(error) => {
-            let kind = error.kind;
-            kind_number(kind)
-        }
-        ParseSdlMappingError::TooManyCodes { position: _ } => 11,
-        ParseSdlMappingError::ListTooLong => 12,
-    }
-}
-
-fn kind_number(kind: ErrorKind) -> usize {
-    match kind {
-        ErrorKind::InvalidGuid => 1,
-        ErrorKind::UnexpectedEnd => 2,
-        ErrorKind::InvalidKeyValPair => 3,
-        ErrorKind::InvalidValue => 4,
-        ErrorKind::UnknownAxis => 5,
-        ErrorKind::UnknownButton => 6,
-        ErrorKind::EmptyValue => 8,
-        ErrorKind::InvalidParserState => 9,
-        ErrorKind::NotUtf8 => 10,
     }
 }

@@ -22,8 +22,12 @@ use Rattle.line.specs.declared.ev.ToNec.{ToNec}
 use Rattle.line.specs.declared.ev.ToNec.the-variants as Tn
 use Rattle.line.specs.declared.ev.SecondAxis.{SecondAxis}
 use Rattle.line.specs.declared.ev.SecondAxis.the-variants as Sa
-use Rattle.line.specs.Refusals as Rf
-use Rattle.line.specs.Refusals.{Place, Carried, Refusal, Outcome}
+use Rattle.line.specs.declared.refusal.Place.{Place}
+use Rattle.line.specs.declared.refusal.Place.the-variants as Pl
+use Rattle.line.specs.declared.refusal.Carried.{Carried}
+use Rattle.line.specs.declared.refusal.Carried.the-variants as Cr
+use Rattle.line.specs.declared.refusal.Outcome.{Outcome}
+use Rattle.line.specs.declared.refusal.Outcome.the-variants as Oc
 use Rattle.exports.specs.declared.flat.FlatRefusal.{FlatRefusal}
 use Rattle.exports.specs.declared.flat.FlatWritten.{FlatWritten}
 use Rattle.exports.specs.declared.flat.FlatUuid.{FlatUuid}
@@ -88,27 +92,27 @@ flatSecondAxis Sa.Nothing = record { found = false; number = 0 }
 
 -- ---- refusals: number 0 where nothing is refused; a place and a code that a refusal lacks are 0
 abbrev pub hasPlace : Place → Bool
-hasPlace (Rf.At p) = true
-hasPlace Rf.NoPlace = false
+hasPlace (Pl.At p) = true
+hasPlace Pl.NoPlace = false
 
 abbrev pub placeNumber : Place → ℕ
-placeNumber (Rf.At p) = p
-placeNumber Rf.NoPlace = 0
+placeNumber (Pl.At p) = p
+placeNumber Pl.NoPlace = 0
 
 abbrev pub hasCode : Carried → Bool
-hasCode (Rf.Carries c) = true
-hasCode Rf.NoCode = false
+hasCode (Cr.Carries c) = true
+hasCode Cr.NoCode = false
 
 abbrev pub codeNumber : Carried → ℕ
-codeNumber (Rf.Carries c) = c .0
-codeNumber Rf.NoCode = 0
+codeNumber (Cr.Carries c) = c .0
+codeNumber Cr.NoCode = 0
 
 abbrev pub noRefusal : FlatRefusal
 noRefusal = record { number = 0; «has_place» = false; place = 0; «has_code» = false; code = 0 }
 
 abbrev pub flatOutcome : Outcome → FlatRefusal
-flatOutcome Rf.Passes = noRefusal
-flatOutcome (Rf.Refuses r) =
+flatOutcome Oc.Passes = noRefusal
+flatOutcome (Oc.Refuses r) =
     record {
       number = r .number;
       «has_place» = hasPlace (r .place);

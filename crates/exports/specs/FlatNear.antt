@@ -4,7 +4,8 @@ use Prim.Native.Nat.{ℕ}
 use mathlib.Core.Bool.{false}
 use Rattle.store.specs.declared.near.NearLook.{NearLook}
 use Rattle.store.specs.declared.near.NearLook.the-variants as Nl
-use Rattle.store.specs.Near.{nearNumber}
+use Rattle.store.specs.Near.{nearOutcome}
+use Rattle.exports.specs.Flat.{flatOutcome}
 use Rattle.exports.specs.declared.near_calls.FlatNearLook.{FlatNearLook}
 
 -- 0 nothing, 1 exact, 2 near
@@ -15,14 +16,4 @@ nearHow Nl.Missing = 0
 nearHow Nl.Unsound = 0
 
 abbrev pub flatNearLook : NearLook → FlatNearLook
-flatNearLook l =
-    record {
-      refusal = record {
-        number = nearNumber l;
-        «has_place» = false;
-        place = 0;
-        «has_code» = false;
-        code = 0;
-      };
-      how = nearHow l;
-    }
+flatNearLook l = record { refusal = flatOutcome (nearOutcome l); how = nearHow l }

@@ -6,8 +6,10 @@ use Rattle.store.specs.declared.calls.Inserted.{Inserted}
 use Rattle.store.specs.declared.calls.Look.{Look}
 use Rattle.store.specs.declared.calls.SaveAnswer.{SaveAnswer}
 use Rattle.store.specs.declared.calls.Saved.{Saved}
-use Rattle.line.specs.Refusals.{Refuses}
-use Rattle.store.specs.Refusals.{storeOutcome, saveOutcome, LookOutcome, finds, findsNone, cannotLook, lookOutcome}
+use Rattle.line.specs.declared.refusal.Outcome.the-variants.{Refuses}
+use Rattle.store.specs.Refusals.{storeOutcome, saveOutcome, lookOutcome}
+use Rattle.store.specs.declared.refusal.LookOutcome.{LookOutcome}
+use Rattle.store.specs.declared.refusal.LookOutcome.the-variants as Lo
 use Rattle.exports.specs.declared.flat.FlatRefusal.{FlatRefusal}
 use Rattle.exports.specs.declared.store_calls.FlatInserted.{FlatInserted}
 use Rattle.exports.specs.declared.store_calls.FlatLook.{FlatLook}
@@ -24,9 +26,9 @@ flatInserted i =
 
 -- found, none, or the refusal
 abbrev pub flatLooked : LookOutcome → FlatLook
-flatLooked finds = record { refusal = noRefusal; found = true }
-flatLooked findsNone = record { refusal = noRefusal; found = false }
-flatLooked (cannotLook r) = record { refusal = flatOutcome (Refuses r); found = false }
+flatLooked Lo.Finds = record { refusal = noRefusal; found = true }
+flatLooked Lo.FindsNone = record { refusal = noRefusal; found = false }
+flatLooked (Lo.CannotLook r) = record { refusal = flatOutcome (Refuses r); found = false }
 
 abbrev pub flatLook : Look → FlatLook
 flatLook l = flatLooked (lookOutcome l)

@@ -15,9 +15,10 @@ use Rattle.line.specs.declared.parser.Token.the-variants as Tk
 use Rattle.line.specs.declared.parser.Answer.{Answer}
 use Rattle.line.specs.declared.parser.Answer.the-variants as An
 use Rattle.line.specs.declared.parser.Stepped.{Stepped}
-use Rattle.line.specs.Refusals as Rf
+use Rattle.line.specs.declared.refusal.Outcome.the-variants as Oc
 use Rattle.line.specs.declared.parser.tokens.Tokens.{Tokens}
-use Rattle.line.specs.Refusals.{Outcome, errorRefusal, lastOutcome}
+use Rattle.line.specs.Refusals.{errorRefusal, lastOutcome}
+use Rattle.line.specs.declared.refusal.Outcome.{Outcome}
 use Rattle.exports.specs.declared.flat.FlatUuid.{FlatUuid}
 use Rattle.exports.specs.declared.flat_token.FlatPair.{FlatPair}
 use Rattle.exports.specs.declared.flat_token.FlatToken.{FlatToken}
@@ -76,17 +77,17 @@ abbrev pub noUuid : FlatUuid
 noUuid = record { high = 0; low = 0 }
 
 abbrev pub bareToken : ℕ → FlatToken
-bareToken kind = tokenOf kind Rf.Passes noUuid 0 0 noPair
+bareToken kind = tokenOf kind Oc.Passes noUuid 0 0 noPair
 
 abbrev pub textToken : ℕ → ℕ → ℕ → FlatToken
-textToken kind start len = tokenOf kind Rf.Passes noUuid start len noPair
+textToken kind start len = tokenOf kind Oc.Passes noUuid start len noPair
 
 abbrev pub pairToken : ℕ → FlatPair → FlatToken
-pairToken kind pair = tokenOf kind Rf.Passes noUuid 0 0 pair
+pairToken kind pair = tokenOf kind Oc.Passes noUuid 0 0 pair
 
 -- the kinds: 0 end, 1 refused, 2 UUID, 3 platform, 4 name, 5 axis, 6 button, 7 hat
 abbrev pub flatToken : Token → FlatToken
-flatToken (Tk.Uuid u) = tokenOf 2 Rf.Passes (flatUuid u) 0 0 noPair
+flatToken (Tk.Uuid u) = tokenOf 2 Oc.Passes (flatUuid u) 0 0 noPair
 flatToken (Tk.Platform start len) = textToken 3 start len
 flatToken (Tk.Name start len) = textToken 4 start len
 flatToken (Tk.AxisMapping from to r) = pairToken 5 (flatPair from 0 to r)
@@ -95,7 +96,7 @@ flatToken (Tk.HatMapping hat direction to r) = pairToken 7 (flatPair hat directi
 
 abbrev pub flatAnswer : Answer → FlatToken
 flatAnswer (An.Found t) = flatToken t
-flatAnswer (An.Refused e) = tokenOf 1 (Rf.Refuses (errorRefusal e)) noUuid 0 0 noPair
+flatAnswer (An.Refused e) = tokenOf 1 (Oc.Refuses (errorRefusal e)) noUuid 0 0 noPair
 flatAnswer An.End = bareToken 0
 
 abbrev pub flatStep : Stepped → FlatStep

@@ -1,9 +1,7 @@
 // The calls of the map layer that make a map: the default, and build; and the table of key codes.
 use crate::flat::FlatRefusal;
 use crate::flat::FlatUuid;
-use crate::flat::flat_no_refusal;
-use crate::flat::flat_refusal;
-use crate::flat::flat_refusal_at;
+use crate::flat::flat_outcome;
 use crate::flat::uuid_of;
 use crate::flat_data::FlatData;
 use crate::flat_data::data_of;
@@ -11,8 +9,6 @@ use crate::flat_mapping::FlatMapping;
 use crate::flat_mapping::flat_made;
 use crate::flat_mapping::flat_mapping;
 use line::ev::Code;
-use map::error::MappingAnswer;
-use map::error::MappingError;
 use map::from_data::Built;
 use map::keys::KEYS;
 use map::keys::key_button;
@@ -21,13 +17,11 @@ ghost use mathlib.Core.Path.{_≡_};
 ghost use Rattle.line.specs.Elements.{codeOf};
 ghost use Rattle.map.specs.Default.{defaultOf};
 ghost use Rattle.map.specs.Keys.{keyButton, keyTable};
-ghost use Rattle.line.specs.Refusals.{Refuses};
 ghost use Rattle.map.specs.Build.{buildOf, outputOf};
-ghost use Rattle.map.specs.Refusals.{mappingRefusal};
 ghost use lib.ListN.{length};
-ghost use Rattle.exports.specs.Flat.{flatOutcome, uuidIn};
+ghost use Rattle.exports.specs.Flat.{uuidIn};
 ghost use Rattle.exports.specs.FlatMaps.{Unused};
-ghost use Rattle.exports.specs.FlatSlots.{dataIn, flatAnswer, flatDefault, flatBuilt, flatKeys};
+ghost use Rattle.exports.specs.FlatSlots.{dataIn, flatDefault, flatBuilt, flatKeys};
 
 // A refused one has the empty map.
 #[repr(C)]
@@ -48,36 +42,6 @@ pub struct FlatBuilt {
     pub refusal: FlatRefusal,
     pub map: FlatMapping,
     pub len: usize,
-}
-
-pub fn flat_mapping_error(e: MappingError) -> FlatRefusal
-    ensures { λ r. ⌜ r ≡ flatOutcome (Refuses (mappingRefusal e)) ⌝ }
-{
-    match e {
-        MappingError::InvalidCode(c) => FlatRefusal {
-            number: 15,
-            has_place: false,
-            place: 0,
-            has_code: true,
-            code: c.0,
-        },
-        MappingError::InvalidName => flat_refusal(13),
-        MappingError::UnknownElement => flat_refusal(14),
-        MappingError::NotSdl2Compatible => flat_refusal(16),
-        MappingError::NotUtf8(place) => flat_refusal_at(10, place),
-        MappingError::NameTooLong => flat_refusal(17),
-        MappingError::ListTooLong => flat_refusal(12),
-        MappingError::OutputTooShort => flat_refusal(18),
-    }
-}
-
-fn flat_mapping_answer(a: MappingAnswer) -> FlatRefusal
-    ensures { λ r. ⌜ r ≡ flatAnswer a ⌝ }
-{
-    match a {
-        MappingAnswer::Accepted => flat_no_refusal(),
-        MappingAnswer::Refused(e) => flat_mapping_error(e),
-    }
 }
 
 #[no_mangle]
@@ -104,7 +68,7 @@ pub extern "C" fn raspteal_default(buttons: &[u32], axes: &[u32]) -> FlatDefault
     let answer = d.answer;
     let map = d.map;
     FlatDefault {
-        refusal: flat_mapping_answer(answer),
+        refusal: flat_outcome(answer.outcome()),
         map: flat_mapping(map),
     }
 }
@@ -116,7 +80,7 @@ fn flat_built(b: Built) -> FlatBuilt
     let answer = b.answer;
     let map = b.map;
     FlatBuilt {
-        refusal: flat_mapping_answer(answer),
+        refusal: flat_outcome(answer.outcome()),
         map: flat_made(map),
         len: b.len,
     }

@@ -2,12 +2,17 @@
 use line::ev::Axis;
 use line::ev::AxisOrBtn;
 use line::ev::Button;
+use line::refusal::Carried;
+use line::refusal::Outcome;
+use line::refusal::Place;
+use line::refusal::Refusal;
 use text::bytes::Written;
 use text::uuid::Form;
 use text::uuid::Uuid;
 ghost use mathlib.Core.Path.{_≡_};
-ghost use Rattle.exports.specs.Flat.{flatWritten, flatUuid, formNumber, uuidIn, flatElement, elementOf, flatOutcome};
-ghost use Rattle.line.specs.Refusals.{Passes, Refuses, refusal, refusalAt};
+ghost use Rattle.exports.specs.Flat.{flatWritten, flatUuid, formNumber, uuidIn, flatElement, elementOf};
+ghost use Rattle.exports.specs.Flat.{hasPlace, placeNumber, hasCode, codeNumber, flatOutcome};
+ghost use Rattle.line.specs.declared.refusal.Outcome.the-variants.{Passes, Refuses};
 
 // Where a writer stopped; 0 where the text did not fit.
 #[repr(C)]
@@ -117,26 +122,61 @@ pub fn flat_no_refusal() -> FlatRefusal
     }
 }
 
-pub fn flat_refusal(number: u8) -> FlatRefusal
-    ensures { λ r. ⌜ r ≡ flatOutcome (Refuses (refusal number)) ⌝ }
+fn has_place(place: Place) -> bool
+    ensures { λ r. ⌜ r ≡ hasPlace place ⌝ }
 {
-    FlatRefusal {
-        number,
-        has_place: false,
-        place: 0,
-        has_code: false,
-        code: 0,
+    match place {
+        Place::At(_) => true,
+        Place::NoPlace => false,
     }
 }
 
-pub fn flat_refusal_at(number: u8, place: usize) -> FlatRefusal
-    ensures { λ r. ⌜ r ≡ flatOutcome (Refuses (refusalAt number place)) ⌝ }
+fn place_number(place: Place) -> usize
+    ensures { λ r. ⌜ r ≡ placeNumber place ⌝ }
 {
+    match place {
+        Place::At(p) => p,
+        Place::NoPlace => 0,
+    }
+}
+
+fn has_code(code: Carried) -> bool
+    ensures { λ r. ⌜ r ≡ hasCode code ⌝ }
+{
+    match code {
+        Carried::Carries(_) => true,
+        Carried::NoCode => false,
+    }
+}
+
+fn code_number(code: Carried) -> u32
+    ensures { λ r. ⌜ r ≡ codeNumber code ⌝ }
+{
+    match code {
+        Carried::Carries(c) => c.0,
+        Carried::NoCode => 0,
+    }
+}
+
+pub fn flat_refusal(refusal: Refusal) -> FlatRefusal
+    ensures { λ r. ⌜ r ≡ flatOutcome (Refuses refusal) ⌝ }
+{
+    let place = refusal.place;
+    let code = refusal.code;
     FlatRefusal {
-        number,
-        has_place: true,
-        place,
-        has_code: false,
-        code: 0,
+        number: refusal.number,
+        has_place: has_place(place),
+        place: place_number(place),
+        has_code: has_code(code),
+        code: code_number(code),
+    }
+}
+
+pub fn flat_outcome(outcome: Outcome) -> FlatRefusal
+    ensures { λ r. ⌜ r ≡ flatOutcome outcome ⌝ }
+{
+    match outcome {
+        Outcome::Passes => flat_no_refusal(),
+        Outcome::Refuses(refusal) => flat_refusal(refusal),
     }
 }

@@ -4,20 +4,15 @@ use crate::flat::FlatRefusal;
 use crate::flat::FlatUuid;
 use crate::flat::flat_element;
 use crate::flat::flat_no_refusal;
-use crate::flat::flat_refusal_at;
+use crate::flat::flat_refusal;
 use crate::flat::flat_uuid;
 use line::ev::AxisOrBtn;
 use line::parser::Answer;
 use line::parser::AxisRange;
-use line::parser::Error;
-use line::parser::ErrorKind;
 use line::parser::Ranges;
 use line::parser::State;
 use line::parser::Token;
 ghost use mathlib.Core.Path.{_≡_};
-ghost use Rattle.line.specs.Refusals.{kindNumber, errorRefusal, answerOutcome};
-ghost use Rattle.line.specs.Refusals as Refusals;
-ghost use Rattle.exports.specs.Flat.{flatOutcome};
 ghost use Rattle.exports.specs.FlatTokens.{rangeNumber, rangeIn, stateNumber, stateIn, flatPair, textToken, pairToken, flatToken, flatAnswer, bareToken};
 
 // What a pair says. `from` is the index, or the hat's number.
@@ -111,29 +106,6 @@ pub fn state_of(n: u8) -> State
         return State::NotUtf8;
     }
     State::Invalid
-}
-
-fn kind_number(k: ErrorKind) -> u8
-    ensures { λ r. ⌜ r ≡ kindNumber k ⌝ }
-{
-    match k {
-        ErrorKind::InvalidGuid => 1,
-        ErrorKind::UnexpectedEnd => 2,
-        ErrorKind::InvalidKeyValPair => 3,
-        ErrorKind::InvalidValue => 4,
-        ErrorKind::UnknownAxis => 5,
-        ErrorKind::UnknownButton => 6,
-        ErrorKind::EmptyValue => 8,
-        ErrorKind::InvalidParserState => 9,
-        ErrorKind::NotUtf8 => 10,
-    }
-}
-
-pub fn flat_error(e: Error) -> FlatRefusal
-    ensures { λ r. ⌜ r ≡ flatOutcome (Refusals.Refuses (errorRefusal e)) ⌝ }
-{
-    let kind = e.kind;
-    flat_refusal_at(kind_number(kind), e.position)
 }
 
 fn flat_pair(from: u16, direction: u16, to: AxisOrBtn, ranges: Ranges) -> FlatPair
@@ -230,7 +202,7 @@ pub fn flat_answer(a: Answer) -> FlatToken
         Answer::Found(t) => flat_token(t),
         Answer::Refused(e) => {
             let mut t = bare_token(REFUSED);
-            t.refusal = flat_error(e);
+            t.refusal = flat_refusal(e.refusal());
             t
         }
         Answer::End => bare_token(END),

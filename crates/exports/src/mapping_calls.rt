@@ -3,8 +3,7 @@ use crate::flat::FlatElement;
 use crate::flat::FlatRefusal;
 use crate::flat::element_of;
 use crate::flat::flat_element;
-use crate::flat::flat_no_refusal;
-use crate::flat::flat_refusal;
+use crate::flat::flat_outcome;
 use crate::flat_mapping::FlatEntry;
 use crate::flat_mapping::FlatMapping;
 use crate::flat_mapping::entry_of;
@@ -18,7 +17,6 @@ use line::mapping::Entered;
 use line::mapping::Entry;
 use line::mapping::Mapped;
 use line::mapping::Mapping;
-use line::mapping::PutResult;
 use line::mapping::Source;
 use line::tables::IDENT_MAX;
 use line::tables::KeyElement;
@@ -28,8 +26,7 @@ ghost use Rattle.line.specs.Maps.{entryOf, rangedEntry, emptyMap, held, putOf, 
 ghost use Rattle.line.specs.Numbers.{entryNumber};
 ghost use Rattle.line.specs.Numbers as Numbers;
 ghost use Rattle.line.specs.Tables.{keyElement, identOf};
-ghost use Rattle.line.specs.Refusals.{putOutcome};
-ghost use Rattle.exports.specs.Flat.{elementOf, flatOutcome};
+ghost use Rattle.exports.specs.Flat.{elementOf};
 ghost use Rattle.exports.specs.FlatMaps.{flatEntry, flatRanges, flatMapping, mappingIn, entryIn, flatPut, flatMapped, flatEntered, flatSource};
 ghost use Rattle.exports.specs.FlatMaps.{flatKeyElement, flatIdent};
 
@@ -111,17 +108,8 @@ pub extern "C" fn raspteal_mapping_put(map: FlatMapping, e: FlatEntry) -> FlatPu
     let answer = put.answer;
     let next = put.map;
     FlatPut {
-        refusal: flat_put_result(answer),
+        refusal: flat_outcome(answer.outcome()),
         map: flat_mapping(next),
-    }
-}
-
-fn flat_put_result(r: PutResult) -> FlatRefusal
-    ensures { λ x. ⌜ x ≡ flatOutcome (putOutcome r) ⌝ }
-{
-    match r {
-        PutResult::Stored => flat_no_refusal(),
-        PutResult::Full => flat_refusal(11),
     }
 }
 

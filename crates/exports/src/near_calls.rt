@@ -2,8 +2,7 @@
 use crate::flat::FlatRefusal;
 use crate::flat::FlatUuid;
 use crate::flat::FlatWritten;
-use crate::flat::flat_no_refusal;
-use crate::flat::flat_refusal;
+use crate::flat::flat_outcome;
 use crate::flat::flat_written;
 use crate::flat::uuid_of;
 use store::near::NearLook;
@@ -12,7 +11,7 @@ ghost use mathlib.Core.Path.{_≡_};
 ghost use Rattle.text.specs.Bytes.{writeAnswer, writeBuffer};
 ghost use Rattle.store.specs.Near.{nearUp, nearSays, nearLine};
 ghost use Rattle.exports.specs.Flat.{uuidIn, flatWritten};
-ghost use Rattle.exports.specs.FlatNear.{flatNearLook};
+ghost use Rattle.exports.specs.FlatNear.{nearHow, flatNearLook};
 
 // What is held, or 19: 0 nothing, 1 a line under the whole UUID, 2 one under that without its checksum alone.
 #[repr(C)]
@@ -21,26 +20,23 @@ pub struct FlatNearLook {
     pub how: u8,
 }
 
+fn near_how(l: NearLook) -> u8
+    ensures { λ r. ⌜ r ≡ nearHow l ⌝ }
+{
+    match l {
+        NearLook::Exact => 1,
+        NearLook::Near => 2,
+        NearLook::Missing => 0,
+        NearLook::Unsound => 0,
+    }
+}
+
 fn flat_near_look(l: NearLook) -> FlatNearLook
     ensures { λ r. ⌜ r ≡ flatNearLook l ⌝ }
 {
-    match l {
-        NearLook::Exact => FlatNearLook {
-            refusal: flat_no_refusal(),
-            how: 1,
-        },
-        NearLook::Near => FlatNearLook {
-            refusal: flat_no_refusal(),
-            how: 2,
-        },
-        NearLook::Missing => FlatNearLook {
-            refusal: flat_no_refusal(),
-            how: 0,
-        },
-        NearLook::Unsound => FlatNearLook {
-            refusal: flat_refusal(19),
-            how: 0,
-        },
+    FlatNearLook {
+        refusal: flat_outcome(l.outcome()),
+        how: near_how(l),
     }
 }
 

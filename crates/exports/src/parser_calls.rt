@@ -1,26 +1,22 @@
 // The calls of the line layer on lines: the walker, and the reading.
 use crate::flat::FlatRefusal;
 use crate::flat::flat_no_refusal;
+use crate::flat::flat_outcome;
 use crate::flat::flat_refusal;
-use crate::flat::flat_refusal_at;
 use crate::flat::form_number;
 use crate::flat_mapping::FlatMapping;
 use crate::flat_mapping::flat_made;
 use crate::flat_token::FlatToken;
 use crate::flat_token::flat_answer;
-use crate::flat_token::flat_error;
 use crate::flat_token::state_number;
 use crate::flat_token::state_of;
 use line::parser::FirstForm;
 use line::parser::tokens::LastRefusal;
-use line::reading::ParseSdlMappingError;
-use line::reading::SdlAnswer;
 ghost use mathlib.Core.Path.{_≡_};
 ghost use Rattle.line.specs.Walker.{startOf, stepOf, firstForm};
 ghost use Rattle.line.specs.Parser.{parserOf, stepFrom, tokensOf};
 ghost use Rattle.line.specs.Reading.{readingOf};
-ghost use Rattle.line.specs.Refusals.{lastOutcome, readingOutcome, readingRefusal};
-ghost use Rattle.line.specs.Refusals as Refusals;
+ghost use Rattle.line.specs.Refusals.{lastOutcome};
 ghost use Rattle.exports.specs.Flat.{flatOutcome, firstFormNumber};
 ghost use Rattle.exports.specs.FlatTokens.{stateNumber, stateIn, flatAnswer, flatStep, flatTokens};
 ghost use Rattle.exports.specs.FlatMaps.{flatReading};
@@ -115,7 +111,7 @@ pub extern "C" fn raspteal_parse_sdl_mapping(
     let answer = read.answer;
     let map = read.map;
     FlatReading {
-        refusal: flat_sdl_answer(answer),
+        refusal: flat_outcome(answer.outcome()),
         map: flat_made(map),
     }
 }
@@ -124,27 +120,7 @@ fn flat_last(l: LastRefusal) -> FlatRefusal
     ensures { λ r. ⌜ r ≡ flatOutcome (lastOutcome l) ⌝ }
 {
     match l {
-        LastRefusal::Is(e) => flat_error(e),
+        LastRefusal::Is(e) => flat_refusal(e.refusal()),
         LastRefusal::Nothing => flat_no_refusal(),
-    }
-}
-
-fn flat_sdl_answer(a: SdlAnswer) -> FlatRefusal
-    ensures { λ r. ⌜ r ≡ flatOutcome (readingOutcome a) ⌝ }
-{
-    match a {
-        SdlAnswer::Accepted => flat_no_refusal(),
-        SdlAnswer::Refused(e) => flat_sdl_error(e),
-    }
-}
-
-fn flat_sdl_error(e: ParseSdlMappingError) -> FlatRefusal
-    ensures { λ r. ⌜ r ≡ flatOutcome (Refusals.Refuses (readingRefusal e)) ⌝ }
-{
-    match e {
-        ParseSdlMappingError::ParseError(e) => flat_error(e),
-        ParseSdlMappingError::UnknownHatDirection => flat_refusal_at(7, 0),
-        ParseSdlMappingError::TooManyCodes { position } => flat_refusal_at(11, position),
-        ParseSdlMappingError::ListTooLong => flat_refusal(12),
     }
 }

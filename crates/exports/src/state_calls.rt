@@ -3,8 +3,7 @@ use crate::flat::FlatElement;
 use crate::flat::FlatRefusal;
 use crate::flat::element_of;
 use crate::flat::flat_element;
-use crate::flat::flat_no_refusal;
-use crate::flat::flat_refusal;
+use crate::flat::flat_outcome;
 use crate::flat_mapping::FlatMapping;
 use crate::flat_mapping::mapping_of;
 use crate::pad_calls::raw_of;
@@ -14,7 +13,6 @@ use pad::events::ELEMENTS;
 use pad::events::Event;
 use pad::state::HELD_MAX;
 use pad::state::Pad;
-use pad::state::PadAnswer;
 use pad::state::Told;
 ghost use mathlib.Core.Path.{_≡_};
 ghost use mathlib.Core.List.{map};
@@ -23,8 +21,7 @@ ghost use Rattle.line.specs.Maps.{held};
 ghost use Rattle.pad.specs.ValueClaims.{RawWithin};
 ghost use Rattle.pad.specs.States.{newPad, rawEventOf, changeMapOf, padValue};
 ghost use Rattle.pad.specs.PadGuarantee.{ShortAll};
-ghost use Rattle.pad.specs.Refusals.{padOutcome};
-ghost use Rattle.exports.specs.Flat.{elementOf, flatOutcome};
+ghost use Rattle.exports.specs.Flat.{elementOf};
 ghost use Rattle.exports.specs.FlatMaps.{mappingIn};
 ghost use Rattle.exports.specs.FlatPads.{rawOf, flatPad, padIn, flatEvent, flatTold};
 
@@ -110,15 +107,6 @@ pub fn flat_events(list: [Event; ELEMENTS]) -> [FlatEvent; ELEMENTS]
     out
 }
 
-pub fn flat_pad_answer(a: PadAnswer) -> FlatRefusal
-    ensures { λ r. ⌜ r ≡ flatOutcome (padOutcome a) ⌝ }
-{
-    match a {
-        PadAnswer::Done => flat_no_refusal(),
-        PadAnswer::TooManyCodes => flat_refusal(27),
-    }
-}
-
 fn flat_told(t: Told) -> FlatTold
     ensures { λ r. ⌜ r ≡ flatTold t ⌝ }
 {
@@ -127,7 +115,7 @@ fn flat_told(t: Told) -> FlatTold
     let told = t.events;
     let list = told.list;
     FlatTold {
-        refusal: flat_pad_answer(answer),
+        refusal: flat_outcome(answer.outcome()),
         pad: flat_pad(next),
         count: told.count,
         events: flat_events(list),

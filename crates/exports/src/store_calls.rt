@@ -1,22 +1,20 @@
 // The calls of the store.
-use crate::build_calls::flat_mapping_error;
 use crate::flat::FlatRefusal;
 use crate::flat::FlatUuid;
 use crate::flat::FlatWritten;
 use crate::flat::flat_no_refusal;
+use crate::flat::flat_outcome;
 use crate::flat::flat_refusal;
-use crate::flat::flat_refusal_at;
 use crate::flat::flat_written;
 use crate::flat::uuid_of;
 use crate::flat_data::FlatData;
 use crate::flat_data::data_of;
 use crate::flat_mapping::FlatMapping;
 use crate::flat_mapping::flat_mapping;
-use store::calls::Answer;
 use store::calls::Inserted;
 use store::calls::Look;
-use store::calls::SaveAnswer;
 use store::calls::Saved;
+use store::refusal::LookOutcome;
 use text::bytes::write_bytes;
 ghost use mathlib.Core.Path.{_≡_};
 ghost use Rattle.text.specs.Bytes.{writeAnswer, writeBuffer};
@@ -24,7 +22,7 @@ ghost use Rattle.store.specs.Store.{storeClear, storeInsert, lookUp, saysOf, li
 ghost use Rattle.store.specs.Saves.{saveArgs, storeSave};
 ghost use Rattle.exports.specs.Flat.{uuidIn, flatWritten};
 ghost use Rattle.exports.specs.FlatSlots.{dataIn};
-ghost use Rattle.exports.specs.FlatStore.{flatStoreAnswer, flatInserted, flatLook, flatSaveAnswer, flatSaved};
+ghost use Rattle.exports.specs.FlatStore.{flatStoreAnswer, flatInserted, flatLook, flatSaved};
 
 // An insert's refusal, the lines walked, and how many of them were filed in another form than 32 digits.
 #[repr(C)]
@@ -48,25 +46,12 @@ pub struct FlatLook {
     pub found: bool,
 }
 
-fn flat_store_answer(a: Answer) -> FlatRefusal
-    ensures { λ r. ⌜ r ≡ flatStoreAnswer a ⌝ }
-{
-    match a {
-        Answer::Done => flat_no_refusal(),
-        Answer::NotUtf8(place) => flat_refusal_at(10, place),
-        Answer::Unsound => flat_refusal(19),
-        Answer::LineTooLong => flat_refusal(20),
-        Answer::NoRoom => flat_refusal(21),
-        Answer::BufferTooLarge => flat_refusal(23),
-    }
-}
-
 fn flat_inserted(i: Inserted) -> FlatInserted
     ensures { λ r. ⌜ r ≡ flatInserted i ⌝ }
 {
     let answer = i.answer;
     FlatInserted {
-        refusal: flat_store_answer(answer),
+        refusal: flat_outcome(answer.outcome()),
         count: i.count,
         not_simple: i.not_simple,
     }
@@ -75,17 +60,18 @@ fn flat_inserted(i: Inserted) -> FlatInserted
 fn flat_look(l: Look) -> FlatLook
     ensures { λ r. ⌜ r ≡ flatLook l ⌝ }
 {
-    match l {
-        Look::Found => FlatLook {
+    let outcome = l.outcome();
+    match outcome {
+        LookOutcome::Finds => FlatLook {
             refusal: flat_no_refusal(),
             found: true,
         },
-        Look::Missing => FlatLook {
+        LookOutcome::FindsNone => FlatLook {
             refusal: flat_no_refusal(),
             found: false,
         },
-        Look::Unsound => FlatLook {
-            refusal: flat_refusal(19),
+        LookOutcome::CannotLook(refusal) => FlatLook {
+            refusal: flat_refusal(refusal),
             found: false,
         },
     }
@@ -97,7 +83,7 @@ pub extern "C" fn raspteal_store_clear(index: &mut [u8], text: &mut [u8]) -> Fla
     ensures { λ _. ⌜ now (index .exit) ≡ storeClear (now (index .entry)) (now (text .entry)) .index ⌝ }
     ensures { λ _. ⌜ now (text .exit) ≡ storeClear (now (index .entry)) (now (text .entry)) .text ⌝ }
 {
-    flat_store_answer(store::calls::clear(index, text))
+    flat_outcome(store::calls::clear(index, text).outcome())
 }
 
 #[no_mangle]
@@ -113,25 +99,13 @@ pub extern "C" fn raspteal_store_insert(
     flat_inserted(store::calls::insert(index, text, lines))
 }
 
-fn flat_save_answer(a: SaveAnswer) -> FlatRefusal
-    ensures { λ r. ⌜ r ≡ flatSaveAnswer a ⌝ }
-{
-    match a {
-        SaveAnswer::Done => flat_no_refusal(),
-        SaveAnswer::Refused(e) => flat_mapping_error(e),
-        SaveAnswer::UnsavedName => flat_refusal(22),
-        SaveAnswer::Unsound => flat_refusal(19),
-        SaveAnswer::NoRoom => flat_refusal(21),
-    }
-}
-
 fn flat_saved(s: Saved) -> FlatSaved
     ensures { λ r. ⌜ r ≡ flatSaved s ⌝ }
 {
     let answer = s.answer;
     let map = s.map;
     FlatSaved {
-        refusal: flat_save_answer(answer),
+        refusal: flat_outcome(answer.outcome()),
         map: flat_mapping(map),
     }
 }

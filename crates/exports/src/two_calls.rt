@@ -2,6 +2,7 @@
 use crate::flat::FlatElement;
 use crate::flat::FlatRefusal;
 use crate::flat::element_of;
+use crate::flat::flat_outcome;
 use crate::flat_mapping::FlatMapping;
 use crate::flat_mapping::mapping_of;
 use crate::pad_calls::raw_of;
@@ -9,7 +10,6 @@ use crate::state_calls::FlatEvent;
 use crate::state_calls::FlatPad;
 use crate::state_calls::flat_events;
 use crate::state_calls::flat_pad;
-use crate::state_calls::flat_pad_answer;
 use crate::state_calls::pad_of;
 use line::ev::Code;
 use pad::events::ELEMENTS;
@@ -83,7 +83,7 @@ fn flat_pads_told(t: PadsTold) -> FlatPadsTold
     let told = t.events;
     let list = told.list;
     FlatPadsTold {
-        refusal: flat_pad_answer(answer),
+        refusal: flat_outcome(answer.outcome()),
         pads: flat_pads(next),
         count: told.count,
         events: flat_events(list),

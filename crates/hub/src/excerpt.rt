@@ -16,11 +16,13 @@ use crate::shown::put_space;
 use crate::words::put_place;
 use crate::words::put_refused;
 use line::parser::Answer;
-use line::parser::ErrorKind;
+use line::parser::Error;
 use line::parser::Token;
 use line::parser::start_state;
 use line::parser::tokens::token_at;
 use line::reading::ParseSdlMappingError;
+use line::refusal::Place;
+use line::refusal::Refusal;
 use std::num::wrapping_add_usize;
 
 // How much is shown of a line, of UUID and name, and of a pair.
@@ -171,20 +173,6 @@ fn marked(fd: i32, number: usize, place: usize, line: &[u8]) -> u8 {
     REFUSED
 }
 
-fn kind_number(kind: ErrorKind) -> usize {
-    match kind {
-        ErrorKind::InvalidGuid => 1,
-        ErrorKind::UnexpectedEnd => 2,
-        ErrorKind::InvalidKeyValPair => 3,
-        ErrorKind::InvalidValue => 4,
-        ErrorKind::UnknownAxis => 5,
-        ErrorKind::UnknownButton => 6,
-        ErrorKind::EmptyValue => 8,
-        ErrorKind::InvalidParserState => 9,
-        ErrorKind::NotUtf8 => 10,
-    }
-}
-
 fn is_direction(n: u16) -> bool {
     match n {
         0 | 1 | 2 | 4 | 8 => true,
@@ -239,22 +227,27 @@ fn bad_hat_place(line: &[u8]) -> usize {
 
 // A refused reading.
 pub fn put_reading_refused(fd: i32, e: ParseSdlMappingError, line: &[u8]) -> u8 {
-    match e {
-        ParseSdlMappingError::UnknownHatDirection => marked(fd, 7, bad_hat_place(line), line),
-        ParseSdlMappingError::ParseError(error) => {
-            let kind = error.kind;
-            marked(fd, kind_number(kind), error.position, line)
-        }
-        ParseSdlMappingError::TooManyCodes { position } => marked(fd, 11, position, line),
-        ParseSdlMappingError::ListTooLong => {
-            put_refused(fd, 12);
+    if let ParseSdlMappingError::UnknownHatDirection = e {
+        return marked(fd, 7, bad_hat_place(line), line);
+    }
+    put_refusal(fd, e.refusal(), line)
+}
+
+// A refusal of the first field, which stands at place 0.
+pub fn put_first_refused(fd: i32, e: Error, line: &[u8]) -> u8 {
+    put_refusal(fd, e.refusal(), line)
+}
+
+// A refusal of a line; 12 is about a list and has no place.
+fn put_refusal(fd: i32, refusal: Refusal, line: &[u8]) -> u8 {
+    let number = refusal.number as usize;
+    let place = refusal.place;
+    match place {
+        Place::At(p) => marked(fd, number, p, line),
+        Place::NoPlace => {
+            put_refused(fd, number);
             put(fd, b"\n");
             REFUSED
         }
     }
-}
-
-// A refusal of the first field, which stands at place 0.
-pub fn put_first_refused(fd: i32, kind: ErrorKind, place: usize, line: &[u8]) -> u8 {
-    marked(fd, kind_number(kind), place, line)
 }

@@ -14,7 +14,7 @@ use crate::say::complain;
 use crate::say::say;
 use crate::shown::complain_shown;
 use crate::shown::say_shown;
-use crate::words::refused;
+use crate::words::refused_outcome;
 use store::calls::Answer;
 use store::calls::clear;
 use text::bytes::same_bytes;
@@ -61,7 +61,7 @@ pub fn clear_store(held: Held, store: &[u8]) -> u8 {
         }
         return status;
     }
-    refused(23)
+    refused_outcome(answer.outcome())
 }
 
 // The store becomes the one of STORE.old, and STORE.old the one that it was.

@@ -13,12 +13,13 @@ use crate::say::say_number;
 use crate::shown::complain_shown;
 use crate::shown::say_shown;
 use crate::words::none;
-use crate::words::refused;
-use store::calls::Look;
+use crate::words::refused_by;
+use crate::words::refused_outcome;
 use store::calls::found;
 use store::near::NearLook;
 use store::near::found_near;
 use store::near::get_near;
+use store::refusal::LookOutcome;
 use text::uuid::Uuid;
 use text::uuid::UuidParse;
 
@@ -63,7 +64,7 @@ pub fn say_line(index: &[u8], text: &[u8], id: Uuid) -> u8 {
             say_shown_line(get_near(index, text, id))
         }
         NearLook::Missing => none(),
-        NearLook::Unsound => refused(19),
+        NearLook::Unsound => refused_outcome(look.outcome()),
     }
 }
 
@@ -161,9 +162,9 @@ fn say_held(held: Extent) {
 }
 
 pub fn say_store(index: &[u8], text: &[u8], shown: bool) -> u8 {
-    let look = found(index, text, Uuid::NIL);
-    if let Look::Unsound = look {
-        return refused(19);
+    let looked = found(index, text, Uuid::NIL).outcome();
+    if let LookOutcome::CannotLook(refusal) = looked {
+        return refused_by(refusal);
     }
     if !shown {
         say(b"sound: ");

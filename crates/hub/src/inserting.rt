@@ -30,8 +30,10 @@ use crate::say::put_number;
 use crate::say::say;
 use crate::say::say_number;
 use crate::words::put_refused;
-use crate::words::refused;
-use crate::words::refused_at;
+use crate::words::refused_by;
+use line::refusal::Outcome;
+use line::refusal::Place;
+use line::refusal::Refusal;
 use std::num::wrapping_add_usize;
 use store::calls::Answer;
 use store::calls::Inserted;
@@ -151,34 +153,45 @@ fn say_filed(inserted: Inserted, list: &[u8], held: usize, index: &[u8], text: &
     say_other_forms(inserted.not_simple);
 }
 
-fn refused_text(list: &[u8], place: usize) -> u8 {
-    refused_at(10, place);
+// An insert of a text that is not UTF-8 from a place on.
+fn complain_text(list: &[u8], place: usize) {
     complain(b"  line ");
     put_number(ERR, count_lines(first(list, wrapping_add_usize(place, 1))));
     complain(b" of the list has it; nothing is filed\n");
+}
+
+// An insert that was refused; a line that stopped it leaves those before it filed.
+fn insert_refused(
+    inserted: Inserted,
+    refusal: Refusal,
+    list: &[u8],
+    held: usize,
+    index: &[u8],
+    text: &[u8],
+) -> u8 {
+    let answer = inserted.answer;
+    let place = refusal.place;
+    if has_filed(answer) {
+        say_filed(inserted, list, held, index, text);
+        return stopped(refusal.number as usize, list, inserted.count, index, text);
+    }
+    refused_by(refusal);
+    if let Place::At(p) = place {
+        complain_text(list, p);
+    }
     REFUSED
 }
 
 // What an insert came to, in a store that held `held` lines before.
 pub fn say_inserted(inserted: Inserted, list: &[u8], held: usize, index: &[u8], text: &[u8]) -> u8 {
     let answer = inserted.answer;
-    let count = inserted.count;
-    match answer {
-        Answer::Done => {
+    let outcome = answer.outcome();
+    match outcome {
+        Outcome::Passes => {
             say_filed(inserted, list, held, index, text);
             DONE
         }
-        Answer::NotUtf8(place) => refused_text(list, place),
-        Answer::Unsound => refused(19),
-        Answer::LineTooLong => {
-            say_filed(inserted, list, held, index, text);
-            stopped(20, list, count, index, text)
-        }
-        Answer::NoRoom => {
-            say_filed(inserted, list, held, index, text);
-            stopped(21, list, count, index, text)
-        }
-        Answer::BufferTooLarge => refused(23),
+        Outcome::Refuses(refusal) => insert_refused(inserted, refusal, list, held, index, text),
     }
 }
 

@@ -61,9 +61,8 @@ fn say_line_number(number: usize) {
 // A line whose first field is refused, or that is not UTF-8.
 fn with_first(tally: Tally, e: Error, line: &[u8]) -> Tally {
     if tally.refused < SHOWN {
-        let kind = e.kind;
         say_line_number(tally.lines);
-        put_first_refused(OUT, kind, e.position, line);
+        put_first_refused(OUT, e, line);
     }
     with_refused(tally)
 }

@@ -16,11 +16,11 @@ use crate::shown::say_shown;
 use crate::slots::Slots;
 use crate::slots::has_word;
 use crate::slots::slots_named;
-use crate::table::mapping_refused;
 use crate::table::say_map;
 use crate::table::say_reading;
 use crate::words::none;
-use crate::words::refused;
+use crate::words::refused_by;
+use crate::words::refused_outcome;
 use map::default::default;
 use map::error::MappingAnswer;
 use store::near::NearLook;
@@ -99,7 +99,7 @@ fn show_held(index: &[u8], text: &[u8], id: Uuid, asked: Request) -> u8 {
             show_line(get_near(index, text, id), asked)
         }
         NearLook::Missing => none(),
-        NearLook::Unsound => refused(19),
+        NearLook::Unsound => refused_outcome(look.outcome()),
     }
 }
 
@@ -144,6 +144,6 @@ pub fn default_mapping(from: usize) -> u8 {
     let map = made.map;
     match answer {
         MappingAnswer::Accepted => say_map(map, b""),
-        MappingAnswer::Refused(e) => mapping_refused(e),
+        MappingAnswer::Refused(e) => refused_by(e.refusal()),
     }
 }

@@ -29,10 +29,10 @@ use crate::say::put_code;
 use crate::say::say;
 use crate::shown::say_shown;
 use crate::slots::Slots;
-use crate::table::mapping_refused;
 use crate::table::say_map;
 use crate::words::put_refused;
-use crate::words::refused;
+use crate::words::refused_by;
+use crate::words::refused_outcome;
 use line::ev::Code;
 use line::mapping::Mapping;
 use map::error::MappingError;
@@ -90,7 +90,7 @@ fn refused_build(e: MappingError, slots: MappingData, buttons: &[u32]) -> u8 {
     if let MappingError::InvalidCode(code) = e {
         return refused_slot(slots, buttons, code);
     }
-    mapping_refused(e)
+    refused_by(e.refusal())
 }
 
 // The length of the line that a save has no room for.
@@ -142,8 +142,8 @@ fn save_slots(
             )
         }
         SaveAnswer::Refused(e) => refused_build(e, slots, buttons),
-        SaveAnswer::UnsavedName => refused(22),
-        SaveAnswer::Unsound => refused(19),
+        SaveAnswer::UnsavedName => refused_outcome(answer.outcome()),
+        SaveAnswer::Unsound => refused_outcome(answer.outcome()),
         SaveAnswer::NoRoom => {
             let wanted = built_len(slots, buttons, axes, name, id);
             no_room(wanted, &index, &text, id)

@@ -9,9 +9,6 @@ use crate::say::put_code;
 use crate::say::say;
 use crate::say::say_number;
 use crate::shown::say_shown;
-use crate::words::refused;
-use crate::words::refused_at;
-use crate::words::refused_code;
 use line::ev::AxisOrBtn;
 use line::mapping::CODES_MAX;
 use line::mapping::Mapping;
@@ -19,7 +16,6 @@ use line::parser::AxisRange;
 use line::parser::Ranges;
 use line::reading::SdlAnswer;
 use line::reading::parse_sdl_mapping;
-use map::error::MappingError;
 
 // Nothing where it is full.
 fn say_half(half: AxisRange, side: &[u8]) {
@@ -89,19 +85,5 @@ pub fn say_reading(line: &[u8], buttons: &[u32], axes: &[u32]) -> u8 {
     match answer {
         SdlAnswer::Accepted => say_map(map, line),
         SdlAnswer::Refused(e) => put_reading_refused(ERR, e, line),
-    }
-}
-
-// A refused build or default map.
-pub fn mapping_refused(e: MappingError) -> u8 {
-    match e {
-        MappingError::InvalidCode(c) => refused_code(15, c.0),
-        MappingError::InvalidName => refused(13),
-        MappingError::UnknownElement => refused(14),
-        MappingError::NotSdl2Compatible => refused(16),
-        MappingError::NotUtf8(place) => refused_at(10, place),
-        MappingError::NameTooLong => refused(17),
-        MappingError::ListTooLong => refused(12),
-        MappingError::OutputTooShort => refused(18),
     }
 }

@@ -1,6 +1,7 @@
 // Refusals: document 01's number, what it means, and what it is about. bindings/declared holds these words to those of
 // the header and of the Rust crate.
 use crate::fields::nth_part;
+use crate::say::DONE;
 use crate::say::ERR;
 use crate::say::REFUSED;
 use crate::say::complain;
@@ -8,6 +9,10 @@ use crate::say::put;
 use crate::say::put_code;
 use crate::say::put_number;
 use crate::shown::complain_shown;
+use line::refusal::Carried;
+use line::refusal::Outcome;
+use line::refusal::Place;
+use line::refusal::Refusal;
 
 // `refused 21: no room in the store`
 pub fn put_refused(fd: i32, number: usize) {
@@ -62,18 +67,40 @@ pub fn refused(number: usize) -> u8 {
     REFUSED
 }
 
-pub fn refused_at(number: usize, place: usize) -> u8 {
+fn refused_at(number: usize, place: usize) -> u8 {
     put_refused(ERR, number);
     put_place(ERR, place);
     REFUSED
 }
 
-pub fn refused_code(number: usize, code: u32) -> u8 {
+fn refused_code(number: usize, code: u32) -> u8 {
     put_refused(ERR, number);
     complain(b" (code ");
     put_code(ERR, code);
     complain(b")\n");
     REFUSED
+}
+
+// A refusal with its place, or with the code that it carries.
+pub fn refused_by(refusal: Refusal) -> u8 {
+    let number = refusal.number as usize;
+    let place = refusal.place;
+    let code = refusal.code;
+    if let Place::At(p) = place {
+        return refused_at(number, p);
+    }
+    if let Carried::Carries(c) = code {
+        return refused_code(number, c.0);
+    }
+    refused(number)
+}
+
+// What an answer refuses, if it does.
+pub fn refused_outcome(outcome: Outcome) -> u8 {
+    match outcome {
+        Outcome::Passes => DONE,
+        Outcome::Refuses(refusal) => refused_by(refusal),
+    }
 }
 
 pub fn refused_file(path: &[u8]) -> u8 {

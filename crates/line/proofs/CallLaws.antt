@@ -24,7 +24,9 @@ use Rattle.line.specs.declared.parser.Token.the-variants as Tk
 use Rattle.line.specs.Fields.{field, findFrom}
 use Rattle.line.specs.Pairs.{refuse}
 use Rattle.line.specs.Parser.{parserOf, stepFrom, moved}
-use Rattle.line.specs.Refusals.{Outcome, Passes, Refuses, refusalAt, answerOutcome}
+use Rattle.line.specs.Refusals.{refusalAt, answerOutcome}
+use Rattle.line.specs.declared.refusal.Outcome.{Outcome}
+use Rattle.line.specs.declared.refusal.Outcome.the-variants.{Passes, Refuses}
 use Rattle.line.specs.Walker.{guidOf, startOf, stepped, uuidStep, fieldStep, stepOf}
 use Rattle.line.specs.Calls.{afterCalls, sayingOf, StoppedWalker}
 

@@ -35,7 +35,8 @@ use Rattle.line.specs.Pairs.{refuse, halfOf, skipOf, mappedOf, keyedOf, 
 use Rattle.line.specs.Walker.{guidOf, uuidStep, fieldStep, stepOf}
 use Rattle.line.specs.Reading.{refusedOf, parseError, listsFit, readLine, readingOf}
 use Rattle.line.specs.declared.reading.ParseSdlMappingError.the-variants as Pe
-use Rattle.line.specs.Refusals.{Refuses, refusal, refusalAt, readingOutcome}
+use Rattle.line.specs.Refusals.{refusal, refusalAt, readingOutcome}
+use Rattle.line.specs.declared.refusal.Outcome.the-variants.{Refuses}
 use Rattle.line.proofs.PickLaws.{picked}
 
 -- ---- the place of a refusal by the step at p of the line s, q

@@ -23,7 +23,8 @@ use Rattle.line.specs.Pairs.{halfOf, keyedOf, pairOf}
 use Rattle.line.specs.Walker.{guidOf}
 use Rattle.line.specs.Puts.{listed, hatCodes, dpadAxis, hatPuts, putsOf}
 use Rattle.line.specs.Reading.{acceptedOf, putOne, taken, pairsFrom, namedFrom, lineFrom, readLine, readingOf}
-use Rattle.line.specs.Refusals.{Refuses, refusalAt, readingOutcome}
+use Rattle.line.specs.Refusals.{refusalAt, readingOutcome}
+use Rattle.line.specs.declared.refusal.Outcome.the-variants.{Refuses}
 
 -- ---- what a sample says: entries, name, flags; or a number at a place, with the empty map
 pub data Outcome : Type 0 where

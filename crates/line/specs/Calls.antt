@@ -15,7 +15,9 @@ use Rattle.line.specs.declared.parser.Parser.{Parser}
 use Rattle.line.specs.declared.parser.Token.the-variants as Tk
 use Rattle.line.specs.Fields.{firstField}
 use Rattle.line.specs.Parser.{parserOf, stepFrom, moved}
-use Rattle.line.specs.Refusals.{Outcome, Refuses, refusalAt, answerOutcome}
+use Rattle.line.specs.Refusals.{refusalAt, answerOutcome}
+use Rattle.line.specs.declared.refusal.Outcome.{Outcome}
+use Rattle.line.specs.declared.refusal.Outcome.the-variants.{Refuses}
 use Rattle.line.specs.Walker.{guidOf, formIn, firstForm}
 
 -- a walker after so many calls

@@ -15,32 +15,25 @@ use Rattle.line.specs.declared.reading.ParseSdlMappingError.{ParseSdlMap
 use Rattle.line.specs.declared.reading.ParseSdlMappingError.the-variants as Pe
 use Rattle.line.specs.declared.reading.SdlAnswer.{SdlAnswer}
 use Rattle.line.specs.declared.reading.SdlAnswer.the-variants as Sd
+use Rattle.line.specs.declared.refusal.Place.{Place}
+use Rattle.line.specs.declared.refusal.Place.the-variants.{At, NoPlace}
+use Rattle.line.specs.declared.refusal.Carried.{Carried}
+use Rattle.line.specs.declared.refusal.Carried.the-variants.{Carries, NoCode}
+use Rattle.line.specs.declared.refusal.Refusal.{Refusal}
+use Rattle.line.specs.declared.refusal.Outcome.{Outcome}
+use Rattle.line.specs.declared.refusal.Outcome.the-variants.{Passes, Refuses}
 
--- ---- a refusal: its number, its place, and the code that it carries
-pub data Place : Type 0 where
-  At : ℕ → Place
-  NoPlace : Place
+-- ---- a refusal: its number, its place, and the code that it carries; an answer is a refusal, or it is none
 
-pub data Carried : Type 0 where
-  Carries : Code → Carried
-  NoCode : Carried
-
-pub record Refusal : Type 0 where
-  pub number : ℕ
-  pub place : Place
-  pub code : Carried
-
--- an answer is a refusal, or it is none
-pub data Outcome : Type 0 where
-  Passes : Outcome
-  Refuses : Refusal → Outcome
-
--- a refusal with a place, and one without
+-- a refusal with a place, one without, and one that carries a code
 abbrev pub refusalAt : ℕ → ℕ → Refusal
 refusalAt n p = record { number = n; place = At p; code = NoCode }
 
 abbrev pub refusal : ℕ → Refusal
 refusal n = record { number = n; place = NoPlace; code = NoCode }
+
+abbrev pub refusalOf : ℕ → Code → Refusal
+refusalOf n c = record { number = n; place = NoPlace; code = Carries c }
 
 -- ---- the walker's: "1 and 2 at 0; 3, 5, 6, 8 .. at p; 4 as the walker's paragraph says; .. 9 at 0; 10 at the length
 -- of the longest valid run"

@@ -3,4 +3,5 @@ pub mod ev;
 pub mod mapping;
 pub mod parser;
 pub mod reading;
+pub mod refusal;
 pub mod tables;

@@ -1,6 +1,9 @@
 -- Document 01's number and values of each refusal of this layer.
 -- Public contracts rest on these definitions; they assume nothing.
-use Rattle.line.specs.Refusals.{Refusal, NoPlace, Carries, Outcome, Passes, Refuses, refusal, refusalAt}
+use Rattle.line.specs.Refusals.{refusal, refusalAt, refusalOf}
+use Rattle.line.specs.declared.refusal.Refusal.{Refusal}
+use Rattle.line.specs.declared.refusal.Outcome.{Outcome}
+use Rattle.line.specs.declared.refusal.Outcome.the-variants.{Passes, Refuses}
 use Rattle.map.specs.declared.error.MappingError.{MappingError}
 use Rattle.map.specs.declared.error.MappingError.the-variants as Me
 use Rattle.map.specs.declared.error.MappingAnswer.{MappingAnswer}
@@ -13,7 +16,7 @@ mappingRefusal (Me.NotUtf8 p) = refusalAt 10 p
 mappingRefusal Me.ListTooLong = refusal 12
 mappingRefusal Me.InvalidName = refusal 13
 mappingRefusal Me.UnknownElement = refusal 14
-mappingRefusal (Me.InvalidCode c) = record { number = 15; place = NoPlace; code = Carries c }
+mappingRefusal (Me.InvalidCode c) = refusalOf 15 c
 mappingRefusal Me.NotSdl2Compatible = refusal 16
 mappingRefusal Me.NameTooLong = refusal 17
 mappingRefusal Me.OutputTooShort = refusal 18

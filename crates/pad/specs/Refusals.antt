@@ -1,6 +1,8 @@
 -- Document 02's number of each answer of this layer.
 -- Public contracts rest on these definitions; they assume nothing.
-use Rattle.line.specs.Refusals.{Outcome, Passes, Refuses, refusal}
+use Rattle.line.specs.Refusals.{refusal}
+use Rattle.line.specs.declared.refusal.Outcome.{Outcome}
+use Rattle.line.specs.declared.refusal.Outcome.the-variants.{Passes, Refuses}
 use Rattle.pad.specs.declared.state.PadAnswer.{PadAnswer}
 use Rattle.pad.specs.declared.state.PadAnswer.the-variants as Pa
 

@@ -15,12 +15,15 @@ use line::ev::AxisOrBtn;
 use line::ev::Code;
 use line::mapping::CODES_MAX;
 use line::mapping::Mapping;
+use line::refusal::Outcome;
+use line::refusal::Refusal;
 ghost use mathlib.Core.Path.{_≡_};
 ghost use Prim.Native.Nat.{_≤_};
 ghost use Rattle.pad.specs.ValueClaims.{RawWithin};
 ghost use Rattle.pad.specs.Pads.{HELD_MAX};
 ghost use Rattle.pad.specs.States.{newPad, rawEventOf, changeMapOf, refusedOf, padValue, entryNumbers};
 ghost use Rattle.pad.specs.PadGuarantee.{ShortAll};
+ghost use Rattle.pad.specs.Refusals.{padOutcome};
 ghost use Rattle.line.specs.Maps as specs;
 ghost use Rattle.pad.specs.Inner.{cappedOf, grownOf};
 
@@ -39,6 +42,18 @@ pub enum PadAnswer {
     Done,
     // A raw event for a 257th code.
     TooManyCodes,
+}
+
+impl PadAnswer {
+    // The answer of a raw event or a change of map.
+    pub fn outcome(self) -> Outcome
+        ensures { λ r. ⌜ r ≡ padOutcome self ⌝ }
+    {
+        match self {
+            PadAnswer::Done => Outcome::Passes,
+            PadAnswer::TooManyCodes => Outcome::Refuses(Refusal::plain(27)),
+        }
+    }
 }
 
 // What a call answers: the state after it, and the events.

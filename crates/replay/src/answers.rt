@@ -5,6 +5,9 @@ use line::mapping::CODES_MAX;
 use line::mapping::Mapping;
 use line::parser::AxisRange;
 use line::parser::Ranges;
+use line::refusal::Carried;
+use line::refusal::Place;
+use line::refusal::Refusal;
 use text::bytes::Written;
 use text::bytes::write_bytes;
 use text::decimal::write_index;
@@ -49,15 +52,18 @@ pub fn put_element(out: &mut [u8], at: usize, e: AxisOrBtn) -> usize {
     }
 }
 
-// `!4@38`
-pub fn put_refusal_at(out: &mut [u8], at: usize, number: usize, place: usize) -> usize {
-    let next = put_refusal(out, at, number);
-    put_part(out, next, b"@", place)
-}
-
-// `!13`
-pub fn put_refusal(out: &mut [u8], at: usize, number: usize) -> usize {
-    put_part(out, at, b"!", number)
+// `!13`, `!4@38` with a place, `!15:305` with a code.
+pub fn put_refusal(out: &mut [u8], at: usize, refusal: Refusal) -> usize {
+    let place = refusal.place;
+    let code = refusal.code;
+    let next = put_part(out, at, b"!", refusal.number as usize);
+    if let Place::At(p) = place {
+        return put_part(out, next, b"@", p);
+    }
+    if let Carried::Carries(c) = code {
+        return put_part(out, next, b":", c.0 as usize);
+    }
+    next
 }
 
 // A sign and a number.

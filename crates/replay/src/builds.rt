@@ -4,7 +4,6 @@ use crate::answers::put;
 use crate::answers::put_map;
 use crate::answers::put_part;
 use crate::answers::put_refusal;
-use crate::answers::put_refusal_at;
 use crate::fields::after;
 use crate::fields::after_field;
 use crate::fields::before;
@@ -17,7 +16,6 @@ use line::ev::Axis;
 use line::ev::Button;
 use line::ev::Code;
 use map::error::MappingAnswer;
-use map::error::MappingError;
 use map::from_data::from_data;
 use map::mapping_data::MappingData;
 use text::uuid::Uuid;
@@ -87,22 +85,6 @@ pub fn uuid_of(s: &[u8]) -> Uuid {
     }
 }
 
-pub fn put_mapping_error(out: &mut [u8], e: MappingError) -> usize {
-    match e {
-        MappingError::InvalidCode(c) => {
-            let next = put_refusal(out, 0, 15);
-            put_part(out, next, b":", c.0 as usize)
-        }
-        MappingError::InvalidName => put_refusal(out, 0, 13),
-        MappingError::UnknownElement => put_refusal(out, 0, 14),
-        MappingError::NotSdl2Compatible => put_refusal(out, 0, 16),
-        MappingError::NotUtf8(place) => put_refusal_at(out, 0, 10, place),
-        MappingError::NameTooLong => put_refusal(out, 0, 17),
-        MappingError::ListTooLong => put_refusal(out, 0, 12),
-        MappingError::OutputTooShort => put_refusal(out, 0, 18),
-    }
-}
-
 // What stands in a buffer before `n`.
 pub fn first(s: &[u8], n: usize) -> &[u8] {
     if n <= s.len() {
@@ -135,7 +117,7 @@ pub fn build_case(args: &[u8]) -> bool {
             same(&out, n, word(args))
         }
         MappingAnswer::Refused(e) => {
-            let n = put_mapping_error(&mut out, e);
+            let n = put_refusal(&mut out, 0, e.refusal());
             same(&out, n, word(args))
         }
     }

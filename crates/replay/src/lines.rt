@@ -9,20 +9,16 @@ use crate::answers::put_map;
 use crate::answers::put_part;
 use crate::answers::put_ranges;
 use crate::answers::put_refusal;
-use crate::answers::put_refusal_at;
 use crate::fields::number;
 use crate::fields::rest;
 use crate::fields::word;
 use crate::same;
 use line::ev::AxisOrBtn;
 use line::parser::Answer;
-use line::parser::Error;
-use line::parser::ErrorKind;
 use line::parser::Ranges;
 use line::parser::Token;
 use line::parser::start_state;
 use line::parser::step;
-use line::reading::ParseSdlMappingError;
 use line::reading::SdlAnswer;
 use line::reading::parse_sdl_mapping;
 use map::default::DefaultMap;
@@ -130,29 +126,10 @@ fn put_token(out: &mut [u8], at: usize, t: Token) -> usize {
     }
 }
 
-fn kind_number(kind: ErrorKind) -> usize {
-    match kind {
-        ErrorKind::InvalidGuid => 1,
-        ErrorKind::UnexpectedEnd => 2,
-        ErrorKind::InvalidKeyValPair => 3,
-        ErrorKind::InvalidValue => 4,
-        ErrorKind::UnknownAxis => 5,
-        ErrorKind::UnknownButton => 6,
-        ErrorKind::EmptyValue => 8,
-        ErrorKind::InvalidParserState => 9,
-        ErrorKind::NotUtf8 => 10,
-    }
-}
-
-fn put_error(out: &mut [u8], at: usize, e: Error) -> usize {
-    let kind = e.kind;
-    put_refusal_at(out, at, kind_number(kind), e.position)
-}
-
 fn put_answer(out: &mut [u8], at: usize, a: Answer) -> usize {
     match a {
         Answer::Found(t) => put_token(out, at, t),
-        Answer::Refused(e) => put_error(out, at, e),
+        Answer::Refused(e) => put_refusal(out, at, e.refusal()),
         Answer::End => put(out, at, b"E"),
     }
 }
@@ -195,15 +172,6 @@ pub fn walk_case(args: &[u8]) -> bool {
     same(&out, n, word(args))
 }
 
-fn put_sdl_error(out: &mut [u8], e: ParseSdlMappingError) -> usize {
-    match e {
-        ParseSdlMappingError::UnknownHatDirection => put_refusal_at(out, 0, 7, 0),
-        ParseSdlMappingError::ParseError(error) => put_error(out, 0, error),
-        ParseSdlMappingError::TooManyCodes { position } => put_refusal_at(out, 0, 11, position),
-        ParseSdlMappingError::ListTooLong => put_refusal(out, 0, 12),
-    }
-}
-
 // `read ANSWER LINE`
 pub fn read_case(args: &[u8]) -> bool {
     let mut out = [0u8; ROOM];
@@ -216,7 +184,7 @@ pub fn read_case(args: &[u8]) -> bool {
             same(&out, n, word(args))
         }
         SdlAnswer::Refused(e) => {
-            let n = put_sdl_error(&mut out, e);
+            let n = put_refusal(&mut out, 0, e.refusal());
             same(&out, n, word(args))
         }
     }

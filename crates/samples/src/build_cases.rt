@@ -10,7 +10,6 @@ use crate::line_cases::map_text;
 use crate::line_cases::said;
 use crate::line_cases::spelled;
 use crate::line_cases::unhexed;
-use crate::slot_cases::refusal;
 use crate::slot_cases::slots_of;
 use crate::written::Text;
 use crate::written::written;
@@ -112,7 +111,7 @@ fn built_text(built: Built, out: &[u8], buttons: &[u32], axes: &[u32]) -> Text {
                 axes,
             )
         }
-        MappingAnswer::Refused(e) => map_text(refusal(Text::new(), e).byte(b';'), map),
+        MappingAnswer::Refused(e) => map_text(Text::new().refusal(e.refusal()).byte(b';'), map),
     };
     if all_dots(out, built.len) {
         return said;

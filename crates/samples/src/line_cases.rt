@@ -14,8 +14,6 @@ use line::ev::AxisOrBtn;
 use line::mapping::Mapping;
 use line::parser::Answer;
 use line::parser::AxisRange;
-use line::parser::Error;
-use line::parser::ErrorKind;
 use line::parser::Ranges;
 use line::parser::Token;
 use line::parser::first_token;
@@ -24,7 +22,6 @@ use line::parser::tokens::LastRefusal;
 use line::parser::tokens::Tokens;
 use line::parser::tokens::count_tokens;
 use line::parser::tokens::token_at;
-use line::reading::ParseSdlMappingError;
 use line::reading::SdlAnswer;
 use line::reading::SdlMapping;
 use line::reading::parse_sdl_mapping;
@@ -124,33 +121,10 @@ fn token(out: Text, t: Token) -> Text {
     }
 }
 
-fn kind_number(kind: ErrorKind) -> usize {
-    match kind {
-        ErrorKind::InvalidGuid => 1,
-        ErrorKind::UnexpectedEnd => 2,
-        ErrorKind::InvalidKeyValPair => 3,
-        ErrorKind::InvalidValue => 4,
-        ErrorKind::UnknownAxis => 5,
-        ErrorKind::UnknownButton => 6,
-        ErrorKind::EmptyValue => 8,
-        ErrorKind::InvalidParserState => 9,
-        ErrorKind::NotUtf8 => 10,
-    }
-}
-
-fn placed(out: Text, number: usize, place: usize) -> Text {
-    out.byte(b'!').number(number).byte(b'@').number(place)
-}
-
-fn refused(out: Text, e: Error) -> Text {
-    let kind = e.kind;
-    placed(out, kind_number(kind), e.position)
-}
-
 fn answered(out: Text, answer: Answer) -> Text {
     match answer {
         Answer::Found(t) => token(out, t),
-        Answer::Refused(e) => refused(out, e),
+        Answer::Refused(e) => out.refusal(e.refusal()),
         Answer::End => out.byte(b'E'),
     }
 }
@@ -201,7 +175,7 @@ fn tallied(tokens: Tokens) -> Text {
     let last = tokens.last;
     let out = Text::new().number(tokens.count);
     match last {
-        LastRefusal::Is(e) => refused(out, e),
+        LastRefusal::Is(e) => out.refusal(e.refusal()),
         LastRefusal::Nothing => out,
     }
 }
@@ -231,22 +205,13 @@ fn entries(out: Text, map: Mapping) -> Text {
     said
 }
 
-pub fn error(out: Text, e: ParseSdlMappingError) -> Text {
-    match e {
-        ParseSdlMappingError::UnknownHatDirection => placed(out, 7, 0),
-        ParseSdlMappingError::ParseError(error) => refused(out, error),
-        ParseSdlMappingError::TooManyCodes { position } => placed(out, 11, position),
-        ParseSdlMappingError::ListTooLong => out.byte(b'!').number(12),
-    }
-}
-
 // A refused reading has the empty map too.
 pub fn said(reading: SdlMapping) -> Text {
     let answer = reading.answer;
     let map = reading.map;
     let out = match answer {
         SdlAnswer::Accepted => Text::new(),
-        SdlAnswer::Refused(e) => error(Text::new(), e).byte(b';'),
+        SdlAnswer::Refused(e) => Text::new().refusal(e.refusal()).byte(b';'),
     };
     map_text(out, map)
 }

@@ -4,7 +4,6 @@ use crate::cases::rest;
 use crate::cases::word;
 use crate::codes::first;
 use crate::codes::numbered;
-use crate::line_cases::error;
 use crate::line_cases::spelled;
 use crate::written::Text;
 use crate::written::written;
@@ -38,7 +37,10 @@ fn counted(reading: SdlMapping) -> Text {
     let map = reading.map;
     match answer {
         SdlAnswer::Accepted => Text::new().number(map.count),
-        SdlAnswer::Refused(e) => error(Text::new(), e).byte(b';').number(map.count),
+        SdlAnswer::Refused(e) => Text::new()
+            .refusal(e.refusal())
+            .byte(b';')
+            .number(map.count),
     }
 }
 

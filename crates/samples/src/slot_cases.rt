@@ -16,7 +16,6 @@ use line::ev::Code;
 use map::default::DefaultMap;
 use map::default::default;
 use map::error::MappingAnswer;
-use map::error::MappingError;
 use map::mapping_data::Changed;
 use map::mapping_data::MappingData;
 use map::mapping_data::SlotCode;
@@ -97,26 +96,12 @@ pub fn slots_of(s: &[u8]) -> MappingData {
     slots
 }
 
-// A refusal by its number, with its place or its code.
-pub fn refusal(out: Text, e: MappingError) -> Text {
-    match e {
-        MappingError::NotUtf8(place) => out.text(b"!10@").number(place),
-        MappingError::ListTooLong => out.text(b"!12"),
-        MappingError::InvalidName => out.text(b"!13"),
-        MappingError::UnknownElement => out.text(b"!14"),
-        MappingError::InvalidCode(c) => out.text(b"!15=").hex(c.0 as u64),
-        MappingError::NotSdl2Compatible => out.text(b"!16"),
-        MappingError::NameTooLong => out.text(b"!17"),
-        MappingError::OutputTooShort => out.text(b"!18"),
-    }
-}
-
 fn default_text(answered: DefaultMap) -> Text {
     let answer = answered.answer;
     let map = answered.map;
     let out = match answer {
         MappingAnswer::Accepted => Text::new(),
-        MappingAnswer::Refused(e) => refusal(Text::new(), e).byte(b';'),
+        MappingAnswer::Refused(e) => Text::new().refusal(e.refusal()).byte(b';'),
     };
     if map.is_default {
         return map_text(out.byte(b'd'), map);

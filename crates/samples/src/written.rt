@@ -1,5 +1,8 @@
 // A text of at most 8704 bytes that is written piece by piece: what the library answered, or a line of a case.
 use line::ev::AxisOrBtn;
+use line::refusal::Carried;
+use line::refusal::Place;
+use line::refusal::Refusal;
 use text::bytes::same_bytes;
 
 const ROOM: usize = 8704;
@@ -51,6 +54,20 @@ impl Text {
         let mut digits = [0u8; 20];
         let len = io::decimal(n as u64, &mut digits);
         self.text(&digits[..len])
+    }
+
+    // A refusal: `!13`, `!4@38` with a place, `!15=131` with a code.
+    pub fn refusal(self, refusal: Refusal) -> Text {
+        let place = refusal.place;
+        let code = refusal.code;
+        let said = self.byte(b'!').number(refusal.number as usize);
+        if let Place::At(p) = place {
+            return said.byte(b'@').number(p);
+        }
+        if let Carried::Carries(c) = code {
+            return said.byte(b'=').hex(c.0 as u64);
+        }
+        said
     }
 
     pub fn hex(self, n: u64) -> Text {

@@ -8,42 +8,60 @@ use crate::fields::uuid;
 use crate::fields::word;
 use crate::spelled::first;
 use crate::spelled::spelled;
+use line::refusal::Carried;
+use line::refusal::Outcome;
+use line::refusal::Place;
+use line::refusal::Refusal;
 use store::calls::Answer;
 use store::calls::Look;
 use store::calls::clear;
 use store::calls::found;
 use store::calls::get;
 use store::calls::insert;
+use store::refusal::LookOutcome;
 use text::bytes::same_bytes;
 
-fn answer_number(answer: Answer) -> usize {
-    match answer {
-        Answer::Done => 0,
-        Answer::NotUtf8(_) => 10,
-        Answer::Unsound => 19,
-        Answer::LineTooLong => 20,
-        Answer::NoRoom => 21,
-        Answer::BufferTooLarge => 23,
+fn carried_code(code: Carried) -> usize {
+    match code {
+        Carried::Carries(c) => c.0 as usize,
+        Carried::NoCode => 65535,
     }
 }
 
-fn answer_place(answer: Answer) -> usize {
-    match answer {
-        Answer::NotUtf8(place) => place,
-        Answer::Done => 65535,
-        Answer::Unsound => 65535,
-        Answer::LineTooLong => 65535,
-        Answer::NoRoom => 65535,
-        Answer::BufferTooLarge => 65535,
+// A place, or the code that a refusal carries; 65535 where there is neither.
+fn carried(refusal: Refusal) -> usize {
+    let place = refusal.place;
+    let code = refusal.code;
+    match place {
+        Place::At(p) => p,
+        Place::NoPlace => carried_code(code),
     }
 }
 
-// Whether it is the expected one: `19`, or `10@3` with the place.
+// Whether it is the expected one: `0`, `19`, `10@3` with the place, or `15@5` with the code.
+pub fn is(outcome: Outcome, expected: &[u8]) -> bool {
+    match outcome {
+        Outcome::Passes => number(expected) == 0,
+        Outcome::Refuses(refusal) => {
+            if refusal.number as usize != number(before(expected, b'@')) {
+                return false;
+            }
+            carried(refusal) == number(after(expected, b'@'))
+        }
+    }
+}
+
+// The number of a refusal, 0 where there is none.
+pub fn refused_number(outcome: Outcome) -> usize {
+    match outcome {
+        Outcome::Passes => 0,
+        Outcome::Refuses(refusal) => refusal.number as usize,
+    }
+}
+
+// Whether a clear or an insert answers so.
 pub fn insert_answer(answer: Answer, expected: &[u8]) -> bool {
-    if answer_number(answer) != number(before(expected, b'@')) {
-        return false;
-    }
-    answer_place(answer) == number(after(expected, b'@'))
+    is(answer.outcome(), expected)
 }
 
 // `clear ANSWER`
@@ -65,10 +83,11 @@ pub fn insert_case(index: &mut [u8], text: &mut [u8], args: &[u8]) -> bool {
 }
 
 fn look_number(look: Look) -> usize {
-    match look {
-        Look::Found => 1,
-        Look::Missing => 0,
-        Look::Unsound => 19,
+    let outcome = look.outcome();
+    match outcome {
+        LookOutcome::Finds => 1,
+        LookOutcome::FindsNone => 0,
+        LookOutcome::CannotLook(refusal) => refusal.number as usize,
     }
 }
 

@@ -1,4 +1,5 @@
 // Cases of the look-up that also tries a UUID without its checksum.
+use crate::cases::refused_number;
 use crate::fields::number;
 use crate::fields::rest;
 use crate::fields::uuid;
@@ -15,7 +16,7 @@ fn near_number(look: NearLook) -> usize {
         NearLook::Exact => 1,
         NearLook::Near => 2,
         NearLook::Missing => 0,
-        NearLook::Unsound => 19,
+        NearLook::Unsound => refused_number(look.outcome()),
     }
 }
 

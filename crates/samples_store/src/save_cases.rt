@@ -1,4 +1,5 @@
 // Cases of save.
+use crate::cases::is;
 use crate::fields::after;
 use crate::fields::after_part;
 use crate::fields::before;
@@ -16,9 +17,7 @@ use line::ev::Code;
 use line::mapping::Mapping;
 use line::reading::SdlAnswer;
 use line::reading::parse_sdl_mapping;
-use map::error::MappingError;
 use map::mapping_data::MappingData;
-use store::calls::SaveAnswer;
 use store::calls::Saved;
 use store::calls::get;
 use store::calls::save;
@@ -66,54 +65,6 @@ fn slots_of(s: &[u8]) -> MappingData {
         at = after_part(s, at, b',');
     }
     slots
-}
-
-fn build_number(e: MappingError) -> usize {
-    match e {
-        MappingError::NotUtf8(_) => 10,
-        MappingError::ListTooLong => 12,
-        MappingError::InvalidName => 13,
-        MappingError::UnknownElement => 14,
-        MappingError::InvalidCode(_) => 15,
-        MappingError::NotSdl2Compatible => 16,
-        MappingError::NameTooLong => 17,
-        MappingError::OutputTooShort => 18,
-    }
-}
-
-// What a refusal carries: a place or a code, else 0.
-fn carried(e: MappingError) -> usize {
-    match e {
-        MappingError::NotUtf8(place) => place,
-        MappingError::InvalidCode(c) => c.0 as usize,
-        MappingError::ListTooLong => 0,
-        MappingError::InvalidName => 0,
-        MappingError::UnknownElement => 0,
-        MappingError::NotSdl2Compatible => 0,
-        MappingError::NameTooLong => 0,
-        MappingError::OutputTooShort => 0,
-    }
-}
-
-fn is_built(e: MappingError, expected: &[u8]) -> bool {
-    if build_number(e) != number(before(expected, b'@')) {
-        return false;
-    }
-    if expected.len() == 2 {
-        return true;
-    }
-    carried(e) == number(after(expected, b'@'))
-}
-
-// Whether it is the expected one: `22`, `10@3` with the place, or `15@5` with the code.
-fn is(answer: SaveAnswer, expected: &[u8]) -> bool {
-    match answer {
-        SaveAnswer::Refused(e) => is_built(e, expected),
-        SaveAnswer::Done => number(expected) == 0,
-        SaveAnswer::UnsavedName => number(expected) == 22,
-        SaveAnswer::Unsound => number(expected) == 19,
-        SaveAnswer::NoRoom => number(expected) == 21,
-    }
 }
 
 fn same_entries(a: Mapping, b: Mapping) -> bool {
@@ -198,7 +149,7 @@ fn run_save(
     let data = slots_of(word(rest(more)));
     let saved = save(index, text, data, buttons, axes, name, key);
     let answer = saved.answer;
-    if !is(answer, word(args)) {
+    if !is(answer.outcome(), word(args)) {
         return false;
     }
     is_right(index, text, saved, key, buttons, axes)

@@ -10,7 +10,8 @@ use Rattle.text.specs.declared.uuid.Uuid.{Uuid}
 use Rattle.store.specs.Held.{sameKey, find, holds, distinct}
 use Rattle.store.specs.Layout.{recordBytes}
 use Rattle.store.specs.Decode.{bodyAt, headAt, headFits, zeroes, walk, decode}
-use Rattle.store.specs.Near.{Nearby, exact, near, neither, damaged, nearUp, nearSays, nearLine, nearNumber}
+use Rattle.store.specs.Near.{Nearby, exact, near, neither, damaged, nearUp, nearSays, nearLine, nearOutcome}
+use Rattle.store.specs.Refusals.{outcomeNumber}
 
 -- zeros but for bytes 2 and 3, and that with another byte 4
 with-bytes : ℕ → Uuid
@@ -85,7 +86,7 @@ nine-first : nearUp (with-bytes 0) (9 ∷ replicate 20 0) [] ≡ damaged
 unfolding nearUp with-bytes decode walk headAt zeroes
 nine-first = refl
 
-nine-says : nearNumber (nearSays (nearUp (with-bytes 0) (9 ∷ replicate 20 0) [])) ≡ 19
+nine-says : outcomeNumber (nearOutcome (nearSays (nearUp (with-bytes 0) (9 ∷ replicate 20 0) []))) ≡ 19
 unfolding nearUp with-bytes decode walk headAt zeroes
 nine-says = refl
 

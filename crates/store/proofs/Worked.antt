@@ -28,7 +28,8 @@ use Rattle.line.specs.Pairs.{rangesOf, halfOf, keyedOf, pairOf}
 use Rattle.line.specs.Walker.{guidOf}
 use Rattle.line.specs.Puts.{listed, hatCodes, dpadAxis, hatPuts, putsOf}
 use Rattle.line.specs.Reading.{acceptedOf, putOne, taken, pairsFrom, namedFrom, lineFrom, readLine, readingOf}
-use Rattle.line.specs.Refusals.{Refuses, refusalAt, readingOutcome}
+use Rattle.line.specs.Refusals.{refusalAt, readingOutcome}
+use Rattle.line.specs.declared.refusal.Outcome.the-variants.{Refuses}
 use Rattle.map.specs.Slots.{noSlots, buttonOf, axisOf}
 use Rattle.map.specs.Build.{filledFrom, missingOf, axisChecks, slotChecks, checksOf, ended, pairTexts}
 use Rattle.map.specs.Build.{builtLine, builtMap}

@@ -6,6 +6,9 @@ use mathlib.Core.Option.{Option, none, some}
 use mathlib.Core.List.{List, []}
 use Prim.Native.Nat.{ℕ}
 use Rattle.text.specs.Uuid.{withoutChecksum}
+use Rattle.line.specs.declared.refusal.Outcome.{Outcome}
+use Rattle.line.specs.declared.refusal.Outcome.the-variants.{Passes, Refuses}
+use Rattle.line.specs.Refusals.{refusal}
 use Rattle.store.specs.declared.near.NearLook.{NearLook}
 use Rattle.store.specs.declared.near.NearLook.the-variants as N
 use Rattle.store.specs.Held.{Key, Held, find}
@@ -50,12 +53,12 @@ nearLine (near l) = l
 nearLine neither = []
 nearLine damaged = []
 
--- document 01's number of each answer, 0 where nothing is refused
-abbrev pub nearNumber : NearLook → ℕ
-nearNumber N.Exact = 0
-nearNumber N.Near = 0
-nearNumber N.Missing = 0
-nearNumber N.Unsound = 19
+-- what each answer refuses
+abbrev pub nearOutcome : NearLook → Outcome
+nearOutcome N.Exact = Passes
+nearOutcome N.Near = Passes
+nearOutcome N.Missing = Passes
+nearOutcome N.Unsound = Refuses (refusal 19)
 
 -- ---- theorems
 

@@ -2,7 +2,10 @@
 -- place and code of each answer of the store.
 -- Public contracts rest on these definitions; they assume nothing.
 use Prim.Native.Nat.{ℕ}
-use Rattle.line.specs.Refusals.{Refusal, Outcome, Passes, Refuses, refusal, refusalAt}
+use Rattle.line.specs.Refusals.{refusal, refusalAt}
+use Rattle.line.specs.declared.refusal.Refusal.{Refusal}
+use Rattle.line.specs.declared.refusal.Outcome.{Outcome}
+use Rattle.line.specs.declared.refusal.Outcome.the-variants.{Passes, Refuses}
 use Rattle.map.specs.Refusals.{mappingRefusal}
 use Rattle.store.specs.declared.calls.Answer.{Answer}
 use Rattle.store.specs.declared.calls.Answer.the-variants as A
@@ -10,6 +13,8 @@ use Rattle.store.specs.declared.calls.SaveAnswer.{SaveAnswer}
 use Rattle.store.specs.declared.calls.SaveAnswer.the-variants as Sv
 use Rattle.store.specs.declared.calls.Look.{Look}
 use Rattle.store.specs.declared.calls.Look.the-variants as L
+use Rattle.store.specs.declared.refusal.LookOutcome.{LookOutcome}
+use Rattle.store.specs.declared.refusal.LookOutcome.the-variants as Lo
 
 -- clear and insert: "10 at the length of the longest valid run of whole characters from the first byte on; [..] the
 -- rest none"
@@ -30,15 +35,10 @@ saveOutcome Sv.Unsound = Refuses (refusal 19)
 saveOutcome Sv.NoRoom = Refuses (refusal 21)
 
 -- a look-up: "one says found, none or 19"
-pub data LookOutcome : Type 0 where
-  finds : LookOutcome
-  findsNone : LookOutcome
-  cannotLook : Refusal → LookOutcome
-
 abbrev pub lookOutcome : Look → LookOutcome
-lookOutcome L.Found = finds
-lookOutcome L.Missing = findsNone
-lookOutcome L.Unsound = cannotLook (refusal 19)
+lookOutcome L.Found = Lo.Finds
+lookOutcome L.Missing = Lo.FindsNone
+lookOutcome L.Unsound = Lo.CannotLook (refusal 19)
 
 -- document 01's number of an outcome, 0 where nothing is refused
 abbrev pub outcomeNumber : Outcome → ℕ

@@ -9,6 +9,7 @@ mod look;
 pub mod near;
 mod order;
 mod records;
+pub mod refusal;
 mod rows;
 mod saving;
 mod search;

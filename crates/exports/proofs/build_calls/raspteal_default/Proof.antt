@@ -7,8 +7,11 @@ use Rattle.exports.proofs.build_calls.raspteal_default.Tie as tie
 default-requires : tie.Need-default-requires
 default-requires c κs = search needs
 
-flat-mapping-answer-requires : tie.Need-flat-mapping-answer-requires
-flat-mapping-answer-requires c κs = search needs
+outcome-requires : tie.Need-outcome-requires
+outcome-requires c κs = search needs
+
+flat-outcome-requires : tie.Need-flat-outcome-requires
+flat-outcome-requires c κs = search needs
 
 flat-mapping-requires : tie.Need-flat-mapping-requires
 flat-mapping-requires c κs = search needs
@@ -17,11 +20,12 @@ returns : tie.Need-returns
 returns c =
     simp (
       c .flat-mapping .ensures,
-      c .before .flat-mapping-answer .ensures,
-      c .before .before .before .default .ensures,
+      c .before .flat-outcome .ensures,
+      c .before .before .outcome .ensures,
+      c .before .before .before .before .default .ensures,
     )
 
 pub raspteal-default-spec : {M : Type 1} → statement M
 raspteal-default-spec =
     tie.close
-    (tie.spec default-requires flat-mapping-answer-requires flat-mapping-requires returns)
+    (tie.spec default-requires outcome-requires flat-outcome-requires flat-mapping-requires returns)

@@ -16,8 +16,11 @@ enum-known-a-2 c = search needs
 bare-token-requires : tie.Need-bare-token-requires
 bare-token-requires c κs = search needs
 
-flat-error-requires : tie.Need-flat-error-requires
-flat-error-requires c κs = search needs
+refusal-requires : tie.Need-refusal-requires
+refusal-requires c κs = search needs
+
+flat-refusal-requires : tie.Need-flat-refusal-requires
+flat-refusal-requires c κs = search needs
 
 enum-told : tie.Need-enum-told
 enum-told c = search needs
@@ -29,7 +32,12 @@ returns : tie.Need-returns
 returns c = simp (c .before .before .a .given .1, c .flat-token .ensures)
 
 returns-2 : tie.Need-returns-2
-returns-2 c = simp (c .before .before .before .a2 .given .1, c .flat-error .ensures, c .before .bare-token .ensures)
+returns-2 c = simp (
+  c .before .before .before .before .a2 .given .1,
+  c .flat-refusal .ensures,
+  c .before .refusal .ensures,
+  c .before .before .bare-token .ensures,
+)
 
 returns-3 : tie.Need-returns-3
 returns-3 c = simp (c .before .enum-told .given .1, c .bare-token2 .ensures)
@@ -42,7 +50,8 @@ flat-answer-spec =
     flat-token-requires
     enum-known-a-2
     bare-token-requires
-    flat-error-requires
+    refusal-requires
+    flat-refusal-requires
     enum-told
     bare-token-requires-2
     returns

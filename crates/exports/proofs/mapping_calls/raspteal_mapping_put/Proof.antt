@@ -13,8 +13,11 @@ entry-of-requires c κs = search needs
 put-requires : tie.Need-put-requires
 put-requires c κs = search needs
 
-flat-put-result-requires : tie.Need-flat-put-result-requires
-flat-put-result-requires c κs = search needs
+outcome-requires : tie.Need-outcome-requires
+outcome-requires c κs = search needs
+
+flat-outcome-requires : tie.Need-flat-outcome-requires
+flat-outcome-requires c κs = search needs
 
 flat-mapping-requires : tie.Need-flat-mapping-requires
 flat-mapping-requires c κs = search needs
@@ -23,10 +26,11 @@ returns : tie.Need-returns
 returns c =
     simp (
       c .flat-mapping .ensures,
-      c .before .flat-put-result .ensures,
-      c .before .before .before .put .ensures,
-      c .before .before .before .before .entry-of .ensures,
-      c .before .before .before .before .before .mapping-of .ensures,
+      c .before .flat-outcome .ensures,
+      c .before .before .outcome .ensures,
+      c .before .before .before .before .put .ensures,
+      c .before .before .before .before .before .entry-of .ensures,
+      c .before .before .before .before .before .before .mapping-of .ensures,
     )
 
 pub raspteal-mapping-put-spec : {M : Type 1} → statement M
@@ -36,6 +40,7 @@ raspteal-mapping-put-spec =
     mapping-of-requires
     entry-of-requires
     put-requires
-    flat-put-result-requires
+    outcome-requires
+    flat-outcome-requires
     flat-mapping-requires
     returns)

@@ -7,8 +7,11 @@ use Rattle.exports.proofs.parser_calls.flat_last.Tie as tie
 enum-known-l : tie.Need-enum-known-l
 enum-known-l c = search needs
 
-flat-error-requires : tie.Need-flat-error-requires
-flat-error-requires c κs = search needs
+refusal-requires : tie.Need-refusal-requires
+refusal-requires c κs = search needs
+
+flat-refusal-requires : tie.Need-flat-refusal-requires
+flat-refusal-requires c κs = search needs
 
 enum-told : tie.Need-enum-told
 enum-told c = search needs
@@ -17,7 +20,7 @@ flat-no-refusal-requires : tie.Need-flat-no-refusal-requires
 flat-no-refusal-requires c κs = search needs
 
 returns : tie.Need-returns
-returns c = simp (c .before .before .l .given .1, c .flat-error .ensures)
+returns c = simp (c .before .before .before .l .given .1, c .flat-refusal .ensures, c .before .refusal .ensures)
 
 returns-2 : tie.Need-returns-2
 returns-2 c = simp (c .before .enum-told .given .1, c .flat-no-refusal .ensures)
@@ -27,7 +30,8 @@ flat-last-spec =
     tie.close
     (tie.spec
     enum-known-l
-    flat-error-requires
+    refusal-requires
+    flat-refusal-requires
     enum-told
     flat-no-refusal-requires
     returns

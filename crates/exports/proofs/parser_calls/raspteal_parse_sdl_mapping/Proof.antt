@@ -11,12 +11,15 @@ use Rattle.exports.proofs.parser_calls.raspteal_parse_sdl_mapping.Tie a
 parse-sdl-mapping-requires : tie.Need-parse-sdl-mapping-requires
 parse-sdl-mapping-requires c κs = search needs
 
-flat-sdl-answer-requires : tie.Need-flat-sdl-answer-requires
-flat-sdl-answer-requires c κs = search needs
+outcome-requires : tie.Need-outcome-requires
+outcome-requires c κs = search needs
+
+flat-outcome-requires : tie.Need-flat-outcome-requires
+flat-outcome-requires c κs = search needs
 
 flat-made-requires : tie.Need-flat-made-requires
 flat-made-requires c κs =
-    let read = c .before .before in
+    let read = c .before .before .before in
     let a = read .before .before .before .before .args in
     subst (λ (r : SdlMapping). Unused (r .map .count) (r .map .entries)) (sym (read .parse-sdl-mapping .ensures))
     (tidy-reading (a .buttons .now) (a .axes .now) (a .line .now) .unused)
@@ -25,11 +28,12 @@ returns : tie.Need-returns
 returns c =
     simp (
       c .flat-made .ensures,
-      c .before .flat-sdl-answer .ensures,
-      c .before .before .before .parse-sdl-mapping .ensures,
+      c .before .flat-outcome .ensures,
+      c .before .before .outcome .ensures,
+      c .before .before .before .before .parse-sdl-mapping .ensures,
     )
 
 pub raspteal-parse-sdl-mapping-spec : {M : Type 1} → statement M
 raspteal-parse-sdl-mapping-spec =
     tie.close
-    (tie.spec parse-sdl-mapping-requires flat-sdl-answer-requires flat-made-requires returns)
+    (tie.spec parse-sdl-mapping-requires outcome-requires flat-outcome-requires flat-made-requires returns)

@@ -5,8 +5,11 @@ use Rattle.exports.specs.FlatTwo.{flatPadsTold}
 use Rattle.exports.proofs.two_calls.flat_pads_told.Statement.{statement}
 use Rattle.exports.proofs.two_calls.flat_pads_told.Tie as tie
 
-flat-pad-answer-requires : tie.Need-flat-pad-answer-requires
-flat-pad-answer-requires c κs = search needs
+outcome-requires : tie.Need-outcome-requires
+outcome-requires c κs = search needs
+
+flat-outcome-requires : tie.Need-flat-outcome-requires
+flat-outcome-requires c κs = search needs
 
 flat-pads-requires : tie.Need-flat-pads-requires
 flat-pads-requires c κs = search needs
@@ -17,8 +20,8 @@ flat-events-requires c κs = search needs
 returns : tie.Need-returns
 unfolding flatPadsTold
 returns c =
-    simp (c .flat-events .ensures, c .before .flat-pads .ensures, c .before .before .flat-pad-answer .ensures)
+    simp (c .flat-events .ensures, c .before .flat-pads .ensures, c .before .before .flat-outcome .ensures, c .before .before .before .outcome .ensures)
 
 pub flat-pads-told-spec : {M : Type 1} → statement M
 flat-pads-told-spec =
-    tie.close (tie.spec flat-pad-answer-requires flat-pads-requires flat-events-requires returns)
+    tie.close (tie.spec outcome-requires flat-outcome-requires flat-pads-requires flat-events-requires returns)

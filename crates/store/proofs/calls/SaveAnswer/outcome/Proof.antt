@@ -1,0 +1,66 @@
+-- Each variant by its own arm.
+-- Assumes nothing.
+use borrow.Author.Needs.{needs}
+use Rattle.store.proofs.calls.SaveAnswer.outcome.Statement.{statement}
+use Rattle.store.proofs.calls.SaveAnswer.outcome.Tie as tie
+
+enum-told : tie.Need-enum-told
+enum-told c = search needs
+
+enum-known-self : tie.Need-enum-known-self
+enum-known-self c = search needs
+
+refusal-requires : tie.Need-refusal-requires
+refusal-requires c κs = search needs
+
+enum-told-2 : tie.Need-enum-told-2
+enum-told-2 c = search needs
+
+plain-requires : tie.Need-plain-requires
+plain-requires c κs = search needs
+
+enum-told-3 : tie.Need-enum-told-3
+enum-told-3 c = search needs
+
+plain-requires-2 : tie.Need-plain-requires-2
+plain-requires-2 c κs = search needs
+
+enum-told-4 : tie.Need-enum-told-4
+enum-told-4 c = search needs
+
+plain-requires-3 : tie.Need-plain-requires-3
+plain-requires-3 c κs = search needs
+
+returns : tie.Need-returns
+returns c = search needs
+
+returns-2 : tie.Need-returns-2
+returns-2 c = simp (c .before .before .self .given .1, c .refusal .ensures)
+
+returns-3 : tie.Need-returns-3
+returns-3 c = simp (c .before .enum-told2 .given .1, c .plain .ensures)
+
+returns-4 : tie.Need-returns-4
+returns-4 c = simp (c .before .enum-told3 .given .1, c .plain2 .ensures)
+
+returns-5 : tie.Need-returns-5
+returns-5 c = simp (c .before .enum-told4 .given .1, c .plain3 .ensures)
+
+pub outcome-spec : {M : Type 1} → statement M
+outcome-spec =
+    tie.close
+    (tie.spec
+    enum-told
+    enum-known-self
+    refusal-requires
+    enum-told-2
+    plain-requires
+    enum-told-3
+    plain-requires-2
+    enum-told-4
+    plain-requires-3
+    returns
+    returns-2
+    returns-3
+    returns-4
+    returns-5)
