@@ -17,7 +17,6 @@ use Rattle.line.specs.declared.mapping.Mapping.{Mapping}
 use Rattle.line.specs.declared.mapping.PutAnswer.{PutAnswer}
 use Rattle.line.specs.declared.mapping.PutResult.{PutResult}
 use Rattle.line.specs.declared.mapping.PutResult.the-variants.{Stored, Full}
-use Rattle.line.specs.declared.parser.ErrorKind.the-variants as Ek
 use Rattle.line.specs.declared.parser.Answer.{Answer}
 use Rattle.line.specs.declared.parser.Answer.the-variants as An
 use Rattle.line.specs.declared.reading.puts.Puts.{Puts}
@@ -30,7 +29,8 @@ use Rattle.line.specs.Fields.{fieldsOf, firstField}
 use Rattle.line.specs.Maps.{CODES_MAX, unusedEntry, toMap, emptyView, emptyMap, held, putEntry, withEntries, putOf}
 use Rattle.line.specs.Pairs.{pairOf}
 use Rattle.line.specs.Puts.{putsOf}
-use Rattle.line.specs.Reading.{acceptedOf, refusedOf, parseError, follow, withName, withHat, storedAt, putOne, thenPut}
+use Rattle.line.specs.Refusals.{refusal, refusalAt}
+use Rattle.line.specs.Reading.{acceptedOf, refusedOf, refuses, follow, withName, withHat, storedAt, putOne, thenPut}
 use Rattle.line.specs.Reading.{flagged, putAll, skips, taken, pairsFrom, namedFrom, headed, lineFrom, readLine}
 use Rattle.line.specs.Reading.{listsFit, readingOf}
 use Rattle.line.specs.Walker.{guidOf}
@@ -147,7 +147,7 @@ module _ (buttons axes : List ℕ) where
       → Tidy (headed g p k s m buttons axes .map)
   tidy-headed Up.Invalid p k s m t = tidy-empty
   tidy-headed (Up.Parsed u) p k s m t =
-      tidy-pick (eqb k (length s)) (parseError Ek.UnexpectedEnd 0)
+      tidy-pick (eqb k (length s)) (refuses (refusalAt 2 0))
       (namedFrom (p + k + 1) (fieldsOf (drop (k + 1) s)) (withName m (p + k + 1) 0) buttons axes)
       tidy-empty
       (tidy-named (fieldsOf (drop (k + 1) s)) (p + k + 1) (withName m (p + k + 1) 0) (tidy-name m (p + k + 1) 0 t))
@@ -161,8 +161,8 @@ module _ (buttons axes : List ℕ) where
   pub tidy-reading : (s : List ℕ) → Tidy (readingOf s buttons axes .map)
   unfolding readingOf readLine
   tidy-reading s =
-      tidy-pick (isUtf8 s) (pick (listsFit buttons axes) (readLine s buttons axes) (refusedOf Pe.ListTooLong))
-      (parseError Ek.NotUtf8 (validRun s))
-      (tidy-pick (listsFit buttons axes) (readLine s buttons axes) (refusedOf Pe.ListTooLong)
+      tidy-pick (isUtf8 s) (pick (listsFit buttons axes) (readLine s buttons axes) (refuses (refusal 12)))
+      (refuses (refusalAt 10 (validRun s)))
+      (tidy-pick (listsFit buttons axes) (readLine s buttons axes) (refuses (refusal 12))
       (tidy-line s 0 emptyMap tidy-empty) tidy-empty)
       tidy-empty

@@ -31,10 +31,11 @@ use Rattle.line.specs.Elements.{codeOf}
 use Rattle.line.specs.Maps.{CODES_MAX, MapView, rangedEntry, toMap, putEntry, putsInto}
 use Rattle.line.specs.Pairs.{pairOf}
 use Rattle.line.specs.Puts.{listed, hatCodes, dpadAxis, besideOf, dpadPuts, codesPuts, hatPuts, putsOf}
-use Rattle.line.specs.Reading.{refusedOf, acceptedOf, follow, flagged, thenPut, putOne, putAll, skips, taken}
-use Rattle.line.specs.Reading.{pairsFrom}
-use Rattle.line.specs.Effects.{does, stops, putsEffect, answerEffect, effectOf, entriesOf}
-use Rattle.line.specs.Folds.{AllGo, after}
+use Rattle.line.specs.Refusals.{refusalAt}
+use Rattle.line.specs.Reading.{refuses, refusedOf, acceptedOf, follow, flagged, thenPut, putOne, putAll, skips}
+use Rattle.line.specs.Reading.{taken, pairsFrom}
+use Rattle.line.specs.Effects.{does, stops, putsEffect, answerEffect, effectOf, entriesOf, AllGo}
+use Rattle.line.specs.Folds.{after}
 use Rattle.line.proofs.PickLaws.{picked}
 use Rattle.line.proofs.ViewLaws.{with, put-toMap}
 use Rattle.line.proofs.PairLaws.{PairAnswer, pair-answer, pair-anywhere}
@@ -64,7 +65,7 @@ module _ (v : MapView) (e : Entry) (p : ℕ) where
   abbrev many : ℕ
   many = length (putEntry e (v .list))
 
-  one-over : leb many CODES_MAX ≡ false → putOne (toMap v) e p ≡ refusedOf (Pe.TooManyCodes p)
+  pub one-over : leb many CODES_MAX ≡ false → putOne (toMap v) e p ≡ refuses (refusalAt 11 p)
   unfolding putOne
   one-over b = rw (put-toMap v e, b)
 
@@ -76,7 +77,7 @@ module _ (v : MapView) (e : Entry) (p : ℕ) where
       by false b = refused-not (Pe.TooManyCodes p) (rw (one-over b) at a)
 
 -- ---- the puts of a pair, none of which is a name
-unfoldable NotName : Puts → Type 0
+unfoldable pub NotName : Puts → Type 0
 NotName Nothing = Unit {0}
 NotName (Name start len) = ⊥
 NotName (One e flag) = Unit {0}
@@ -104,7 +105,7 @@ module _ (v : MapView) (p : ℕ) where
       (refl, two-accepted e f (flagged-accepted (thenPut (putOne (toMap v) e p) f p) flag a))
   puts-accepted UnknownHatDirection n h a = refused-not Pe.UnknownHatDirection a
 
-nothing-unnamed : NotName Nothing
+pub nothing-unnamed : NotName Nothing
 unfolding NotName
 nothing-unnamed = tt
 
@@ -112,7 +113,7 @@ one-unnamed : (e : Entry) (flag : ℕ) → NotName (One e flag)
 unfolding NotName
 one-unnamed e flag = tt
 
-listed-unnamed : (codes : List ℕ) (n : ℕ) (to : AxisOrBtn) (r : Ranges) → NotName (listed codes n to r)
+pub listed-unnamed : (codes : List ℕ) (n : ℕ) (to : AxisOrBtn) (r : Ranges) → NotName (listed codes n to r)
 unfolding listed
 listed-unnamed codes n to r =
     picked NotName (ltb n (length codes)) (one-unnamed (rangedEntry (codeOf (getD codes n 0)) to r) 0) nothing-unnamed
@@ -133,7 +134,7 @@ codes-unnamed Hc.Centre to r = tt
 codes-unnamed (Hc.Codes axis button flag) to r = dpad-unnamed axis button to r flag
 codes-unnamed Hc.Unknown to r = tt
 
-hat-unnamed : (h d : ℕ) (to : AxisOrBtn) (r : Ranges) → NotName (hatPuts h d to r)
+pub hat-unnamed : (h d : ℕ) (to : AxisOrBtn) (r : Ranges) → NotName (hatPuts h d to r)
 unfolding hatPuts
 hat-unnamed h d to r = picked NotName (eqb h 0) (codes-unnamed (hatCodes d) to r) nothing-unnamed
 
@@ -167,7 +168,7 @@ module _ (v : MapView) (p q : ℕ) (buttons axes : List ℕ) where
 
 -- ---- pairs in line order
 module _ (buttons axes : List ℕ) where
-  pair-accepted : (f : List ℕ) (p q : ℕ) (v : MapView) → length (v .list) ≤ CODES_MAX
+  pub pair-accepted : (f : List ℕ) (p q : ℕ) (v : MapView) → length (v .list) ≤ CODES_MAX
       → taken (toMap v) (pairOf f p) p q buttons axes .answer ≡ Accepted
       → (effectOf f buttons axes .goes ≡ true)
       × (length (putsInto (effectOf f buttons axes .puts) (v .list)) ≤ CODES_MAX)

@@ -18,7 +18,6 @@ use Rattle.line.specs.declared.parser.Parser.{Parser}
 use Rattle.line.specs.declared.parser.State.{State}
 use Rattle.line.specs.declared.parser.State.the-variants as St
 use Rattle.line.specs.declared.parser.Stepped.{Stepped}
-use Rattle.line.specs.declared.parser.ErrorKind.the-variants as Ek
 use Rattle.line.specs.declared.parser.Answer.the-variants as An
 use Rattle.line.specs.declared.parser.Token.the-variants as Tk
 use Rattle.line.specs.Fields.{field, findFrom}
@@ -45,7 +44,7 @@ module _ (s : RefT (List ℕ)) (h : 0 < length (now s)) where
   abbrev standing : Stepped → Parser
   standing x = record { «data» = s; pos = x .pos; state = x .state }
 
-  step-10 : stepOf (now s) 0 St.NotUtf8 ≡ stepped (refuse Ek.NotUtf8 (validRun (now s))) 0 St.NotUtf8
+  step-10 : stepOf (now s) 0 St.NotUtf8 ≡ stepped (refuse 10 (validRun (now s))) 0 St.NotUtf8
   unfolding stepOf fieldStep
   step-10 = rw (lt-ltb 0 (length (now s)) h)
 
@@ -55,7 +54,7 @@ module _ (s : RefT (List ℕ)) (h : 0 < length (now s)) where
   again-10 zero = ap (λ (x : Stepped). answerOutcome (x .answer)) step-10
   again-10 (suc n) = ap (λ (x : Stepped). sayingOf n (standing x)) step-10 ∙ again-10 n
 
-  step-9 : stepOf (now s) 0 St.Invalid ≡ stepped (refuse Ek.InvalidParserState 0) 0 St.Invalid
+  step-9 : stepOf (now s) 0 St.Invalid ≡ stepped (refuse 9 0) 0 St.Invalid
   unfolding stepOf fieldStep
   step-9 = rw (lt-ltb 0 (length (now s)) h)
 
@@ -70,9 +69,9 @@ module _ (s : RefT (List ℕ)) (h : 0 < length (now s)) where
   broken Up.Invalid e m k n p q = again-9 n
   broken (Up.Parsed u) e m k n p q = by (eqb e m) q
     where
-      by : (t : Bool) → numberOf (answerOutcome (pick t (stepped (refuse Ek.UnexpectedEnd 0) 0 St.Invalid)
+      by : (t : Bool) → numberOf (answerOutcome (pick t (stepped (refuse 2 0) 0 St.Invalid)
           (stepped (An.Found (Tk.Uuid (u .id))) (e + 1) St.Name) .answer)) ≡ k
-          → sayingOf n (standing (pick t (stepped (refuse Ek.UnexpectedEnd 0) 0 St.Invalid)
+          → sayingOf n (standing (pick t (stepped (refuse 2 0) 0 St.Invalid)
           (stepped (An.Found (Tk.Uuid (u .id))) (e + 1) St.Name))) ≡ Refuses (refusalAt 9 0)
       by true q = again-9 n
       by false q = absurd (omega (arith, q))

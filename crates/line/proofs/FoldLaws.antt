@@ -20,8 +20,8 @@ use Rattle.line.specs.Maps.{CODES_MAX, MapView, toMap, putEntry, putsInt
 use Rattle.line.specs.Pairs.{pairOf}
 use Rattle.line.specs.Puts.{listed, hatPuts, putsOf}
 use Rattle.line.specs.Reading.{refusedOf, acceptedOf, putOne, putAll, skips, taken, pairsFrom}
-use Rattle.line.specs.Effects.{does, stops, putsEffect, answerEffect, effectOf, entriesOf}
-use Rattle.line.specs.Folds.{flagsOf, AllGo, orAll, after}
+use Rattle.line.specs.Effects.{does, stops, putsEffect, answerEffect, effectOf, entriesOf, AllGo}
+use Rattle.line.specs.Folds.{flagsOf, orAll, after}
 use Rattle.line.proofs.ViewLaws.{with, put-grows, put-toMap}
 use Rattle.line.proofs.PairLaws.{PairAnswer, pair-answer, pair-anywhere}
 

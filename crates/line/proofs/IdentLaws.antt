@@ -24,7 +24,7 @@ use Rattle.line.specs.declared.parser.Token.the-variants as Tk
 use Rattle.line.specs.declared.parser.Answer.the-variants as An
 use Rattle.line.specs.Elements.{codeOf, sameElement}
 use Rattle.line.specs.Maps.{entryOf}
-use Rattle.line.specs.Tables.{axesSdl, axes, rowFrom, keyRow, keyElement, elementFrom, elementRow, identText}
+use Rattle.line.specs.Tables.{«AXES_SDL», AXES, rowFrom, keyRow, keyElement, elementFrom, elementRow, identText}
 use Rattle.line.specs.Tables.{asButton, asAxis}
 use Rattle.line.specs.Fields.{countOf}
 use Rattle.line.specs.Values.{axisValueOf, valueOf}
@@ -81,11 +81,11 @@ allNamed f k zero = true
 allNamed f k (suc n) = both (names (identText (f k)) (f k)) (allNamed f (suc k) n)
 
 buttons-named : T (allNamed asButton 1 19)
-unfolding allNamed names countOf halfOf same keyRow rowFrom axesSdl axes elementRow elementFrom
+unfolding allNamed names countOf halfOf same keyRow rowFrom «AXES_SDL» AXES elementRow elementFrom
 buttons-named = tt
 
 axes-named : T (allNamed asAxis 1 6)
-unfolding allNamed names countOf halfOf same keyRow rowFrom axesSdl axes elementRow elementFrom
+unfolding allNamed names countOf halfOf same keyRow rowFrom «AXES_SDL» AXES elementRow elementFrom
 axes-named = tt
 
 -- ---- what the test says of each

@@ -10,6 +10,7 @@ use lib.ListN.{length, take, drop}
 use lib.Seq.{take-at, drop-append-add}
 use Rattle.text.specs.Bytes.{byte, firstOf}
 use Rattle.line.specs.Fields.{countOf, before, fieldsOf, laterFields}
+use Rattle.line.specs.Tiles.{tiled}
 
 -- ---- texts without some byte
 abbrev pub Free : ℕ → List ℕ → Type 0
@@ -43,10 +44,6 @@ module _ (b : ℕ) where
   drop-after a t h = rw (first-after a t h) (drop-append-add a (b ∷ t) 1)
 
 -- ---- fields, each with a comma after it
-unfoldable pub joined : List (List ℕ) → List ℕ
-joined [] = []
-joined (f ∷ fs) = f ++ byte "," ∷ joined fs
-
 unfoldable pub AllFree : List (List ℕ) → Type 0
 AllFree [] = Unit {0}
 AllFree (f ∷ fs) = Free (byte ",") f × AllFree fs
@@ -58,16 +55,16 @@ field-joined (x ∷ f) t h =
     let w = free-cons (byte ",") x f h in
     rw (w .0) (ap (before x) (field-joined f t (w .1)))
 
-pub fields-joined : (fs : List (List ℕ)) → AllFree fs → fieldsOf (joined fs) ≡ fs
-unfolding joined AllFree fieldsOf
+pub fields-joined : (fs : List (List ℕ)) → AllFree fs → fieldsOf (tiled fs) ≡ fs
+unfolding tiled AllFree fieldsOf
 fields-joined [] h = refl
 fields-joined (f ∷ fs) h =
-    field-joined f (joined fs) (h .0) ∙ ap (λ (l : List (List ℕ)). f ∷ l) (fields-joined fs (h .1))
+    field-joined f (tiled fs) (h .0) ∙ ap (λ (l : List (List ℕ)). f ∷ l) (fields-joined fs (h .1))
 
 -- ---- a line of a first field, a name and pairs
 abbrev pub lineOf : List ℕ → List ℕ → List (List ℕ) → List ℕ
-lineOf u n fs = u ++ byte "," ∷ joined (n ∷ fs)
+lineOf u n fs = u ++ byte "," ∷ tiled (n ∷ fs)
 
 pub later-fields : (u n : List ℕ) (fs : List (List ℕ)) → Free (byte ",") u → AllFree (n ∷ fs)
     → laterFields (lineOf u n fs) ≡ n ∷ fs
-later-fields u n fs h free = rw (drop-after (byte ",") u (joined (n ∷ fs)) h) (fields-joined (n ∷ fs) free)
+later-fields u n fs h free = rw (drop-after (byte ",") u (tiled (n ∷ fs)) h) (fields-joined (n ∷ fs) free)

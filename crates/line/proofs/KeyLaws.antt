@@ -14,7 +14,7 @@ use Rattle.line.specs.Buttons as B
 use Rattle.line.specs.Elements.{sameElement}
 use Rattle.line.specs.Inner.{untilZero, kindAndNumber, kindRows}
 use Rattle.line.specs.Numbers.{elementOfKind}
-use Rattle.line.specs.Tables.{ROWS, axesSdl, axes, nameAt, rowFrom, keyRow, elementFrom, elementRow}
+use Rattle.line.specs.Tables.{ROWS, «AXES_SDL», AXES, nameAt, rowFrom, keyRow, elementFrom, elementRow}
 use Rattle.line.specs.Tables.{nameRows, paddedName, byteOrder, placeOrder, sameOrder, every, sorted, howMany}
 use Rattle.line.specs.Tables.{oneRow, asButton, asAxis}
 use Rattle.line.specs.declared.ev.AxisOrBtn.{AxisOrBtn}
@@ -102,12 +102,12 @@ order-same Greater Less t = absurd t
 order-same Greater Equal t = absurd t
 order-same Greater Greater t = refl
 
-pub in-order : T (sorted axesSdl)
-unfolding axesSdl byteOrder
+pub in-order : T (sorted «AXES_SDL»)
+unfolding «AXES_SDL» byteOrder
 in-order = tt
 
-names-length : length axesSdl ≡ ROWS
-unfolding axesSdl
+names-length : length «AXES_SDL» ≡ ROWS
+unfolding «AXES_SDL»
 names-length = refl
 
 -- where the key stands among the names, seen from place i
@@ -115,8 +115,8 @@ pub placed : (key : List ℕ) (i j : ℕ) (o : Order) → i < ROWS → j < ROWS 
     → placeOrder i j ≡ o
 placed key i j o h k e q =
     sym (order-same (byteOrder (nameAt i) (nameAt j)) (placeOrder i j)
-    (every-at (λ j m. sameOrder (byteOrder (nameAt i) m) (placeOrder i j)) [] axesSdl
-    (every-at (λ i n. every (λ j m. sameOrder (byteOrder n m) (placeOrder i j)) 0 axesSdl) [] axesSdl in-order i
+    (every-at (λ j m. sameOrder (byteOrder (nameAt i) m) (placeOrder i j)) [] «AXES_SDL»
+    (every-at (λ i n. every (λ j m. sameOrder (byteOrder n m) (placeOrder i j)) 0 «AXES_SDL») [] «AXES_SDL» in-order i
     (rw names-length h))
     j (rw names-length k)))
     ∙ rw q e
@@ -181,17 +181,17 @@ row-found (n ∷ ns) key i (suc r) h e f =
 
 pub key-none : (key : List ℕ) → ((k : ℕ) → k < ROWS → nameAt k ≡ key → ⊥) → keyRow key ≡ Nowhere
 unfolding keyRow
-key-none key f = row-none axesSdl key 0 (λ k h. f k (rw names-length at h))
+key-none key f = row-none «AXES_SDL» key 0 (λ k h. f k (rw names-length at h))
 
 pub key-found : (key : List ℕ) (i : ℕ) → i < ROWS → byteOrder (nameAt i) key ≡ Equal → keyRow key ≡ At i
 unfolding keyRow
 key-found key i h e =
-    row-found axesSdl key 0 i (rw names-length h) (equal-same (nameAt i) key e) (λ k l. not-before key i k h e l)
+    row-found «AXES_SDL» key 0 i (rw names-length h) (equal-same (nameAt i) key e) (λ k l. not-before key i k h e l)
     ∙ ap At (omega arith)
 
 -- ---- the rows of the table: each name, filled with zeros up to 13 bytes
-rows-names : map untilZero nameRows ≡ axesSdl
-unfolding nameRows axesSdl untilZero
+rows-names : map untilZero nameRows ≡ «AXES_SDL»
+unfolding nameRows «AXES_SDL» untilZero
 rows-names = refl
 
 -- the name that a row holds
@@ -200,8 +200,8 @@ unfolding untilZero
 row-name i = sym (List·getD-map untilZero nameRows i []) ∙ ap (λ (l : List (List ℕ)). getD l i []) rows-names
 
 pub row-padded : (i : ℕ) → i < ROWS → getD nameRows i [] ≡ paddedName (nameAt i)
-unfolding nameRows axesSdl
-row-padded i h = getD-any nameRows i [] (paddedName []) h ∙ List·getD-map paddedName axesSdl i []
+unfolding nameRows «AXES_SDL»
+row-padded i h = getD-any nameRows i [] (paddedName []) h ∙ List·getD-map paddedName «AXES_SDL» i []
 
 -- what a comparison with a row says of the name
 pub told : (names : List (List ℕ)) (key : List ℕ) (i : ℕ) (r o : Order) → names ≡ nameRows
@@ -223,25 +223,25 @@ kind-back (Axis a) = refl
 kind-back (Btn b) = refl
 
 pub kinds-length : length kindRows ≡ ROWS
-unfolding kindRows axes
+unfolding kindRows AXES
 kinds-length = refl
 
-pub kind-row : (i : ℕ) → i < ROWS → getD kindRows i [] ≡ kindAndNumber (getD axes i (Btn B.Unknown))
-unfolding kindRows axes
+pub kind-row : (i : ℕ) → i < ROWS → getD kindRows i [] ≡ kindAndNumber (getD AXES i (Btn B.Unknown))
+unfolding kindRows AXES
 kind-row i h =
-    getD-any kindRows i [] (kindAndNumber (Btn B.Unknown)) h ∙ List·getD-map kindAndNumber axes i (Btn B.Unknown)
+    getD-any kindRows i [] (kindAndNumber (Btn B.Unknown)) h ∙ List·getD-map kindAndNumber AXES i (Btn B.Unknown)
 
 pub kind-element : (kinds : List (List ℕ)) (i : ℕ) → kinds ≡ kindRows → i < ROWS
-    → elementOfKind (getD (getD kinds i []) 0 0) (getD (getD kinds i []) 1 0) ≡ getD axes i (Btn B.Unknown)
+    → elementOfKind (getD (getD kinds i []) 0 0) (getD (getD kinds i []) 1 0) ≡ getD AXES i (Btn B.Unknown)
 kind-element kinds i n h =
     ap (λ (l : List ℕ). elementOfKind (getD l 0 0) (getD l 1 0)) (ap (λ (k : List (List ℕ)). getD k i []) n ∙ kind-row i h)
-    ∙ kind-back (getD axes i (Btn B.Unknown))
+    ∙ kind-back (getD AXES i (Btn B.Unknown))
 
 -- the first i rows are made, and one more
-pub kinds-turn : (elements : List AxisOrBtn) (kinds : List (List ℕ)) (i : ℕ) (k : List ℕ) → elements ≡ axes
+pub kinds-turn : (elements : List AxisOrBtn) (kinds : List (List ℕ)) (i : ℕ) (k : List ℕ) → elements ≡ AXES
     → length kinds ≡ ROWS → i < ROWS → k ≡ kindAndNumber (getD elements i (Btn B.Unknown))
     → take i kinds ≡ take i kindRows → take (i + 1) (set kinds i k) ≡ take (i + 1) kindRows
-unfolding axes
+unfolding AXES
 kinds-turn elements kinds i k n m h e p =
     let w : k ≡ getD kindRows i [] =
     e ∙ ap (λ (l : List AxisOrBtn). kindAndNumber (getD l i (Btn B.Unknown))) n
@@ -254,31 +254,31 @@ kinds-all kinds i m h p =
     sym (take-all i kinds (omega arith)) ∙ p ∙ take-all i kindRows (omega (arith, kinds-length))
 
 -- ---- the row of an element
-pub element-told : (xs : List AxisOrBtn) (i : ℕ) (e : AxisOrBtn) (r : Bool) → xs ≡ axes → i < ROWS
-    → r ≡ sameElement (getD xs i (Btn B.Unknown)) e → r ≡ sameElement (getD axes i (Btn B.Unknown)) e
-unfolding axes
+pub element-told : (xs : List AxisOrBtn) (i : ℕ) (e : AxisOrBtn) (r : Bool) → xs ≡ AXES → i < ROWS
+    → r ≡ sameElement (getD xs i (Btn B.Unknown)) e → r ≡ sameElement (getD AXES i (Btn B.Unknown)) e
+unfolding AXES
 element-told xs i e r n h q =
     q ∙ ap (λ (l : List AxisOrBtn). sameElement (getD l i (Btn B.Unknown)) e) n
 
-pub element-here : (i : ℕ) (e : AxisOrBtn) (r : Bool) → i < ROWS → r ≡ sameElement (getD axes i (Btn B.Unknown)) e
-    → r ≡ true → elementFrom i (drop i axes) e ≡ At i
-unfolding elementFrom axes
+pub element-here : (i : ℕ) (e : AxisOrBtn) (r : Bool) → i < ROWS → r ≡ sameElement (getD AXES i (Btn B.Unknown)) e
+    → r ≡ true → elementFrom i (drop i AXES) e ≡ At i
+unfolding elementFrom AXES
 element-here i e r h p q =
-    rw (drop-cons axes i (Btn B.Unknown) h) (rw (sym p ∙ q))
+    rw (drop-cons AXES i (Btn B.Unknown) h) (rw (sym p ∙ q))
 
-pub element-past : (i : ℕ) (e : AxisOrBtn) (r : Bool) → i < ROWS → r ≡ sameElement (getD axes i (Btn B.Unknown)) e
-    → r ≡ false → elementFrom i (drop i axes) e ≡ elementFrom (i + 1) (drop (i + 1) axes) e
-unfolding elementFrom axes
+pub element-past : (i : ℕ) (e : AxisOrBtn) (r : Bool) → i < ROWS → r ≡ sameElement (getD AXES i (Btn B.Unknown)) e
+    → r ≡ false → elementFrom i (drop i AXES) e ≡ elementFrom (i + 1) (drop (i + 1) AXES) e
+unfolding elementFrom AXES
 element-past i e r h p q =
-    rw (drop-cons axes i (Btn B.Unknown) h) (rw (sym p ∙ q) (rw (add-one)))
+    rw (drop-cons AXES i (Btn B.Unknown) h) (rw (sym p ∙ q) (rw (add-one)))
 
 pub one-row : T (both (oneRow asButton 1 19) (oneRow asAxis 1 6))
-unfolding oneRow howMany axes
+unfolding oneRow howMany AXES
 one-row = tt
 
-pub element-none : (i : ℕ) (e : AxisOrBtn) → ROWS ≤ i → elementFrom i (drop i axes) e ≡ Nowhere
-unfolding elementFrom axes
-element-none i e h = rw (drop-of-length-le axes h)
+pub element-none : (i : ℕ) (e : AxisOrBtn) → ROWS ≤ i → elementFrom i (drop i AXES) e ≡ Nowhere
+unfolding elementFrom AXES
+element-none i e h = rw (drop-of-length-le AXES h)
 
 -- ---- a row is one of the 35
 row-bound : (names : List (List ℕ)) (key : List ℕ) (i r : ℕ) → rowFrom i names key ≡ At r → r < i + length names
@@ -293,7 +293,7 @@ row-bound (n ∷ ns) key i r e = go (same n key) e (row-bound ns key (suc i) r)
 
 pub key-bound : (key : List ℕ) (r : ℕ) → keyRow key ≡ At r → r < ROWS
 unfolding keyRow
-key-bound key r e = omega (arith, row-bound axesSdl key 0 r e, names-length)
+key-bound key r e = omega (arith, row-bound «AXES_SDL» key 0 r e, names-length)
 
 element-row-bound : (xs : List AxisOrBtn) (e : AxisOrBtn) (i r : ℕ) → elementFrom i xs e ≡ At r → r < i + length xs
 unfolding elementFrom
@@ -306,5 +306,5 @@ element-row-bound (x ∷ xs) e i r p = go (sameElement x e) p (element-row-bound
     go false p f = omega (arith, f p)
 
 pub element-bound : (e : AxisOrBtn) (r : ℕ) → elementRow e ≡ At r → r < ROWS
-unfolding elementRow axes
-element-bound e r p = omega (arith, element-row-bound axes e 0 r p)
+unfolding elementRow AXES
+element-bound e r p = omega (arith, element-row-bound AXES e 0 r p)

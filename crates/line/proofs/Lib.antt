@@ -14,7 +14,9 @@ pub mod OfNumbersLaws
 -- the walker and the reading
 pub mod CountLaws
 pub mod FieldLaws
+pub mod TileLaws
 pub mod WalkLaws
+pub mod KindLaws
 pub mod FormLaws
 pub mod SliceLaws
 pub mod ParserLaws
@@ -31,9 +33,13 @@ pub mod IdentLaws
 pub mod ReadBack
 -- pairs in another order
 pub mod AcceptedLaws
+pub mod WithinLaws
+pub mod OverfullLaws
+pub mod ElevenLaws
 pub mod PermutationLaws
 pub mod CommaLaws
 pub mod RegroupLaws
+pub mod LeastLaws
 -- document 01's samples, and two of regrouped lines
 pub mod Samples
 pub mod RegroupSamples

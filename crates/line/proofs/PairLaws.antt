@@ -16,8 +16,6 @@ use Rattle.line.specs.declared.parser.AxisRange.the-variants as Ar
 use Rattle.line.specs.declared.parser.value.Value.{Value}
 use Rattle.line.specs.declared.parser.value.Value.the-variants as Vl
 use Rattle.line.specs.declared.parser.Token.the-variants as Tk
-use Rattle.line.specs.declared.parser.ErrorKind.{ErrorKind}
-use Rattle.line.specs.declared.parser.ErrorKind.the-variants as Ek
 use Rattle.line.specs.declared.parser.Answer.{Answer}
 use Rattle.line.specs.declared.parser.Answer.the-variants as An
 use Rattle.line.specs.Tables.{keyElement}
@@ -108,9 +106,9 @@ module _ (buttons axes : List ℕ) where
       mapped-free v out to p ∙ ap (λ (x : Value). answerEffect (mappedOf x out to 0) buttons axes) e
       ∙ sym (mapped-free w out to q)
 
-  refused-same : (k : ErrorKind) (p q : ℕ) → SameEffect (refuse k p) (refuse k q)
+  refused-same : (n p q : ℕ) → SameEffect (refuse n p) (refuse n q)
   unfolding answerEffect
-  refused-same k p q = refl
+  refused-same n p q = refl
 
   platform-same : (at to n : ℕ) → SameEffect (An.Found (Tk.Platform at n)) (An.Found (Tk.Platform to n))
   unfolding answerEffect putsOf
@@ -119,7 +117,7 @@ module _ (buttons axes : List ℕ) where
   keyed-same : (k v : List ℕ) (p at q to : ℕ) → SameEffect (keyedOf k v p at) (keyedOf k v q to)
   unfolding keyedOf
   keyed-same k v p at q to =
-      picked₂ SameEffect (eqb (length v) 0) (refused-same Ek.EmptyValue p q)
+      picked₂ SameEffect (eqb (length v) 0) (refused-same 8 p q)
       (picked₂ SameEffect (same k (ascii "platform")) (platform-same at to (length v))
       (mapped-same (valueOf p v) (valueOf q v) (halfOf k) (keyElement (drop (skipOf (halfOf k)) k)) p q
       (value-same p q v)))
@@ -129,7 +127,7 @@ module _ (buttons axes : List ℕ) where
   unfolding pairOf
   pair-anywhere f p q = picked₂ SameEffect (eqb (countOf (byte ":") f) 1)
       (keyed-same (take (firstOf (byte ":") f) f) (drop (firstOf (byte ":") f + 1) f) p
-      (p + (firstOf (byte ":") f + 1)) q (q + (firstOf (byte ":") f + 1))) (refused-same Ek.InvalidKeyValPair p q)
+      (p + (firstOf (byte ":") f + 1)) q (q + (firstOf (byte ":") f + 1))) (refused-same 3 p q)
 
 -- ---- a pair gives no name and no UUID
 unfoldable pub PairAnswer : Answer → Type 0
@@ -152,9 +150,9 @@ mapped-pair (Vl.Button n) out Ke.Missing p = tt
 mapped-pair (Vl.Hat h d) out (Ke.Is e) p = tt
 mapped-pair (Vl.Hat h d) out Ke.Missing p = tt
 
-refused-pair : (k : ErrorKind) (p : ℕ) → PairAnswer (refuse k p)
+refused-pair : (n p : ℕ) → PairAnswer (refuse n p)
 unfolding PairAnswer
-refused-pair k p = tt
+refused-pair n p = tt
 
 platform-pair : (at n : ℕ) → PairAnswer (An.Found (Tk.Platform at n))
 unfolding PairAnswer
@@ -163,7 +161,7 @@ platform-pair at n = tt
 keyed-pair : (k v : List ℕ) (p at : ℕ) → PairAnswer (keyedOf k v p at)
 unfolding keyedOf
 keyed-pair k v p at =
-    picked PairAnswer (eqb (length v) 0) (refused-pair Ek.EmptyValue p)
+    picked PairAnswer (eqb (length v) 0) (refused-pair 8 p)
     (picked PairAnswer (same k (ascii "platform")) (platform-pair at (length v))
     (mapped-pair (valueOf p v) (halfOf k) (keyElement (drop (skipOf (halfOf k)) k)) p))
 
@@ -171,4 +169,4 @@ pub pair-answer : (f : List ℕ) (p : ℕ) → PairAnswer (pairOf f p)
 unfolding pairOf
 pair-answer f p =
     picked PairAnswer (eqb (countOf (byte ":") f) 1) (keyed-pair (take (firstOf (byte ":") f) f)
-    (drop (firstOf (byte ":") f + 1) f) p (p + (firstOf (byte ":") f + 1))) (refused-pair Ek.InvalidKeyValPair p)
+    (drop (firstOf (byte ":") f + 1) f) p (p + (firstOf (byte ":") f + 1))) (refused-pair 3 p)

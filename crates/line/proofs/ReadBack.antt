@@ -19,18 +19,19 @@ use Rattle.text.specs.declared.uuid.UuidParse.the-variants as Up
 use Rattle.text.proofs.ListLaws.{lt-or-le}
 use Rattle.text.proofs.BytesLaws.{same-lengths}
 use Rattle.text.proofs.UuidLaws.{uuid-back, uuidText-length}
-use Rattle.line.specs.declared.parser.ErrorKind.the-variants as Ek
 use Rattle.line.specs.declared.reading.SdlMapping.{SdlMapping}
 use Rattle.line.specs.Maps.{CODES_MAX, MapView, toMap, emptyMap, putsInto}
 use Rattle.line.specs.Fields.{fieldsOf, firstField, laterFields}
 use Rattle.line.specs.Walker.{guidOf}
-use Rattle.line.specs.Reading.{LIST_MAX, parseError, acceptedOf, pairsFrom, namedFrom, headed, readLine}
+use Rattle.line.specs.Refusals.{refusalAt}
+use Rattle.line.specs.Tiles.{tiled}
+use Rattle.line.specs.Reading.{LIST_MAX, refuses, acceptedOf, pairsFrom, namedFrom, headed, readLine}
 use Rattle.line.specs.Reading.{readingOf}
-use Rattle.line.specs.Effects.{entriesOf}
-use Rattle.line.specs.Folds.{flagsOf, AllGo, after}
+use Rattle.line.specs.Effects.{entriesOf, AllGo}
+use Rattle.line.specs.Folds.{flagsOf, after}
 use Rattle.line.proofs.ReadingLaws.{line-head}
 use Rattle.line.proofs.FoldLaws.{pairs-fit}
-use Rattle.line.proofs.JoinLaws.{Free, AllFree, joined, lineOf, later-fields, first-after, take-before}
+use Rattle.line.proofs.JoinLaws.{Free, AllFree, lineOf, later-fields, first-after, take-before}
 
 -- a written UUID is read as itself
 pub guid-back : (u : Uuid) → Small u → guidOf (uuidText u) ≡ Up.Parsed (record { id = u; form = Fm.Simple })
@@ -46,7 +47,7 @@ named k n = record { list = []; nameStart = 0 + k + 1; nameLen = length n; isDef
 module _ (buttons axes : List ℕ) where
   -- what a line with a name field reads as
   abbrev pub shaped : UuidParse → ℕ → List ℕ → List (List ℕ) → SdlMapping
-  shaped Up.Invalid k n fs = parseError Ek.InvalidGuid 0
+  shaped Up.Invalid k n fs = refuses (refusalAt 1 0)
   shaped (Up.Parsed u) k n fs = pairsFrom (0 + k + 1 + length n + 1) fs (toMap (named k n)) buttons axes
 
   no-field : {A : Type 0} (n : List ℕ) (fs : List (List ℕ)) → [] ≡ n ∷ fs → A
@@ -85,7 +86,7 @@ module _ (buttons axes : List ℕ) (u n : List ℕ) (fs : List (List ℕ)) (free
   reads-back id g v b a go fits =
       let s = lineOf u n fs in
       let shape = line-shape buttons axes s n fs (later-fields u n fs free-u free) in
-      let first = take-before (byte ",") u (joined (n ∷ fs)) free-u in
-      let k = first-after (byte ",") u (joined (n ∷ fs)) free-u in
+      let first = take-before (byte ",") u (tiled (n ∷ fs)) free-u in
+      let k = first-after (byte ",") u (tiled (n ∷ fs)) free-u in
       rw (v, le-leb (length buttons) LIST_MAX b, le-leb (length axes) LIST_MAX a, shape, first, k, g)
       (pairs-fit buttons axes fs (0 + length u + 1 + length n + 1) (named (length u) n) go fits)

@@ -19,15 +19,14 @@ use Rattle.line.specs.Fields.{findFrom, field, fieldsOf}
 use Rattle.line.specs.Puts.{putsOf}
 use Rattle.line.specs.Walker.{guidOf, stepped, uuidStep, fieldStep, stepOf}
 use Rattle.line.specs.Pairs.{refuse}
-use Rattle.line.specs.Reading.{parseError, acceptedOf, follow, withName, taken, pairsFrom, namedFrom, headed}
+use Rattle.line.specs.Refusals.{refusalAt}
+use Rattle.line.specs.Reading.{refuses, acceptedOf, follow, withName, taken, pairsFrom, namedFrom, headed}
 use Rattle.line.specs.Reading.{lineFrom}
 use Rattle.line.specs.declared.parser.State.{State}
 use Rattle.line.specs.declared.parser.State.the-variants as St
 use Rattle.line.specs.declared.parser.Stepped.{Stepped}
 use Rattle.line.specs.declared.parser.Token.the-variants as Tk
 use Rattle.line.specs.declared.parser.Answer.the-variants.{Found}
-use Rattle.line.specs.declared.parser.ErrorKind.{ErrorKind}
-use Rattle.line.specs.declared.parser.ErrorKind.the-variants as Ek
 use Rattle.line.specs.declared.reading.ParseSdlMappingError.{ParseSdlMappingError}
 use Rattle.line.specs.declared.reading.SdlAnswer.the-variants.{Accepted, Refused}
 use Rattle.line.specs.declared.reading.SdlMapping.{SdlMapping}
@@ -35,17 +34,17 @@ use Rattle.line.proofs.FieldLaws.{ahead, field-length, fields-at}
 
 -- ---- what is left to read
 -- a walker that has stopped
-abbrev stoppedFrom : ErrorKind → ℕ → List ℕ → Mapping → SdlMapping
-stoppedFrom k p [] m = acceptedOf m
-stoppedFrom k p (b ∷ s) m = parseError k p
+abbrev stoppedFrom : ℕ → ℕ → List ℕ → Mapping → SdlMapping
+stoppedFrom n p [] m = acceptedOf m
+stoppedFrom n p (b ∷ s) m = refuses (refusalAt n p)
 
 -- from p on, by the walker's state
 unfoldable pub restOf : List ℕ → ℕ → State → Mapping → List ℕ → List ℕ → SdlMapping
 restOf s p St.Uuid m buttons axes = lineFrom p (drop p s) m buttons axes
 restOf s p St.Name m buttons axes = namedFrom p (fieldsOf (drop p s)) m buttons axes
 restOf s p St.KeyVal m buttons axes = pairsFrom p (fieldsOf (drop p s)) m buttons axes
-restOf s p St.Invalid m buttons axes = stoppedFrom Ek.InvalidParserState 0 (drop p s) m
-restOf s p St.NotUtf8 m buttons axes = stoppedFrom Ek.NotUtf8 (validRun s) (drop p s) m
+restOf s p St.Invalid m buttons axes = stoppedFrom 9 0 (drop p s) m
+restOf s p St.NotUtf8 m buttons axes = stoppedFrom 10 (validRun s) (drop p s) m
 
 pub rest-done : (s : List ℕ) (p : ℕ) (st : State) (m : Mapping) (buttons axes : List ℕ) → length s ≤ p
     → restOf s p st m buttons axes ≡ acceptedOf m
@@ -84,9 +83,9 @@ same-end s p k h = by (eqb k (length (drop p s))) refl
 module _ (s : List ℕ) (p k : ℕ) (m : Mapping) (buttons axes : List ℕ) where
   -- a UUID, and whether the line ends after it
   uuid-cut : (u : Spelled) (t : Bool)
-      → pick t (parseError Ek.UnexpectedEnd 0) (namedFrom (p + k + 1) (fieldsOf (drop (k + 1) (drop p s)))
+      → pick t (refuses (refusalAt 2 0)) (namedFrom (p + k + 1) (fieldsOf (drop (k + 1) (drop p s)))
       (withName m (p + k + 1) 0) buttons axes)
-      ≡ onward s p m (pick t (stepped (refuse Ek.UnexpectedEnd 0) p St.Invalid)
+      ≡ onward s p m (pick t (stepped (refuse 2 0) p St.Invalid)
       (stepped (Found (Tk.Uuid (u .id))) (p + k + 1) St.Name)) buttons axes
   unfolding taken restOf putsOf
   uuid-cut u true = refl
@@ -124,9 +123,9 @@ refused-not e h = let z : _≡_ {A = ℕ} 0 1 = cc in absurd (omega arith)
 
 module _ (p e n : ℕ) (m : Mapping) (buttons axes : List ℕ) (h : p ≤ e) where
   uuid-ends : (u : Spelled) (t : Bool)
-      → turn m (pick t (stepped (refuse Ek.UnexpectedEnd 0) p St.Invalid) (stepped (Found (Tk.Uuid (u .id))) (e + 1) St.Name))
+      → turn m (pick t (stepped (refuse 2 0) p St.Invalid) (stepped (Found (Tk.Uuid (u .id))) (e + 1) St.Name))
       p buttons axes .answer ≡ Accepted
-      → p < (pick t (stepped (refuse Ek.UnexpectedEnd 0) p St.Invalid)
+      → p < (pick t (stepped (refuse 2 0) p St.Invalid)
       (stepped (Found (Tk.Uuid (u .id))) (e + 1) St.Name)) .pos
   unfolding taken
   uuid-ends u true a = refused-not _ a

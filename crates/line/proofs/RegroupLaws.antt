@@ -23,9 +23,10 @@ use Rattle.line.specs.declared.reading.SdlAnswer.the-variants.{Accepted}
 use Rattle.line.specs.Maps.{CODES_MAX, MapView, toMap, putEntry, putsInto}
 use Rattle.line.specs.Fields.{firstField, laterFields}
 use Rattle.line.specs.Walker.{guidOf}
-use Rattle.line.specs.Reading.{acceptedOf, refusedOf, pairsFrom, readLine, readingOf, listsFit}
-use Rattle.line.specs.Effects.{effectOf, entriesOf}
-use Rattle.line.specs.Folds.{flagsOf, AllGo, orAll, after}
+use Rattle.line.specs.Refusals.{refusal}
+use Rattle.line.specs.Reading.{refuses, acceptedOf, pairsFrom, readLine, readingOf, listsFit}
+use Rattle.line.specs.Effects.{effectOf, entriesOf, AllGo}
+use Rattle.line.specs.Folds.{flagsOf, orAll, after}
 use Rattle.line.specs.Regrouping.{Permuted, none, keep, swap, then, In, here, there, Alike, Regrouped}
 use Rattle.line.specs.Regrouping.{ReadsAlike}
 use Rattle.line.proofs.PutLaws.{put-commute}
@@ -154,9 +155,9 @@ module _ (buttons axes : List ℕ) where
     unfolding readingOf
     line-reads-alike a ok = text (isUtf8 s) refl
       where
-        lists : (b : Bool) → pick b (readLine s buttons axes) (refusedOf Pe.ListTooLong) .answer ≡ Accepted
-            → pick b (readLine t buttons axes) (refusedOf Pe.ListTooLong)
-            ≡ pick b (readLine s buttons axes) (refusedOf Pe.ListTooLong)
+        lists : (b : Bool) → pick b (readLine s buttons axes) (refuses (refusal 12)) .answer ≡ Accepted
+            → pick b (readLine t buttons axes) (refuses (refusal 12))
+            ≡ pick b (readLine s buttons axes) (refuses (refusal 12))
         lists true k = line-regrouped a k
         lists false k = refl
 

@@ -20,7 +20,7 @@ use Rattle.line.specs.Buttons as B
 use Rattle.line.specs.Axes as A
 use Rattle.line.specs.Elements.{codeOf}
 use Rattle.line.specs.Maps.{entryOf, MapView, toMap, emptyMap, putEntry, putOf, mapOf}
-use Rattle.line.specs.Tables.{axesSdl, axes, rowFrom, keyRow}
+use Rattle.line.specs.Tables.{«AXES_SDL», AXES, rowFrom, keyRow}
 use Rattle.line.specs.Fields.{countOf, fieldsOf}
 use Rattle.line.specs.Values.{axisValueOf, signedOf, hatOf, valueOf}
 use Rattle.line.specs.Pairs.{halfOf, keyedOf, pairOf}
@@ -35,11 +35,11 @@ use Rattle.line.proofs.Samples.{U, button}
 abbrev BUTTONS : List ℕ
 BUTTONS = 0x10130 ∷ []
 
-abbrev AXES : List ℕ
-AXES = 0x30000 ∷ []
+abbrev padAxes : List ℕ
+padAxes = 0x30000 ∷ []
 
 abbrev read : List ℕ → SdlMapping
-read s = readingOf s BUTTONS AXES
+read s = readingOf s BUTTONS padAxes
 
 -- accepted, with these entries, the name T and no flags
 abbrev accepted : List Entry → SdlMapping
@@ -74,9 +74,9 @@ same-pairs =
     }
 
 -- what the two pairs put
-pub both-put : entriesOf (ascii "a:b0" ∷ ascii "leftx:a0" ∷ []) BUTTONS AXES ≡ south ∷ leftStick ∷ []
+pub both-put : entriesOf (ascii "a:b0" ∷ ascii "leftx:a0" ∷ []) BUTTONS padAxes ≡ south ∷ leftStick ∷ []
 unfolding entriesOf answerEffect putsOf listed pairOf keyedOf halfOf valueOf signedOf axisValueOf countOf firstOf same
-    readDigits unsigned indexNumber axesSdl axes rowFrom keyRow
+    readDigits unsigned indexNumber «AXES_SDL» AXES rowFrom keyRow
 both-put = refl
 
 abbrev codeIn : Entry → ℕ
@@ -112,7 +112,7 @@ two-alike e f i j c = two-by e f c (member i) (member j)
 pub button-first : read buttonFirst ≡ accepted (south ∷ leftStick ∷ [])
 unfolding readingOf readLine lineFrom namedFrom pairsFrom taken putOne putsOf hatPuts dpadAxis hatCodes listed fieldsOf
     pairOf keyedOf halfOf valueOf hatOf signedOf axisValueOf guidOf countOf firstOf emptyMap putEntry putOf toMap same
-    readDigits unsigned indexNumber begins firstLength charLength runOf validRun isUtf8 axesSdl axes rowFrom keyRow
+    readDigits unsigned indexNumber begins firstLength charLength runOf validRun isUtf8 «AXES_SDL» AXES rowFrom keyRow
     hexDigit readHex hyphenated uuidOf
 button-first = refl
 
@@ -122,7 +122,7 @@ unfolding same-pairs
 axis-first =
     let alike = subst (λ (es : List Entry). Alike es) (sym both-put) two-alike in
     let ok = ap (λ (r : SdlMapping). r .answer) button-first in
-    regrouped buttonFirst axisFirst BUTTONS AXES same-pairs alike ok ∙ button-first
+    regrouped buttonFirst axisFirst BUTTONS padAxes same-pairs alike ok ∙ button-first
 
 -- ---- other maps: `U,T,a:b0,b:b0` and `U,T,b:b0,a:b0`, where 10130 is put to South and to East
 abbrev southFirst : List ℕ
@@ -148,7 +148,7 @@ pub the-later-stays : (read southFirst ≡ accepted (button 0x10130 B.East ∷ [
     × (read eastFirst ≡ accepted (button 0x10130 B.South ∷ []))
 unfolding readingOf readLine lineFrom namedFrom pairsFrom taken putOne putsOf hatPuts dpadAxis hatCodes listed fieldsOf
     pairOf keyedOf halfOf valueOf hatOf signedOf axisValueOf guidOf countOf firstOf emptyMap putEntry putOf toMap same
-    readDigits unsigned indexNumber begins firstLength charLength runOf validRun isUtf8 axesSdl axes rowFrom keyRow
+    readDigits unsigned indexNumber begins firstLength charLength runOf validRun isUtf8 «AXES_SDL» AXES rowFrom keyRow
     hexDigit readHex hyphenated uuidOf
 the-later-stays = (refl, refl)
 
@@ -174,5 +174,5 @@ unlike e = let z : _≡_ {A = ℕ} 1 2 = ap (λ (r : SdlMapping). button0 r) e i
 pub premise-needed : WithoutPremise → ⊥
 premise-needed w =
     let east = the-later-stays .0 in
-    let same = w southFirst eastFirst BUTTONS AXES same-pairs-too (ap (λ (r : SdlMapping). r .answer) east) in
+    let same = w southFirst eastFirst BUTTONS padAxes same-pairs-too (ap (λ (r : SdlMapping). r .answer) east) in
     unlike (sym (the-later-stays .1) ∙ same ∙ east)

@@ -18,7 +18,6 @@ use Rattle.line.specs.declared.mapping.Mapping.{Mapping}
 use Rattle.line.specs.declared.mapping.PutAnswer.{PutAnswer}
 use Rattle.line.specs.declared.mapping.PutResult.{PutResult}
 use Rattle.line.specs.declared.mapping.PutResult.the-variants.{Stored, Full}
-use Rattle.line.specs.declared.parser.ErrorKind.the-variants as Ek
 use Rattle.line.specs.declared.parser.Answer.{Answer}
 use Rattle.line.specs.declared.parser.Answer.the-variants as An
 use Rattle.line.specs.declared.reading.puts.Puts.{Puts}
@@ -31,7 +30,8 @@ use Rattle.line.specs.Fields.{fieldsOf, firstField}
 use Rattle.line.specs.Maps.{CODES_MAX, MapView, toMap, emptyView, emptyMap, Ascending, putEntry, putOf}
 use Rattle.line.specs.Pairs.{pairOf}
 use Rattle.line.specs.Puts.{putsOf}
-use Rattle.line.specs.Reading.{acceptedOf, refusedOf, parseError, follow, withName, withHat, storedAt, putOne}
+use Rattle.line.specs.Refusals.{refusal, refusalAt}
+use Rattle.line.specs.Reading.{acceptedOf, refusedOf, refuses, follow, withName, withHat, storedAt, putOne}
 use Rattle.line.specs.Reading.{thenPut, flagged, putAll, skips, taken, pairsFrom, namedFrom, headed, lineFrom}
 use Rattle.line.specs.Reading.{readLine, listsFit, readingOf}
 use Rattle.line.specs.Shapes.{Shaped}
@@ -160,7 +160,7 @@ module _ (buttons axes : List ℕ) where
       → Shaped (headed g p k l m buttons axes .map)
   shaped-headed Up.Invalid p k l m s = shaped-empty
   shaped-headed (Up.Parsed u) p k l m s =
-      shaped-pick (eqb k (length l)) (parseError Ek.UnexpectedEnd 0)
+      shaped-pick (eqb k (length l)) (refuses (refusalAt 2 0))
       (namedFrom (p + k + 1) (fieldsOf (drop (k + 1) l)) (withName m (p + k + 1) 0) buttons axes)
       shaped-empty
       (shaped-named (fieldsOf (drop (k + 1) l)) (p + k + 1) (withName m (p + k + 1) 0)
@@ -175,8 +175,8 @@ module _ (buttons axes : List ℕ) where
   pub reading-shaped : (l : List ℕ) → Shaped (readingOf l buttons axes .map)
   unfolding readingOf readLine
   reading-shaped l =
-      shaped-pick (isUtf8 l) (pick (listsFit buttons axes) (readLine l buttons axes) (refusedOf Pe.ListTooLong))
-      (parseError Ek.NotUtf8 (validRun l))
-      (shaped-pick (listsFit buttons axes) (readLine l buttons axes) (refusedOf Pe.ListTooLong)
+      shaped-pick (isUtf8 l) (pick (listsFit buttons axes) (readLine l buttons axes) (refuses (refusal 12)))
+      (refuses (refusalAt 10 (validRun l)))
+      (shaped-pick (listsFit buttons axes) (readLine l buttons axes) (refuses (refusal 12))
       (shaped-line l 0 emptyMap shaped-empty) shaped-empty)
       shaped-empty

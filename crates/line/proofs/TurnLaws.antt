@@ -27,8 +27,9 @@ use Rattle.line.specs.declared.reading.SdlMapping.{SdlMapping}
 use Rattle.line.specs.declared.reading.Turn.{Turn}
 use Rattle.line.specs.declared.mapping.draft.Draft.{Draft}
 use Rattle.line.specs.Maps.{CODES_MAX, MapView, toMap, unusedEntry, putEntry}
-use Rattle.line.specs.Reading.{acceptedOf, refusedOf, withName, withHat, storedAt, putOne, thenPut, flagged}
-use Rattle.line.specs.Reading.{putAll, skips, taken}
+use Rattle.line.specs.Refusals.{refusalAt}
+use Rattle.line.specs.Reading.{acceptedOf, refusedOf, refuses, withName, withHat, storedAt, putOne, thenPut}
+use Rattle.line.specs.Reading.{flagged, putAll, skips, taken}
 use Rattle.line.specs.Puts.{putsOf}
 use Rattle.line.specs.Inner.{entriesIn, viewIn, draftNamed, draftFlagged, outcome, PutIn, Roomy, Turned}
 use Rattle.line.proofs.ViewLaws.{with, put-toMap, drop-replicate}
@@ -40,13 +41,13 @@ abbrev answered : Bool → Mapping → Mapping → PutAnswer
 answered t m n = pick t (record { answer = Stored; map = m }) (record { answer = Full; map = n })
 
 answer-of : (t : Bool) (m n : Mapping) (p : ℕ) → storedAt (answered t m n .answer) (answered t m n .map) p
-    ≡ pick t (acceptedOf m) (refusedOf (Pe.TooManyCodes p))
+    ≡ pick t (acceptedOf m) (refuses (refusalAt 11 p))
 answer-of true m n p = refl
 answer-of false m n p = refl
 
 one-of : (v : MapView) (e : Entry) (p : ℕ) → putOne (toMap v) e p
     ≡ pick (leb (length (putEntry e (v .list))) CODES_MAX) (acceptedOf (toMap (with v (putEntry e (v .list)))))
-    (refusedOf (Pe.TooManyCodes p))
+    (refuses (refusalAt 11 p))
 unfolding putOne
 one-of v e p = rw (put-toMap v e) (answer-of (leb (length (putEntry e (v .list))) CODES_MAX) _ _ p)
 
@@ -108,8 +109,8 @@ unfolding toMap
 hat-view v flags = refl
 
 flag-answer : (t : Bool) (v : MapView) (p flags : ℕ)
-    → flagged (pick t (acceptedOf (toMap v)) (refusedOf (Pe.TooManyCodes p))) flags
-    ≡ pick t (acceptedOf (toMap (flaggedView v flags))) (refusedOf (Pe.TooManyCodes p))
+    → flagged (pick t (acceptedOf (toMap v)) (refuses (refusalAt 11 p))) flags
+    ≡ pick t (acceptedOf (toMap (flaggedView v flags))) (refuses (refusalAt 11 p))
 flag-answer true v p flags = ap acceptedOf (hat-view v flags)
 flag-answer false v p flags = refl
 
@@ -121,8 +122,8 @@ flag-one v e p flags =
     ∙ sym (one-of (flaggedView v flags) e p)
 
 flag-two-answer : (t : Bool) (v : MapView) (f : Entry) (p flags : ℕ)
-    → flagged (thenPut (pick t (acceptedOf (toMap v)) (refusedOf (Pe.TooManyCodes p))) f p) flags
-    ≡ thenPut (pick t (acceptedOf (toMap (flaggedView v flags))) (refusedOf (Pe.TooManyCodes p))) f p
+    → flagged (thenPut (pick t (acceptedOf (toMap v)) (refuses (refusalAt 11 p))) f p) flags
+    ≡ thenPut (pick t (acceptedOf (toMap (flaggedView v flags))) (refuses (refusalAt 11 p))) f p
 flag-two-answer true v f p flags = flag-one v f p flags
 flag-two-answer false v f p flags = refl
 

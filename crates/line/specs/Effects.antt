@@ -1,6 +1,7 @@
 -- What a pair puts, wherever it stands in a line (document 01, 'Reading').
--- The theorem `regrouped` rests on these definitions; they assume nothing.
+-- The theorems `regrouped` and `eleven-exactly` rest on these definitions; they assume nothing.
 use Prim.Native.Nat.{ℕ}
+use mathlib.Core.Path.{_≡_}
 use mathlib.Core.List.{List, [], _∷_, _++_}
 use mathlib.Core.Bool.{Bool, true, false}
 use Rattle.text.specs.Bytes.{pick}
@@ -47,3 +48,8 @@ effectOf f buttons axes = answerEffect (pairOf f 0) buttons axes
 unfoldable pub entriesOf : List (List ℕ) → List ℕ → List ℕ → List Entry
 entriesOf [] buttons axes = []
 entriesOf (f ∷ fs) buttons axes = effectOf f buttons axes .puts ++ entriesOf fs buttons axes
+
+-- none of the pairs is refused for itself
+unfoldable pub AllGo : List (List ℕ) → List ℕ → List ℕ → Type 0
+AllGo [] buttons axes = Unit {0}
+AllGo (f ∷ fs) buttons axes = (effectOf f buttons axes .goes ≡ true) × AllGo fs buttons axes

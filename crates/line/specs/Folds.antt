@@ -2,8 +2,6 @@
 -- No public contract rests on these: a reader may leave them out.
 use Prim.Native.Nat.{ℕ}
 use mathlib.Core.List.{List, [], _∷_, _++_}
-use mathlib.Core.Path.{_≡_}
-use mathlib.Core.Bool.{true}
 use lib.Bits.{bitOr}
 use Rattle.line.specs.declared.mapping.Entry.{Entry}
 use Rattle.line.specs.Maps.{MapView, putsInto}
@@ -13,11 +11,6 @@ use Rattle.line.specs.Effects.{effectOf}
 unfoldable pub flagsOf : List (List ℕ) → List ℕ → List ℕ → List ℕ
 flagsOf [] buttons axes = []
 flagsOf (f ∷ fs) buttons axes = effectOf f buttons axes .flags ++ flagsOf fs buttons axes
-
--- none of the pairs is refused for itself
-unfoldable pub AllGo : List (List ℕ) → List ℕ → List ℕ → Type 0
-AllGo [] buttons axes = Unit {0}
-AllGo (f ∷ fs) buttons axes = (effectOf f buttons axes .goes ≡ true) × AllGo fs buttons axes
 
 -- flags or-ed in
 unfoldable pub orAll : List ℕ → ℕ → ℕ

@@ -14,6 +14,9 @@ use Rattle.line.specs.declared.mapping.Place.the-variants.{Held, Before}
 use Rattle.line.specs.declared.ev.AxisOrBtn.{AxisOrBtn}
 use Rattle.line.specs.declared.ev.AxisOrBtn.the-variants as El
 use Rattle.line.specs.declared.mapping.Mapping.{Mapping}
+use Rattle.line.specs.declared.parser.ErrorKind.{ErrorKind}
+use Rattle.line.specs.declared.parser.Answer.{Answer}
+use Rattle.line.specs.declared.parser.Answer.the-variants as An
 use Rattle.line.specs.declared.reading.SdlAnswer.{SdlAnswer}
 use Rattle.line.specs.declared.reading.SdlAnswer.the-variants as Sd
 use Rattle.line.specs.declared.reading.SdlMapping.{SdlMapping}
@@ -22,7 +25,7 @@ use Rattle.line.specs.declared.mapping.draft.Draft.{Draft}
 use Rattle.line.specs.Maps.{CODES_MAX, MapView, toMap, putEntry}
 use Rattle.line.specs.Numbers.{entryIn}
 use Rattle.line.specs.Reading.{acceptedOf, refusedOf}
-use Rattle.line.specs.Tables.{nameRows, axes}
+use Rattle.line.specs.Tables.{nameRows, AXES}
 
 -- the bytes before the first 0: the name that a row of the program's table holds
 unfoldable pub untilZero : List ℕ → List ℕ
@@ -36,7 +39,7 @@ kindAndNumber (El.Btn b) = 0 ∷ b .0 ∷ []
 
 -- `AXES` so
 unfoldable pub kindRows : List (List ℕ)
-kindRows = map kindAndNumber axes
+kindRows = map kindAndNumber AXES
 
 -- both tables, as they are lent to a search
 abbrev pub Lent : List (List ℕ) → List (List ℕ) → Type 0
@@ -92,6 +95,10 @@ draftFlagged d flags =
       «name_len» = d .«name_len»;
       «hats_mapped» = bitOr (d .«hats_mapped») flags;
     }
+
+-- a refusal of the walker by its case
+abbrev pub refusedAs : ErrorKind → ℕ → Answer
+refusedAs k p = An.Refused (record { kind = k; position = p })
 
 -- an answer and the map after it
 abbrev pub outcome : SdlAnswer → Mapping → SdlMapping

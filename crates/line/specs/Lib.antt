@@ -2,6 +2,8 @@
 pub mod Buttons
 pub mod Axes
 pub mod Elements
+pub mod Kinds
+pub mod Refusals
 pub mod Maps
 pub mod Numbers
 pub mod Tables
@@ -12,13 +14,17 @@ pub mod Walker
 pub mod Parser
 pub mod Puts
 pub mod Reading
-pub mod Refusals
 pub mod Calls
 pub mod Shapes
 -- pairs in another order
 pub mod Effects
 pub mod Regrouping
+-- what theorems say of the definitions
+pub mod Least
+pub mod Tiles
+pub mod Places
+pub mod Overfull
+pub mod Walks
 -- what private functions and proofs need
 pub mod Inner
-pub mod Walks
 pub mod Folds

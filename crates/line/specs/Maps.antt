@@ -13,7 +13,7 @@ use Rattle.line.specs.declared.mapping.Entry.{Entry}
 use Rattle.line.specs.declared.parser.Ranges.{Ranges}
 use Rattle.line.specs.declared.parser.AxisRange.the-variants as Ar
 use Rattle.line.specs.declared.mapping.Mapping.{Mapping}
-use Rattle.line.specs.declared.mapping.PutResult.the-variants.{Stored, Full}
+use Rattle.line.specs.declared.mapping.PutResult.the-variants.{Stored}
 use Rattle.line.specs.declared.mapping.PutAnswer.{PutAnswer}
 use Rattle.line.specs.declared.mapping.Mapped.{Mapped}
 use Rattle.line.specs.declared.mapping.Mapped.the-variants.{To, Nothing}
@@ -22,7 +22,9 @@ use Rattle.line.specs.declared.mapping.Entered.the-variants.{Is, Absent}
 use Rattle.line.specs.declared.mapping.Source.{Source}
 use Rattle.line.specs.declared.mapping.Source.the-variants.{From, Nowhere}
 use Rattle.line.specs.Buttons as B
+use Rattle.line.specs.declared.refusal.Outcome.the-variants.{Refuses}
 use Rattle.line.specs.Elements.{codeOf, sameElement}
+use Rattle.line.specs.Refusals.{refusal, putResultOf}
 
 -- ---- "A map is a count of at most 256 and as many entries (code, element), ascending by code"
 abbrev pub CODES_MAX : ℕ
@@ -109,12 +111,12 @@ withEntries m es =
       «hats_mapped» = m .«hats_mapped»;
     }
 
--- "257 codes in a map": refused, the map unchanged
+-- "257 codes in a map": 11, the map unchanged
 unfoldable pub putOf : Mapping → Entry → PutAnswer
 putOf m e =
     pick (leb (length (putEntry e (held m))) CODES_MAX)
     (record { answer = Stored; map = withEntries m (putEntry e (held m)) })
-    (record { answer = Full; map = m })
+    (record { answer = putResultOf (Refuses (refusal 11)); map = m })
 
 -- ---- "`map`: the first entry of that code, or none"
 unfoldable pub mapOf : List Entry → Code → Mapped

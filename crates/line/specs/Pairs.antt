@@ -12,19 +12,18 @@ use Rattle.line.specs.declared.parser.AxisRange.{AxisRange}
 use Rattle.line.specs.declared.parser.AxisRange.the-variants as Ar
 use Rattle.line.specs.declared.parser.Ranges.{Ranges}
 use Rattle.line.specs.declared.parser.Token.the-variants as Tk
-use Rattle.line.specs.declared.parser.ErrorKind.{ErrorKind}
-use Rattle.line.specs.declared.parser.ErrorKind.the-variants as Ek
 use Rattle.line.specs.declared.parser.Answer.{Answer}
 use Rattle.line.specs.declared.parser.Answer.the-variants.{Found, Refused}
 use Rattle.line.specs.declared.parser.value.Value.{Value}
 use Rattle.line.specs.declared.parser.value.Value.the-variants as Vl
+use Rattle.line.specs.Kinds.{kindOf}
 use Rattle.line.specs.Tables.{keyElement}
 use Rattle.line.specs.Fields.{countOf}
 use Rattle.line.specs.Values.{startsWith, valueOf}
 
--- a refusal at a place
-abbrev pub refuse : ErrorKind → ℕ → Answer
-refuse k p = Refused (record { kind = k; position = p })
+-- a refusal by document 01's number, at a place
+abbrev pub refuse : ℕ → ℕ → Answer
+refuse n p = Refused (record { kind = kindOf n; position = p })
 
 -- "a leading `+` or `-` of the key sets the output half and is cut off"
 unfoldable pub halfOf : List ℕ → AxisRange
@@ -43,19 +42,19 @@ rangesOf input output inverted = record { input = input; output = output; invert
 -- "Last, the key is sought in `AXES_SDL` and `AXES`, ..: not there, 5 for an `a` value, else 6."
 abbrev pub axisToken : ℕ → Ranges → KeyElement → ℕ → Answer
 axisToken n r (Ke.Is e) p = Found (Tk.AxisMapping n e r)
-axisToken n r Ke.Missing p = refuse Ek.UnknownAxis p
+axisToken n r Ke.Missing p = refuse 5 p
 
 abbrev pub buttonToken : ℕ → Ranges → KeyElement → ℕ → Answer
 buttonToken n r (Ke.Is e) p = Found (Tk.ButtonMapping n e r)
-buttonToken n r Ke.Missing p = refuse Ek.UnknownButton p
+buttonToken n r Ke.Missing p = refuse 6 p
 
 abbrev pub hatToken : ℕ → ℕ → Ranges → KeyElement → ℕ → Answer
 hatToken h d r (Ke.Is e) p = Found (Tk.HatMapping h d e r)
-hatToken h d r Ke.Missing p = refuse Ek.UnknownButton p
+hatToken h d r Ke.Missing p = refuse 6 p
 
 -- the value (4) comes before the key (5, 6)
 abbrev pub mappedOf : Value → AxisRange → KeyElement → ℕ → Answer
-mappedOf (Vl.Bad place) out to p = refuse Ek.InvalidValue place
+mappedOf (Vl.Bad place) out to p = refuse 4 place
 mappedOf (Vl.Axis n half inverted) out to p = axisToken n (rangesOf half out inverted) to p
 mappedOf (Vl.Button n) out to p = buttonToken n (rangesOf Ar.Full out false) to p
 mappedOf (Vl.Hat h d) out to p = hatToken h d (rangesOf Ar.Full out false) to p
@@ -63,7 +62,7 @@ mappedOf (Vl.Hat h d) out to p = hatToken h d (rangesOf Ar.Full out false) to p
 -- a key and its value, which stands at place `at` of the line: "empty value, 8; key `platform`, a platform token"
 unfoldable pub keyedOf : List ℕ → List ℕ → ℕ → ℕ → Answer
 keyedOf k v p at =
-    pick (eqb (length v) 0) (refuse Ek.EmptyValue p)
+    pick (eqb (length v) 0) (refuse 8 p)
     (pick (same k (ascii "platform")) (Found (Tk.Platform at (length v)))
     (mappedOf (valueOf p v) (halfOf k) (keyElement (drop (skipOf (halfOf k)) k)) p))
 
@@ -73,4 +72,4 @@ pairOf s p =
     let colon = firstOf (byte ":") s in
     pick (eqb (countOf (byte ":") s) 1)
     (keyedOf (take colon s) (drop (colon + 1) s) p (p + (colon + 1)))
-    (refuse Ek.InvalidKeyValPair p)
+    (refuse 3 p)

@@ -2,11 +2,11 @@
 -- Public contracts rest on these definitions; they assume nothing.
 use Prim.Native.Nat.{ℕ, _+_}
 use mathlib.Core.List.{List, [], _∷_}
-use mathlib.Core.Bool.{Bool, true, false}
+use mathlib.Core.Bool.{Bool, _&&_}
 use lib.Bits.{bitOr}
 use lib.Dec.{eqb, leb}
 use lib.ListN.{length, drop}
-use Rattle.text.specs.Bytes.{pick, both, byte, firstOf}
+use Rattle.text.specs.Bytes.{pick, byte, firstOf}
 use Rattle.text.specs.Utf8.{validRun, isUtf8}
 use Rattle.text.specs.declared.uuid.UuidParse.{UuidParse}
 use Rattle.text.specs.declared.uuid.UuidParse.the-variants as Up
@@ -15,7 +15,6 @@ use Rattle.line.specs.declared.mapping.Mapping.{Mapping}
 use Rattle.line.specs.declared.mapping.PutResult.{PutResult}
 use Rattle.line.specs.declared.mapping.PutResult.the-variants.{Stored, Full}
 use Rattle.line.specs.declared.parser.ErrorKind.{ErrorKind}
-use Rattle.line.specs.declared.parser.ErrorKind.the-variants as Ek
 use Rattle.line.specs.declared.parser.Answer.{Answer}
 use Rattle.line.specs.declared.parser.Answer.the-variants as An
 use Rattle.line.specs.declared.reading.puts.Puts.{Puts}
@@ -25,7 +24,10 @@ use Rattle.line.specs.declared.reading.ParseSdlMappingError.the-variants
 use Rattle.line.specs.declared.reading.SdlAnswer.{SdlAnswer}
 use Rattle.line.specs.declared.reading.SdlAnswer.the-variants.{Accepted, Refused}
 use Rattle.line.specs.declared.reading.SdlMapping.{SdlMapping}
+use Rattle.line.specs.declared.refusal.Refusal.{Refusal}
 use Rattle.line.specs.Maps.{emptyMap, putOf}
+use Rattle.line.specs.Kinds.{kindNumber}
+use Rattle.line.specs.Refusals.{refusal, refusalAt, readingErrorOf}
 use Rattle.line.specs.Fields.{fieldsOf, firstField}
 use Rattle.line.specs.Pairs.{pairOf}
 use Rattle.line.specs.Walker.{guidOf}
@@ -39,9 +41,9 @@ refusedOf e = record { answer = Refused e; map = emptyMap }
 abbrev pub acceptedOf : Mapping → SdlMapping
 acceptedOf m = record { answer = Accepted; map = m }
 
--- a refusal of the walker
-abbrev pub parseError : ErrorKind → ℕ → SdlMapping
-parseError k p = refusedOf (Pe.ParseError (record { kind = k; position = p }))
+-- by document 01's number, with its place where it has one
+abbrev pub refuses : Refusal → SdlMapping
+refuses r = refusedOf (readingErrorOf r)
 
 -- what follows an accepted part; a refusal stays
 abbrev pub follow : SdlAnswer → SdlMapping → SdlMapping → SdlMapping
@@ -76,7 +78,7 @@ withHat m d =
 -- "257 codes in a map": 11 at p
 abbrev pub storedAt : PutResult → Mapping → ℕ → SdlMapping
 storedAt Stored m p = acceptedOf m
-storedAt Full m p = refusedOf (Pe.TooManyCodes p)
+storedAt Full m p = refuses (refusalAt 11 p)
 
 -- an entry put by the pair at p; one after an accepted put; the flags after accepted puts
 unfoldable pub putOne : Mapping → Entry → ℕ → SdlMapping
@@ -94,19 +96,11 @@ putAll m Nothing p = acceptedOf m
 putAll m (Name start len) p = acceptedOf (withName m start len)
 putAll m (One e flags) p = flagged (putOne m e p) flags
 putAll m (Two e f flags) p = flagged (thenPut (putOne m e p) f p) flags
-putAll m UnknownHatDirection p = refusedOf Pe.UnknownHatDirection
+putAll m UnknownHatDirection p = refuses (refusalAt 7 0)
 
 -- "An 8 is skipped"
 abbrev pub skips : ErrorKind → Bool
-skips Ek.InvalidGuid = false
-skips Ek.InvalidKeyValPair = false
-skips Ek.InvalidValue = false
-skips Ek.EmptyValue = true
-skips Ek.UnknownAxis = false
-skips Ek.UnknownButton = false
-skips Ek.InvalidParserState = false
-skips Ek.UnexpectedEnd = false
-skips Ek.NotUtf8 = false
+skips k = eqb (kindNumber k) 8
 
 -- what the walker answers at p, after which the line goes on at q
 unfoldable pub taken : Mapping → Answer → ℕ → ℕ → List ℕ → List ℕ → SdlMapping
@@ -129,9 +123,9 @@ namedFrom p (f ∷ fs) m buttons axes = pairsFrom (p + length f + 1) fs (withNam
 
 -- the first field, which starts at p and is the first k bytes of s: no UUID, 1; no comma, 2
 abbrev pub headed : UuidParse → ℕ → ℕ → List ℕ → Mapping → List ℕ → List ℕ → SdlMapping
-headed Up.Invalid p k s m buttons axes = parseError Ek.InvalidGuid 0
+headed Up.Invalid p k s m buttons axes = refuses (refusalAt 1 0)
 headed (Up.Parsed u) p k s m buttons axes =
-    pick (eqb k (length s)) (parseError Ek.UnexpectedEnd 0)
+    pick (eqb k (length s)) (refuses (refusalAt 2 0))
     (namedFrom (p + k + 1) (fieldsOf (drop (k + 1) s)) (withName m (p + k + 1) 0) buttons axes)
 
 -- the line s, which starts at p: "empty line 0, 0"
@@ -148,11 +142,11 @@ abbrev pub LIST_MAX : ℕ
 LIST_MAX = 1024
 
 abbrev pub listsFit : List ℕ → List ℕ → Bool
-listsFit buttons axes = both (leb (length buttons) LIST_MAX) (leb (length axes) LIST_MAX)
+listsFit buttons axes = leb (length buttons) LIST_MAX && leb (length axes) LIST_MAX
 
 -- "Order: reading 10, 12, then line order."
 unfoldable pub readingOf : List ℕ → List ℕ → List ℕ → SdlMapping
 readingOf s buttons axes =
     pick (isUtf8 s)
-    (pick (listsFit buttons axes) (readLine s buttons axes) (refusedOf Pe.ListTooLong))
-    (parseError Ek.NotUtf8 (validRun s))
+    (pick (listsFit buttons axes) (readLine s buttons axes) (refuses (refusal 12)))
+    (refuses (refusalAt 10 (validRun s)))

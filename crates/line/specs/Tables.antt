@@ -1,11 +1,11 @@
 -- The key names of mapping lines and the elements that they name (document 01, 'Walker' and 'Build').
 -- Public contracts rest on these definitions; they assume nothing.
 use Prim.Native.Nat.{ℕ, zero, suc, _+_, _-_}
-use mathlib.Core.Bool.{Bool, true, false}
+use mathlib.Core.Bool.{Bool, true, false, _&&_}
 use mathlib.Core.List.{List, [], _∷_, _++_, map}
 use lib.Dec.{ltb, eqb}
 use lib.ListN.{length, getD, replicate}
-use Rattle.text.specs.Bytes.{pick, both, ascii, same}
+use Rattle.text.specs.Bytes.{pick, ascii, same}
 use Rattle.line.specs.declared.ev.AxisOrBtn.{AxisOrBtn}
 use Rattle.line.specs.declared.ev.AxisOrBtn.the-variants.{Axis, Btn}
 use Rattle.line.specs.declared.tables.Order.{Order}
@@ -28,8 +28,8 @@ abbrev pub IDENT_MAX : ℕ
 IDENT_MAX = 13
 
 -- `AXES_SDL`, row by row
-unfoldable pub axesSdl : List (List ℕ)
-axesSdl =
+unfoldable pub «AXES_SDL» : List (List ℕ)
+«AXES_SDL» =
     map ascii
     (
     "a" ∷ "b" ∷ "back" ∷ "c" ∷ "dpdown" ∷ "dpleft" ∷ "dpright" ∷
@@ -39,8 +39,8 @@ axesSdl =
     "righty" ∷ "rightz" ∷ "start" ∷ "touchpad" ∷ "x" ∷ "y" ∷ "z" ∷ [])
 
 -- `AXES`, row by row
-unfoldable pub axes : List AxisOrBtn
-axes =
+unfoldable pub AXES : List AxisOrBtn
+AXES =
     Btn B.South ∷ Btn B.East ∷ Btn B.Select ∷ Btn B.C ∷ Btn B.DPadDown ∷
     Btn B.DPadLeft ∷ Btn B.DPadRight ∷ Btn B.DPadUp ∷ Btn B.Mode ∷ Btn B.LeftTrigger ∷
     Btn B.LeftThumb ∷ Btn B.LeftTrigger2 ∷ Axis A.LeftStickX ∷ Axis A.LeftStickY ∷ Axis A.LeftZ ∷
@@ -51,7 +51,7 @@ axes =
 
 -- the name in a row
 abbrev pub nameAt : ℕ → List ℕ
-nameAt i = getD axesSdl i []
+nameAt i = getD «AXES_SDL» i []
 
 -- ---- "the key is sought in `AXES_SDL` and `AXES`"
 -- the first of the names, counted from i, that is the key
@@ -60,11 +60,11 @@ rowFrom i [] key = Nowhere
 rowFrom i (n ∷ ns) key = pick (same n key) (At i) (rowFrom (suc i) ns key)
 
 unfoldable pub keyRow : List ℕ → KeyRow
-keyRow key = rowFrom 0 axesSdl key
+keyRow key = rowFrom 0 «AXES_SDL» key
 
 -- the element that stands in a row
 abbrev pub elementIn : KeyRow → KeyElement
-elementIn (At i) = Is (getD axes i (Btn B.Unknown))
+elementIn (At i) = Is (getD AXES i (Btn B.Unknown))
 elementIn Nowhere = Missing
 
 abbrev pub keyElement : List ℕ → KeyElement
@@ -77,7 +77,7 @@ elementFrom i [] e = Nowhere
 elementFrom i (x ∷ xs) e = pick (sameElement x e) (At i) (elementFrom (suc i) xs e)
 
 unfoldable pub elementRow : AxisOrBtn → KeyRow
-elementRow e = elementFrom 0 axes e
+elementRow e = elementFrom 0 AXES e
 
 abbrev pub nameIn : KeyRow → List ℕ
 nameIn (At i) = nameAt i
@@ -93,7 +93,7 @@ howMany e (x ∷ xs) = pick (sameElement x e) 1 0 + howMany e xs
 
 unfoldable pub oneRow : (ℕ → AxisOrBtn) → ℕ → ℕ → Bool
 oneRow f k zero = true
-oneRow f k (suc n) = both (eqb (howMany (f k) axes) 1) (oneRow f (suc k) n)
+oneRow f k (suc n) = eqb (howMany (f k) AXES) 1 && oneRow f (suc k) n
 
 abbrev pub asButton : ℕ → AxisOrBtn
 asButton k = Btn (record { 0 = k })
@@ -107,7 +107,7 @@ paddedName n = n ++ replicate (IDENT_MAX - length n) 0
 
 -- `AXES_SDL` as the program holds it: each name, filled with zeros
 unfoldable pub nameRows : List (List ℕ)
-nameRows = map paddedName axesSdl
+nameRows = map paddedName «AXES_SDL»
 
 abbrev pub named : List ℕ → Ident
 named n = record { name = paddedName n; len = length n }
@@ -141,7 +141,7 @@ sameOrder Greater Greater = true
 -- a test holds at each entry of a list and its place, counted from i
 abbrev pub every : {A : Type 0} → (ℕ → A → Bool) → ℕ → List A → Bool
 every f i [] = true
-every f i (x ∷ xs) = both (f i x) (every f (suc i) xs)
+every f i (x ∷ xs) = f i x && every f (suc i) xs
 
 -- any two names compare as their places do
 abbrev pub sorted : List (List ℕ) → Bool

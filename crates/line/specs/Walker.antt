@@ -13,7 +13,6 @@ use Rattle.text.specs.declared.uuid.UuidParse.the-variants as Up
 use Rattle.line.specs.declared.parser.State.{State}
 use Rattle.line.specs.declared.parser.State.the-variants as St
 use Rattle.line.specs.declared.parser.Token.the-variants as Tk
-use Rattle.line.specs.declared.parser.ErrorKind.the-variants as Ek
 use Rattle.line.specs.declared.parser.Answer.{Answer}
 use Rattle.line.specs.declared.parser.Answer.the-variants.{Found, End}
 use Rattle.line.specs.declared.parser.Stepped.{Stepped}
@@ -38,9 +37,9 @@ guidOf s =
 
 -- the first field, from p to e of a line of n bytes: "else 1; then 2 if no comma follows"
 abbrev pub uuidStep : UuidParse → ℕ → ℕ → ℕ → Stepped
-uuidStep Up.Invalid p e n = stepped (refuse Ek.InvalidGuid 0) p St.Invalid
+uuidStep Up.Invalid p e n = stepped (refuse 1 0) p St.Invalid
 uuidStep (Up.Parsed u) p e n =
-    pick (eqb e n) (stepped (refuse Ek.UnexpectedEnd 0) p St.Invalid) (stepped (Found (Tk.Uuid (u .id))) (e + 1) St.Name)
+    pick (eqb e n) (stepped (refuse 2 0) p St.Invalid) (stepped (Found (Tk.Uuid (u .id))) (e + 1) St.Name)
 
 -- a step before the line's end, by the state; e is the next comma or the end.
 -- "Second field: the name. Then pairs"; "After either, each further call gives 9"; "gives 10 on every call"
@@ -48,8 +47,8 @@ unfoldable pub fieldStep : List ℕ → ℕ → ℕ → State → Stepped
 fieldStep s p e St.Uuid = uuidStep (guidOf (field s p e)) p e (length s)
 fieldStep s p e St.Name = stepped (Found (Tk.Name p (e - p))) (e + 1) St.KeyVal
 fieldStep s p e St.KeyVal = stepped (pairOf (field s p e) p) (e + 1) St.KeyVal
-fieldStep s p e St.Invalid = stepped (refuse Ek.InvalidParserState 0) p St.Invalid
-fieldStep s p e St.NotUtf8 = stepped (refuse Ek.NotUtf8 (validRun s)) p St.NotUtf8
+fieldStep s p e St.Invalid = stepped (refuse 9 0) p St.Invalid
+fieldStep s p e St.NotUtf8 = stepped (refuse 10 (validRun s)) p St.NotUtf8
 
 -- "At or past the line's end: end."
 unfoldable pub stepOf : List ℕ → ℕ → State → Stepped

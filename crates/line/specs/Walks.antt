@@ -1,22 +1,21 @@
--- How the walker steps through the fields of a line: the laws on walking are stated by these.
--- No public contract rests on these: a reader may leave them out.
-use Prim.Native.Nat.{ℕ, zero, suc, _+_}
+-- The walker steps through exactly the fields of a line: the theorem `walks-line` in ../proofs/WalkLaws.antt.
+-- The theorem rests on these definitions; they assume nothing.
+use Prim.Native.Nat.{ℕ, _+_, _<_}
+use mathlib.Core.Path.{_≡_}
+use mathlib.Core.Bool.{true}
 use mathlib.Core.List.{List, [], _∷_}
-use lib.Dec.{ltb}
 use lib.ListN.{length}
-use Rattle.text.specs.Bytes.{pick}
-use Rattle.line.specs.declared.parser.State.{State}
+use Rattle.text.specs.Bytes.{byte, firstOf}
+use Rattle.text.specs.Utf8.{isUtf8}
+use Rattle.text.specs.declared.uuid.Spelled.{Spelled}
+use Rattle.text.specs.declared.uuid.UuidParse.the-variants as Up
 use Rattle.line.specs.declared.parser.Token.the-variants as Tk
 use Rattle.line.specs.declared.parser.Answer.{Answer}
 use Rattle.line.specs.declared.parser.Answer.the-variants.{Found}
+use Rattle.line.specs.Fields.{firstField, laterFields}
 use Rattle.line.specs.Pairs.{pairOf}
-use Rattle.line.specs.Walker.{stepOf}
-
--- step after step: the answers from p on, before the end, of at most as many steps as the first number says
-unfoldable pub walked : ℕ → List ℕ → ℕ → State → List Answer
-walked zero s p st = []
-walked (suc n) s p st =
-    pick (ltb p (length s)) (stepOf s p st .answer ∷ walked n s (stepOf s p st .pos) (stepOf s p st .state)) []
+use Rattle.line.specs.Walker.{startOf, guidOf}
+use Rattle.line.specs.Parser.{answersFrom}
 
 -- the answers for pairs, the first of them at p
 unfoldable pub pairsAt : ℕ → List (List ℕ) → List Answer
@@ -27,3 +26,12 @@ pairsAt p (f ∷ fs) = pairOf f p ∷ pairsAt (p + length f + 1) fs
 unfoldable pub namedAt : ℕ → List (List ℕ) → List Answer
 namedAt p [] = []
 namedAt p (f ∷ fs) = Found (Tk.Name p (length f)) ∷ pairsAt (p + length f + 1) fs
+
+-- "Second field: the name. Then pairs"; "after 3 to 6 and 8 the next call takes the next pair": of the walker that is
+-- made over a line whose first field is a UUID and has a comma after it
+abbrev pub WalksLine : Type 0
+WalksLine =
+    (s : List ℕ) (u : Spelled) → isUtf8 s ≡ true → guidOf (firstField s) ≡ Up.Parsed u
+    → firstOf (byte ",") s < length s
+    → answersFrom (length s) s 0 (startOf s)
+    ≡ Found (Tk.Uuid (u .id)) ∷ namedAt (firstOf (byte ",") s + 1) (laterFields s)

@@ -23,7 +23,7 @@ ghost use Prim.Native.Nat.{_≤_, _<_, _^_};
 ghost use lib.ListN.{length};
 ghost use Rattle.line.specs.Walker.{guidOf, uuidStep, fieldStep, startOf, stepOf, firstForm};
 ghost use Rattle.line.specs.Walker as specs;
-ghost use Rattle.line.specs.Pairs.{refuse};
+ghost use Rattle.line.specs.Inner.{refusedAs};
 ghost use Rattle.line.specs.Parser.{parserOf, stepFrom, moved};
 ghost use Rattle.line.specs.Inner.{Lent};
 
@@ -230,7 +230,7 @@ fn take_step(answer: Answer, pos: usize, state: State) -> Stepped
 }
 
 fn refused(kind: ErrorKind, position: usize) -> Answer
-    ensures { λ r. ⌜ r ≡ refuse kind position ⌝ }
+    ensures { λ r. ⌜ r ≡ refusedAs kind position ⌝ }
 {
     Answer::Refused(Error { kind, position })
 }

@@ -6,7 +6,8 @@ use crate::parser::ErrorKind;
 use crate::reading::ParseSdlMappingError;
 use crate::reading::SdlAnswer;
 ghost use mathlib.Core.Path.{_≡_};
-ghost use Rattle.line.specs.Refusals.{refusalAt, refusal, refusalOf, kindNumber, errorRefusal, putOutcome};
+ghost use Rattle.line.specs.Refusals.{refusalAt, refusal, refusalOf, errorRefusal, putOutcome};
+ghost use Rattle.line.specs.Kinds.{kindNumber};
 ghost use Rattle.line.specs.Refusals.{readingRefusal, readingOutcome};
 
 pub enum Place {

@@ -5,7 +5,7 @@ use crate::ev::Button;
 ghost use mathlib.Core.Path.{_≡_};
 ghost use Prim.Native.Nat.{_<_};
 ghost use lib.ListN.{length, getD};
-ghost use Rattle.line.specs.Tables.{ROWS, axes, nameAt, named, byteOrder, keyRow, elementRow, keyElement};
+ghost use Rattle.line.specs.Tables.{ROWS, AXES, nameAt, named, byteOrder, keyRow, elementRow, keyElement};
 ghost use Rattle.line.specs.Tables.{nameRows, identOf};
 ghost use Rattle.line.specs.Inner.{untilZero, kindAndNumber, kindRows, Lent};
 
@@ -127,7 +127,7 @@ pub fn key_names() -> [[u8; IDENT_MAX]; ROWS]
 
 // The elements as one value.
 fn key_elements() -> [AxisOrBtn; ROWS]
-    ensures { λ r. ⌜ r ≡ axes ⌝ }
+    ensures { λ r. ⌜ r ≡ AXES ⌝ }
 {
     AXES
 }
@@ -140,7 +140,7 @@ pub(crate) fn key_kinds() -> [[u16; 2]; ROWS]
 }
 
 fn kinds_of(elements: [AxisOrBtn; ROWS]) -> [[u16; 2]; ROWS]
-    requires { ⌜ elements ≡ axes ⌝ }
+    requires { ⌜ elements ≡ AXES ⌝ }
     ensures { λ r. ⌜ r ≡ kindRows ⌝ }
 {
     let mut kinds = [[0u16; 2]; ROWS];
@@ -268,7 +268,7 @@ fn order_of(row: [u8; IDENT_MAX], key: &[u8]) -> Order
 }
 
 fn row_in(elements: [AxisOrBtn; ROWS], e: AxisOrBtn) -> KeyRow
-    requires { ⌜ elements ≡ axes ⌝ }
+    requires { ⌜ elements ≡ AXES ⌝ }
     ensures { λ r. ⌜ r ≡ elementRow e ⌝ }
 {
     let mut i = 0;
@@ -284,7 +284,7 @@ fn row_in(elements: [AxisOrBtn; ROWS], e: AxisOrBtn) -> KeyRow
 
 fn element_at(kinds: &[[u16; 2]; ROWS], i: usize) -> AxisOrBtn
     requires { ⌜ (now kinds ≡ kindRows) × (i < ROWS) ⌝ }
-    ensures { λ r. ⌜ r ≡ getD axes i (AxisOrBtn.Btn (record { 0 = 0 })) ⌝ }
+    ensures { λ r. ⌜ r ≡ getD AXES i (AxisOrBtn.Btn (record { 0 = 0 })) ⌝ }
 {
     let row = kinds[i];
     if row[0] == 0 {

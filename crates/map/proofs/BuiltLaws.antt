@@ -15,7 +15,7 @@ use Rattle.line.specs.declared.ev.AxisOrBtn.{AxisOrBtn}
 use Rattle.line.specs.declared.mapping.Entry.{Entry}
 use Rattle.line.specs.Maps.{entryOf}
 use Rattle.line.specs.Reading.{LIST_MAX}
-use Rattle.line.specs.Tables.{axesSdl, axes, elementFrom, elementRow, asButton, asAxis}
+use Rattle.line.specs.Tables.{«AXES_SDL», AXES, elementFrom, elementRow, asButton, asAxis}
 use Rattle.map.specs.declared.error.MappingAnswer.{MappingAnswer}
 use Rattle.map.specs.declared.error.MappingAnswer.the-variants.{Accepted, Refused}
 use Rattle.map.specs.declared.mapping_data.MappingData.{MappingData}
@@ -96,7 +96,7 @@ module _ (d : MappingData) (buttons axes name : List ℕ) (p : Passed d buttons 
 
 -- 34 + 8192 + 143 + 25 × 7
 pub built-max : builtMax ≡ 8544
-unfolding builtMax pairsMax decimal digits axesSdl axes elementRow elementFrom
+unfolding builtMax pairsMax decimal digits «AXES_SDL» AXES elementRow elementFrom
 built-max = refl
 
 module _ (d : MappingData) (buttons axes name : List ℕ) (uuid : Uuid) where

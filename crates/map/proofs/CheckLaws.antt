@@ -8,7 +8,7 @@ use native.Mathlib.Omega.{arith}
 use borrow.Author.Tests.{leb-true, le-leb, lt-leb}
 use lib.Dec.{leb}
 use lib.ListN.{length}
-use Rattle.text.specs.Bytes.{written}
+use Rattle.text.specs.Bytes.{pick, written}
 use Rattle.text.specs.Utf8.{isUtf8}
 use Rattle.text.specs.declared.uuid.Uuid.{Uuid}
 use Rattle.text.proofs.ListLaws.{both-parts}
@@ -23,7 +23,7 @@ use Rattle.map.specs.declared.mapping_data.MappingData.{MappingData}
 use Rattle.map.specs.declared.mapping_data.SlotCode.{SlotCode}
 use Rattle.map.specs.declared.mapping_data.SlotCode.the-variants.{Is, Nothing}
 use Rattle.map.specs.Slots.{hasCode, buttonOf, axisOf}
-use Rattle.map.specs.Build.{NAME_MAX, unless, when, commaFree, missingOf, whenMissing, axisChecks, slotChecks}
+use Rattle.map.specs.Build.{NAME_MAX, commaFree, missingOf, whenMissing, axisChecks, slotChecks}
 use Rattle.map.specs.Build.{filledButtons, filledAxes, checksOf, builtLine, builtMap, answerOf, buildOf, outputOf}
 use Rattle.map.specs.Build.{refusedBuild, Builds}
 use Rattle.map.specs.Inner.{lineLength}
@@ -33,12 +33,12 @@ use Rattle.map.proofs.LengthLaws.{line-length}
 no-refusal : {A : Type 0} (e : MappingError) → Refused e ≡ Accepted → A
 no-refusal e h = let z : _≡_ {A = ℕ} 0 1 = cc in absurd (omega arith)
 
-unless-passes : (t : Bool) (e : MappingError) (rest : MappingAnswer) → unless t e rest ≡ Accepted
+unless-passes : (t : Bool) (e : MappingError) (rest : MappingAnswer) → pick t rest (Refused e) ≡ Accepted
     → (t ≡ true) × (rest ≡ Accepted)
 unless-passes true e rest h = (refl, h)
 unless-passes false e rest h = no-refusal e h
 
-when-passes : (t : Bool) (e : MappingError) (rest : MappingAnswer) → when t e rest ≡ Accepted
+when-passes : (t : Bool) (e : MappingError) (rest : MappingAnswer) → pick t (Refused e) rest ≡ Accepted
     → (t ≡ false) × (rest ≡ Accepted)
 when-passes true e rest h = no-refusal e h
 when-passes false e rest h = (refl, h)

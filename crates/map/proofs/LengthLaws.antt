@@ -20,7 +20,7 @@ use Rattle.line.specs.declared.mapping.Entry.{Entry}
 use Rattle.line.specs.declared.tables.KeyRow.{KeyRow}
 use Rattle.line.specs.declared.tables.KeyRow.the-variants.{At, Nowhere}
 use Rattle.line.specs.Reading.{LIST_MAX}
-use Rattle.line.specs.Tables.{IDENT_MAX, axesSdl, nameIn, elementRow, identText}
+use Rattle.line.specs.Tables.{IDENT_MAX, «AXES_SDL», nameIn, elementRow, identText}
 use Rattle.line.proofs.KeyLaws.{element-bound}
 use Rattle.line.proofs.TableLaws.{every-at}
 use Rattle.map.specs.declared.from_data.filled.Filled.{Filled}
@@ -41,8 +41,8 @@ is-true true h = refl
 is-true false h = absurd h
 
 name-short : (i : ℕ) → i < 35 → length (nameIn (At i)) ≤ IDENT_MAX
-unfolding axesSdl short
-name-short i h = leb-true (length (nameIn (At i))) IDENT_MAX (is-true _ (every-at short [] axesSdl tt i h))
+unfolding «AXES_SDL» short
+name-short i h = leb-true (length (nameIn (At i))) IDENT_MAX (is-true _ (every-at short [] «AXES_SDL» tt i h))
 
 pub ident-short : (e : AxisOrBtn) → length (identText e) ≤ IDENT_MAX
 ident-short e = go (elementRow e) refl

@@ -1,3 +1,4 @@
+pub mod NumberedLaws
 pub mod KeyLaws
 pub mod DefaultLaws
 pub mod FilledLaws
@@ -6,6 +7,7 @@ pub mod OutputLaws
 pub mod NameLaws
 pub mod LengthLaws
 pub mod PutsLaws
+pub mod ShapedLaws
 pub mod CheckLaws
 pub mod PlainLaws
 pub mod BuiltLaws

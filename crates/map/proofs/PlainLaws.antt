@@ -15,7 +15,7 @@ use Rattle.line.specs.declared.mapping.Entry.{Entry}
 use Rattle.line.specs.Buttons as B
 use Rattle.line.specs.Axes as A
 use Rattle.line.specs.Maps.{fullRanges}
-use Rattle.line.specs.Tables.{axesSdl, axes, elementFrom, elementRow, identText, asButton, asAxis}
+use Rattle.line.specs.Tables.{«AXES_SDL», AXES, elementFrom, elementRow, identText, asButton, asAxis}
 use Rattle.line.proofs.IdentLaws.{Named, button-named, axis-named}
 use Rattle.map.specs.declared.mapping_data.MappingData.{MappingData}
 use Rattle.map.specs.declared.mapping_data.SlotCode.{SlotCode}
@@ -37,11 +37,11 @@ allLetters to k zero = true
 allLetters to k (suc n) = both (every isIdentByte (identText (to k))) (allLetters to (suc k) n)
 
 buttons-letters : T (allLetters asButton 1 19)
-unfolding allLetters every axesSdl axes elementRow elementFrom
+unfolding allLetters every «AXES_SDL» AXES elementRow elementFrom
 buttons-letters = tt
 
 axes-letters : T (allLetters asAxis 1 6)
-unfolding allLetters every axesSdl axes elementRow elementFrom
+unfolding allLetters every «AXES_SDL» AXES elementRow elementFrom
 axes-letters = tt
 
 both-T : (a b : Bool) → T (both a b) → (a ≡ true) × T b

@@ -30,7 +30,7 @@ unfolding putsInto
 puts-ascending [] zs h = h
 puts-ascending (e ∷ es) zs h = puts-ascending es (putEntry e zs) (put-ascending e zs h)
 
-none-ascending : Ascending []
+pub none-ascending : Ascending []
 unfolding Ascending
 none-ascending = tt
 

@@ -17,13 +17,14 @@ use Rattle.line.specs.declared.mapping.Entry.{Entry}
 use Rattle.line.specs.Elements.{codeOf}
 use Rattle.line.specs.declared.parser.Ranges.{Ranges}
 use Rattle.line.specs.Maps.{CODES_MAX, MapView, fullRanges, rangedEntry, entryOf, toMap, putsInto}
-use Rattle.line.specs.Effects.{does, effectOf, entriesOf, Effect}
-use Rattle.line.specs.Folds.{flagsOf, AllGo, orAll, after}
+use Rattle.line.specs.Effects.{does, effectOf, entriesOf, Effect, AllGo}
+use Rattle.line.specs.Folds.{flagsOf, orAll, after}
 use Rattle.line.specs.Reading.{LIST_MAX, acceptedOf, readingOf}
 use Rattle.line.specs.Tables.{identText}
 use Rattle.line.proofs.CountLaws.{count-none}
 use Rattle.line.proofs.IdentLaws.{button-pair, axis-pair}
-use Rattle.line.proofs.JoinLaws.{Free, AllFree, joined, lineOf}
+use Rattle.line.specs.Tiles.{tiled}
+use Rattle.line.proofs.JoinLaws.{Free, AllFree, lineOf}
 use Rattle.line.proofs.ReadBack as line-laws
 use Rattle.map.specs.declared.error.MappingAnswer.the-variants.{Accepted}
 use Rattle.map.specs.declared.mapping_data.MappingData.{MappingData}
@@ -107,8 +108,8 @@ module _ (buttons axes : List ℕ) where
       ∙ ap (λ (x : Entry). does (x ∷ []) (0 ∷ [])) (entry-at e axes full h)
 
 -- ---- the line
-ended-joined : (fs : List (List ℕ)) → ended fs ≡ joined fs
-unfolding ended joined
+ended-joined : (fs : List (List ℕ)) → ended fs ≡ tiled fs
+unfolding ended tiled
 ended-joined [] = refl
 ended-joined (f ∷ fs) = ap (λ (t : List ℕ). f ++ byte "," ∷ t) (ended-joined fs)
 

@@ -14,7 +14,7 @@ use Rattle.line.specs.Buttons as B
 use Rattle.line.specs.Elements.{AXIS_DPADY, codeOf}
 use Rattle.line.specs.Maps.{MapView, entryOf, putEntry, putsInto, toMap}
 use Rattle.line.specs.Reading.{readingOf}
-use Rattle.line.specs.Tables.{axesSdl, axes, elementFrom, elementRow, asAxis}
+use Rattle.line.specs.Tables.{«AXES_SDL», AXES, elementFrom, elementRow, asAxis}
 use Rattle.line.proofs.Samples.{Sample, Gives, Holds, samples, samples-hold, U, button}
 use Rattle.map.specs.declared.error.MappingAnswer.the-variants.{Accepted}
 use Rattle.map.specs.declared.mapping_data.MappingData.{MappingData}
@@ -63,7 +63,7 @@ followed-shown (x ∷ xs) ys h s = (h .0, followed-shown xs ys (h .1) s)
 
 l-shown : Shown (sampleL ∷ [])
 unfolding buildOf outputOf answerOf checksOf slotChecks axisChecks missingOf filledFrom buttonOf axisOf insertBtnOf
-    builtLine builtMap ended pairTexts putsInto putEntry firstOf written decimal digits hexText axesSdl axes elementRow
+    builtLine builtMap ended pairTexts putsInto putEntry firstOf written decimal digits hexText «AXES_SDL» AXES elementRow
     elementFrom begins firstLength charLength runOf validRun isUtf8
 l-shown = (refl, refl, tt)
 

@@ -18,9 +18,10 @@ use Rattle.line.specs.Buttons as B
 use Rattle.line.specs.Axes as A
 use Rattle.line.specs.Maps.{MapView, entryOf, toMap, emptyMap, putsInto}
 use Rattle.line.specs.Reading.{listsFit}
+use Rattle.line.specs.Refusals.{refusal, refusalAt, refusalOf}
+use Rattle.line.specs.declared.refusal.Refusal.{Refusal}
 use Rattle.line.specs.Tables.{asButton, asAxis, identText}
 use Rattle.map.specs.declared.error.MappingError.{MappingError}
-use Rattle.map.specs.declared.error.MappingError.the-variants as Me
 use Rattle.map.specs.declared.error.MappingAnswer.{MappingAnswer}
 use Rattle.map.specs.declared.error.MappingAnswer.the-variants.{Accepted, Refused}
 use Rattle.map.specs.declared.from_data.Built.{Built}
@@ -28,6 +29,7 @@ use Rattle.map.specs.declared.mapping_data.MappingData.{MappingData}
 use Rattle.map.specs.declared.mapping_data.SlotCode.{SlotCode}
 use Rattle.map.specs.declared.mapping_data.SlotCode.the-variants.{Is, Nothing}
 use Rattle.map.specs.Lists.{placeOf, inList}
+use Rattle.map.specs.Refusals.{refusedBy}
 use Rattle.map.specs.Slots.{buttonSlots, axisSlots, hasCode, buttonOf, axisOf}
 
 -- ---- "per filled slot ..; buttons ascending, then axes": a filled slot is an entry of its code and its element
@@ -92,12 +94,12 @@ builtMap d name = toMap (builtView d name)
 abbrev pub NAME_MAX : ℕ
 NAME_MAX = 8192
 
--- a check: refused with e unless (when) the test holds, else as the rest says
-abbrev pub unless : Bool → MappingError → MappingAnswer → MappingAnswer
-unless t e rest = pick t rest (Refused e)
+-- a check: refused as r says unless (when) the test holds, else as the rest says
+abbrev pub unless : Bool → Refusal → MappingAnswer → MappingAnswer
+unless t r rest = pick t rest (refusedBy r)
 
-abbrev pub when : Bool → MappingError → MappingAnswer → MappingAnswer
-when t e rest = pick t (Refused e) rest
+abbrev pub when : Bool → Refusal → MappingAnswer → MappingAnswer
+when t r rest = pick t (refusedBy r) rest
 
 -- 13: "comma in name"
 abbrev pub commaFree : List ℕ → Bool
@@ -110,32 +112,32 @@ missingOf (e ∷ es) codes = pick (inList (e .code) codes) (missingOf es codes) 
 
 -- 15 when a code is missing
 abbrev pub whenMissing : SlotCode → MappingAnswer → MappingAnswer
-whenMissing (Is c) rest = Refused (Me.InvalidCode c)
+whenMissing (Is c) rest = refusedBy (refusalOf 15 c)
 whenMissing Nothing rest = rest
 
 -- "14 for the axis, 15 ascending, 16": "Unknown slot filled", "axis slot 7 or 8"
 unfoldable pub axisChecks : MappingData → List ℕ → MappingAnswer
 axisChecks d axes =
-    when (hasCode (axisOf d A.Unknown)) Me.UnknownElement
+    when (hasCode (axisOf d A.Unknown)) (refusal 14)
     (whenMissing (missingOf (filledAxes d) axes)
-    (when (hasCode (axisOf d A.DPadX)) Me.NotSdl2Compatible
-    (when (hasCode (axisOf d A.DPadY)) Me.NotSdl2Compatible
+    (when (hasCode (axisOf d A.DPadX)) (refusal 16)
+    (when (hasCode (axisOf d A.DPadY)) (refusal 16)
     Accepted)))
 
 -- "14 for the button, 15 for buttons ascending", then the axes'
 unfoldable pub slotChecks : MappingData → List ℕ → List ℕ → MappingAnswer
 slotChecks d buttons axes =
-    when (hasCode (buttonOf d B.Unknown)) Me.UnknownElement
+    when (hasCode (buttonOf d B.Unknown)) (refusal 14)
     (whenMissing (missingOf (filledButtons d) buttons)
     (axisChecks d axes))
 
 -- "10, 17, 12, 13", then the slots'
 unfoldable pub checksOf : MappingData → List ℕ → List ℕ → List ℕ → MappingAnswer
 checksOf d buttons axes name =
-    unless (isUtf8 name) (Me.NotUtf8 (validRun name))
-    (unless (leb (length name) NAME_MAX) Me.NameTooLong
-    (unless (listsFit buttons axes) Me.ListTooLong
-    (unless (commaFree name) Me.InvalidName
+    unless (isUtf8 name) (refusalAt 10 (validRun name))
+    (unless (leb (length name) NAME_MAX) (refusal 17)
+    (unless (listsFit buttons axes) (refusal 12)
+    (unless (commaFree name) (refusal 13)
     (slotChecks d buttons axes))))
 
 -- ---- what build answers and leaves, room being the length of the output
@@ -148,7 +150,7 @@ after (Refused e) rest = Refused e
 unfoldable pub answerOf : MappingData → List ℕ → List ℕ → List ℕ → Uuid → ℕ → MappingAnswer
 answerOf d buttons axes name uuid room =
     after (checksOf d buttons axes name)
-    (unless (leb (length (builtLine d buttons axes name uuid)) room) Me.OutputTooShort Accepted)
+    (unless (leb (length (builtLine d buttons axes name uuid)) room) (refusal 18) Accepted)
 
 -- "Returned: map, length"; "A refused .. build .. returns the empty map, flags and lengths 0"
 abbrev pub refusedBuild : MappingError → Built

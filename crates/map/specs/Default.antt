@@ -14,11 +14,12 @@ use Rattle.line.specs.Elements.{buttonCode, axisCode, AXIS_DPADX, AXIS_DPADY, A
 use Rattle.line.specs.Elements.{BUTTON_LAST}
 use Rattle.line.specs.Maps.{MapView, entryOf, putEntry, toMap, emptyMap}
 use Rattle.line.specs.Reading.{listsFit}
+use Rattle.line.specs.Refusals.{refusal}
 use Rattle.line.specs.Tables.{asButton, asAxis}
-use Rattle.map.specs.declared.error.MappingError.the-variants.{ListTooLong}
-use Rattle.map.specs.declared.error.MappingAnswer.the-variants.{Accepted, Refused}
+use Rattle.map.specs.declared.error.MappingAnswer.the-variants.{Accepted}
 use Rattle.map.specs.declared.default.DefaultMap.{DefaultMap}
 use Rattle.map.specs.Lists.{inList}
+use Rattle.map.specs.Refusals.{refusedBy}
 
 -- ---- "the 31 codes above": those of the buttons, and those of the axes
 -- n rows from number k on
@@ -77,4 +78,4 @@ unfoldable pub defaultOf : List ℕ → List ℕ → DefaultMap
 defaultOf buttons axes =
     pick (listsFit buttons axes)
     (record { answer = Accepted; map = toMap (keptMap buttons axes) })
-    (record { answer = Refused ListTooLong; map = emptyMap })
+    (record { answer = refusedBy (refusal 12); map = emptyMap })

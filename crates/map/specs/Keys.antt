@@ -2,8 +2,9 @@
 -- Public contracts rest on these definitions; they assume nothing.
 use Prim.Native.Nat.{ℕ, zero, suc, _+_, _-_}
 use mathlib.Core.List.{List, [], _∷_}
+use mathlib.Core.Bool.{_&&_}
 use lib.Dec.{leb}
-use Rattle.text.specs.Bytes.{pick, both}
+use Rattle.text.specs.Bytes.{pick}
 use Rattle.line.specs.declared.ev.Code.{Code}
 use Rattle.line.specs.declared.ev.Button.{Button}
 use Rattle.map.specs.declared.keys.KeyTable.{KeyTable}
@@ -19,8 +20,8 @@ KEYS = 512
 -- 16..19: 10220 + k - 16.", from the code to the number
 abbrev pub keyNumber : ℕ → ℕ
 keyNumber c =
-    pick (both (leb 0x10130 c) (leb c 0x1013e)) (c - 0x10130 + 1)
-    (pick (both (leb 0x10220 c) (leb c 0x10223)) (c - 0x10220 + 16)
+    pick (leb 0x10130 c && leb c 0x1013e) (c - 0x10130 + 1)
+    (pick (leb 0x10220 c && leb c 0x10223) (c - 0x10220 + 16)
     0)
 
 -- the numbers of n codes from c on

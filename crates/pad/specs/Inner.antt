@@ -2,14 +2,14 @@
 -- Assumes nothing.
 use Prim.Native.Nat.{ℕ, suc, _+_, _-_, _*_, _/_, _≤_, _<_}
 use mathlib.Core.Path.{_≡_}
-use mathlib.Core.Bool.{Bool, true, false}
+use mathlib.Core.Bool.{Bool, true, false, _&&_}
 use mathlib.Core.List.{List, [], _∷_, _++_, map}
 use lib.Dec.{eqb, ltb}
 use lib.ListN.{length, take, drop, replicate}
 use mir.Syntax.{w16}
 use mir.Val.{SFits}
 use lib.IntN.{ℤ, pos, negsuc, _-ℤ_}
-use Rattle.text.specs.Bytes.{pick, both}
+use Rattle.text.specs.Bytes.{pick}
 use Rattle.line.specs.declared.ev.AxisOrBtn.{AxisOrBtn}
 use Rattle.line.specs.declared.ev.AxisOrBtn.the-variants as El
 use Rattle.line.specs.declared.parser.AxisRange.{AxisRange}
@@ -114,7 +114,7 @@ unseen c (y ∷ ys) = pick (eqb (y / CODE_UNIT) c) false (unseen c ys)
 
 -- an entry counts for an element: it is of that element, and the first of its code
 unfoldable pub counted : AxisOrBtn → List ℕ → ℕ → Bool
-counted el seen x = both (sameElement (entryIn x .element) el) (unseen (x / CODE_UNIT) seen)
+counted el seen x = sameElement (entryIn x .element) el && unseen (x / CODE_UNIT) seen
 
 -- those that count, after the ones that were seen
 unfoldable pub ownFrom : AxisOrBtn → List ℕ → List ℕ → List ℕ

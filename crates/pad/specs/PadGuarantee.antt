@@ -2,12 +2,12 @@
 -- The theorems `reader-agrees`, `reader-holds` and `pad-holds` rest on these definitions; they assume nothing.
 use Prim.Native.Nat.{ℕ, _≤_, _<_}
 use mathlib.Core.Path.{_≡_}
-use mathlib.Core.Bool.{Bool, true, false, not}
+use mathlib.Core.Bool.{Bool, true, false, not, _&&_}
 use mathlib.Core.List.{List, [], _∷_}
 use lib.Dec.{eqb, leb}
 use lib.ListN.{length, take, replicate}
 use lib.IntN.{ℤ, pos}
-use Rattle.text.specs.Bytes.{pick, both}
+use Rattle.text.specs.Bytes.{pick}
 use Rattle.line.specs.declared.ev.Code.{Code}
 use Rattle.line.specs.declared.ev.AxisOrBtn.{AxisOrBtn}
 use Rattle.line.specs.declared.ev.AxisOrBtn.the-variants as El
@@ -120,7 +120,7 @@ pub record PadHolds (cs : List PadCall) : Type 0 where
 abbrev pub RefusesAt256 : Type 0
 RefusesAt256 =
     (p : Pad) (c : Code) (raw : Raw) → RawWithin raw → length (heldOf p) ≤ HELD_MAX → rawEventOf p c raw .answer
-    ≡ pick (both (eqb (length (heldOf p)) HELD_MAX) (not (holdsCode c (heldOf p)))) Pa.TooManyCodes Pa.Done
+    ≡ pick (eqb (length (heldOf p)) HELD_MAX && not (holdsCode c (heldOf p))) Pa.TooManyCodes Pa.Done
 
 -- a raw event tells one event at most
 abbrev pub OneEvent : Type 0

@@ -1,12 +1,12 @@
 -- A pad while a game runs: the values of its elements, and its events (document 02, P13).
 -- Public contracts rest on these definitions; they assume nothing.
 use Prim.Native.Nat.{ℕ, zero, suc, _+_, _-_, _≤_}
-use mathlib.Core.Bool.{Bool, true, false}
+use mathlib.Core.Bool.{Bool, true, false, _&&_}
 use mathlib.Core.List.{List, [], _∷_}
 use lib.Dec.{eqb, ltb, leb}
 use lib.ListN.{set}
 use lib.IntN.{ℤ, pos, negsuc, natAbs}
-use Rattle.text.specs.Bytes.{pick, both}
+use Rattle.text.specs.Bytes.{pick}
 use Rattle.line.specs.declared.ev.AxisOrBtn.{AxisOrBtn}
 use Rattle.line.specs.declared.ev.AxisOrBtn.the-variants as El
 use Rattle.line.specs.declared.mapping.Entry.{Entry}
@@ -85,7 +85,7 @@ elementAt k = pick (ltb k BUTTON_LAST) (El.Btn (record { 0 = k + 1 })) (El.Axis 
 
 -- a number of 1 up to the last
 abbrev pub counts : ℕ → ℕ → Bool
-counts last n = both (leb 1 n) (leb n last)
+counts last n = leb 1 n && leb n last
 
 -- the place of such a number, the first places passed over; ELEMENTS for one that is left out
 abbrev pub placeFrom : ℕ → ℕ → ℕ → ℕ

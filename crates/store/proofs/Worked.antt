@@ -21,7 +21,7 @@ use Rattle.line.specs.Buttons as B
 use Rattle.line.specs.Axes as A
 use Rattle.line.specs.Elements.{codeOf, AXIS_DPADY, buttonCode}
 use Rattle.line.specs.Maps.{entryOf, toMap, emptyMap, putEntry, putOf}
-use Rattle.line.specs.Tables.{axesSdl, axes, rowFrom, keyRow}
+use Rattle.line.specs.Tables.{«AXES_SDL», AXES, rowFrom, keyRow}
 use Rattle.line.specs.Fields.{countOf, fieldsOf}
 use Rattle.line.specs.Values.{hatOf, valueOf}
 use Rattle.line.specs.Pairs.{rangesOf, halfOf, keyedOf, pairOf}
@@ -53,7 +53,7 @@ nil = record { high = 0; low = 0 }
 
 -- the pair at place 35, and what it puts
 dpup-pair : pairOf (ascii "dpup:h0.1") 35 ≡ An.Found (Tk.HatMapping 0 1 (Btn B.DPadUp) (rangesOf Full Full false))
-unfolding pairOf keyedOf halfOf valueOf hatOf countOf firstOf same readDigits unsigned indexNumber axesSdl axes rowFrom
+unfolding pairOf keyedOf halfOf valueOf hatOf countOf firstOf same readDigits unsigned indexNumber «AXES_SDL» AXES rowFrom
     keyRow
 dpup-pair = refl
 
@@ -74,7 +74,7 @@ dpup-map : readingOf (u ++ ascii ",T,dpup:h0.1,") [] []
     }))
 unfolding readingOf readLine lineFrom namedFrom pairsFrom taken putOne putsOf hatPuts dpadAxis hatCodes listed fieldsOf
     pairOf keyedOf halfOf valueOf hatOf guidOf countOf firstOf emptyMap putEntry putOf toMap same
-    readDigits unsigned indexNumber begins firstLength charLength runOf validRun isUtf8 axesSdl axes rowFrom keyRow
+    readDigits unsigned indexNumber begins firstLength charLength runOf validRun isUtf8 «AXES_SDL» AXES rowFrom keyRow
     hexDigit readHex uuidOf u
 dpup-map = refl
 
@@ -87,7 +87,7 @@ dpright-value = refl
 dpright-place : readingOutcome (readingOf (u ++ ascii ",T,dpright:h0.q") [] [] .answer) ≡ Refuses (refusalAt 4 38)
 unfolding readingOf readLine lineFrom namedFrom pairsFrom taken fieldsOf pairOf keyedOf halfOf valueOf hatOf guidOf
     countOf firstOf emptyMap toMap same readDigits unsigned indexNumber begins firstLength charLength runOf validRun
-    isUtf8 axesSdl axes rowFrom keyRow hexDigit readHex uuidOf u
+    isUtf8 «AXES_SDL» AXES rowFrom keyRow hexDigit readHex uuidOf u
 dpright-place = refl
 
 -- ---- 3. a save of no slots under the name T: its line is `U,T,` of 35 bytes

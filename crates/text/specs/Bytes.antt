@@ -4,7 +4,7 @@ use Prim.Native.Nat.{ℕ, suc, _+_}
 use Prim.Native.Char.{Char, code}
 use Prim.Native.String.{String, [] as []ᵗ, _∷_ as _∷ᵗ_}
 use mathlib.Core.Path.{_≡_}
-use mathlib.Core.Bool.{Bool, true, false}
+use mathlib.Core.Bool.{Bool, true, false, _&&_}
 use mathlib.Core.List.{List, [], _∷_, _++_}
 use lib.Dec.{eqb, leb}
 use lib.ListN.{length, take, drop}
@@ -16,10 +16,9 @@ abbrev pub pick : {A : Type 0} → Bool → A → A → A
 pick true a b = a
 pick false a b = b
 
--- both tests hold
+-- both tests hold: the word for `&&` in laws
 abbrev pub both : Bool → Bool → Bool
-both true b = b
-both false b = false
+both a b = a && b
 
 -- the byte of an ASCII character: byte "," is 44
 abbrev pub byte : Char → ℕ
@@ -35,7 +34,7 @@ unfoldable pub same : List ℕ → List ℕ → Bool
 same [] [] = true
 same [] (y ∷ ys) = false
 same (x ∷ xs) [] = false
-same (x ∷ xs) (y ∷ ys) = both (eqb x y) (same xs ys)
+same (x ∷ xs) (y ∷ ys) = eqb x y && same xs ys
 
 -- the place of the first b in a text, or the text's length where it has none
 unfoldable pub firstOf : ℕ → List ℕ → ℕ

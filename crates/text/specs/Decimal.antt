@@ -1,10 +1,10 @@
 -- Index numbers in base ten: how one is written, and which number a text is (`parse::<u16>`).
 -- Public contracts rest on these definitions; they assume nothing.
 use Prim.Native.Nat.{ℕ, zero, suc, _+_, _*_, _-_, _/_, _%_}
-use mathlib.Core.Bool.{Bool}
+use mathlib.Core.Bool.{Bool, _&&_}
 use mathlib.Core.List.{List, [], _∷_, _++_}
 use lib.Dec.{ltb, leb, eqb}
-use Rattle.text.specs.Bytes.{pick, both, byte}
+use Rattle.text.specs.Bytes.{pick, byte}
 use Rattle.text.specs.declared.decimal.IndexParse.{IndexParse}
 use Rattle.text.specs.declared.decimal.IndexParse.the-variants.{Parsed, Invalid}
 
@@ -16,7 +16,7 @@ numberMax = 65535
 
 -- a digit: a byte from `0` to `9`
 abbrev pub isDigit : ℕ → Bool
-isDigit b = both (leb (byte "0") b) (leb b (byte "9"))
+isDigit b = leb (byte "0") b && leb b (byte "9")
 
 -- digits to the end, after those that made a: "value at most 65535; leading zeros allowed"
 unfoldable pub readDigits : ℕ → List ℕ → IndexParse

@@ -2,11 +2,11 @@
 -- No public contract rests on these: a reader may leave them out.
 use Prim.Native.Nat.{ℕ, _+_, _≤_}
 use mathlib.Core.Path.{_≡_}
-use mathlib.Core.Bool.{Bool, true, false}
+use mathlib.Core.Bool.{Bool, true, false, _&&_}
 use mathlib.Core.List.{List, [], _∷_}
 use lib.Dec.{ltb}
 use lib.ListN.{length, drop}
-use Rattle.text.specs.Bytes.{both, byte, written}
+use Rattle.text.specs.Bytes.{byte, written}
 use Rattle.text.specs.Decimal.{isDigit}
 use Rattle.text.specs.Utf8.{validRun}
 use Rattle.text.specs.Uuid.{readHex, isFrom}
@@ -25,7 +25,7 @@ Put l at v next after = (next ≡ at + length v) × (after ≡ written l at v)
 -- every byte passes the test
 unfoldable pub every : (ℕ → Bool) → List ℕ → Bool
 every f [] = true
-every f (b ∷ bs) = both (f b) (every f bs)
+every f (b ∷ bs) = f b && every f bs
 
 -- an ASCII byte
 abbrev pub isAscii : ℕ → Bool

@@ -2,11 +2,11 @@
 -- Public contracts rest on these definitions; they assume nothing.
 use Prim.Native.Nat.{ℕ, zero, suc, _+_, _<_, _≤_}
 use mathlib.Core.Path.{_≡_}
-use mathlib.Core.Bool.{Bool, true, false}
+use mathlib.Core.Bool.{Bool, true, false, _&&_}
 use mathlib.Core.List.{List, [], _∷_, _++_}
 use lib.Dec.{leb, eqb}
 use lib.ListN.{length, drop}
-use Rattle.text.specs.Bytes.{pick, both}
+use Rattle.text.specs.Bytes.{pick}
 
 -- `%xLOW-HIGH` of the ABNF; one octet `%xE0` is %x 0xE0 0xE0
 pub record Range : Type 0 where
@@ -55,13 +55,13 @@ utf8-char = utf8-1 ++ (utf8-2 ++ (utf8-3 ++ utf8-4))
 
 -- an octet is in the range
 abbrev pub inRange : Range → ℕ → Bool
-inRange r b = both (leb (r .low) b) (leb b (r .high))
+inRange r b = leb (r .low) b && leb b (r .high)
 
 -- the bytes begin with an octet of each range, in order
 unfoldable pub begins : Alternative → List ℕ → Bool
 begins [] s = true
 begins (r ∷ rs) [] = false
-begins (r ∷ rs) (b ∷ bs) = both (inRange r b) (begins rs bs)
+begins (r ∷ rs) (b ∷ bs) = inRange r b && begins rs bs
 
 -- the length of the first alternative that the bytes begin with, or 0
 unfoldable pub firstLength : List Alternative → List ℕ → ℕ

@@ -2,11 +2,11 @@
 -- Public contracts rest on these definitions; they assume nothing.
 use Prim.Native.Nat.{ℕ, zero, suc, _+_, _*_, _-_, _/_, _%_, _<_, _^_}
 use mathlib.Core.Path.{_≡_}
-use mathlib.Core.Bool.{Bool}
+use mathlib.Core.Bool.{Bool, _&&_}
 use mathlib.Core.List.{List, [], _∷_, _++_}
 use lib.Dec.{ltb, leb, eqb}
 use lib.ListN.{length, getD, take, drop}
-use Rattle.text.specs.Bytes.{pick, both, byte, ascii, same}
+use Rattle.text.specs.Bytes.{pick, byte, ascii, same}
 use Rattle.text.specs.declared.uuid.Uuid.{Uuid}
 use Rattle.text.specs.declared.uuid.Hex.{Hex}
 use Rattle.text.specs.declared.uuid.Hex.the-variants.{Number, NotHex}
@@ -19,7 +19,7 @@ use Rattle.text.specs.declared.uuid.UuidParse.the-variants.{Parsed, Inva
 
 -- a byte from the first to the last of these characters
 abbrev pub isFrom : ℕ → ℕ → ℕ → Bool
-isFrom first last b = both (leb first b) (leb b last)
+isFrom first last b = leb first b && leb b last
 
 -- "hex digits [..] either letter case": the value of a digit, 16 for any other byte
 unfoldable pub hexDigit : ℕ → ℕ
@@ -65,13 +65,13 @@ lastGroups s = take 4 (drop 19 s) ++ take 12 (drop 24 s)
 -- time-low "-" time-mid "-" time-high-and-version "-" clock-seq "-" node: 8, 4, 4, 4 and 12 digits
 unfoldable pub hyphenated : Form → List ℕ → UuidParse
 hyphenated f s =
-    pick (both (hyphenAt s 8) (both (hyphenAt s 13) (both (hyphenAt s 18) (hyphenAt s 23))))
+    pick (hyphenAt s 8 && (hyphenAt s 13 && (hyphenAt s 18 && hyphenAt s 23)))
     (ofDigits f (firstGroups s) (lastGroups s))
     Invalid
 
 -- "in braces"
 abbrev pub inBraces : List ℕ → Bool
-inBraces s = both (eqb (getD s 0 0) (byte "{")) (eqb (getD s 37 0) (byte "}"))
+inBraces s = eqb (getD s 0 0) (byte "{") && eqb (getD s 37 0) (byte "}")
 
 -- "after lower-case `urn:uuid:`"
 abbrev pub afterUrn : List ℕ → Bool
@@ -83,8 +83,8 @@ unfoldable pub uuidOf : List ℕ → UuidParse
 uuidOf s =
     pick (eqb (length s) 32) (simple s)
     (pick (eqb (length s) 36) (hyphenated F.Hyphenated s)
-    (pick (both (eqb (length s) 38) (inBraces s)) (hyphenated F.Braced (take 36 (drop 1 s)))
-    (pick (both (eqb (length s) 45) (afterUrn s)) (hyphenated F.Urn (drop 9 s))
+    (pick (eqb (length s) 38 && inBraces s) (hyphenated F.Braced (take 36 (drop 1 s)))
+    (pick (eqb (length s) 45 && afterUrn s) (hyphenated F.Urn (drop 9 s))
     Invalid)))
 
 -- ---- writing

@@ -3,13 +3,13 @@ use mathlib.Core.Path.{_≡_, refl, sym, _∙_}
 use Prim.Native.Nat.{_≤_, _-_}
 use native.Mathlib.Omega.{arith}
 use lib.ListN.{drop}
-use Rattle.line.specs.Tables.{ROWS, axes, elementFrom, elementRow}
+use Rattle.line.specs.Tables.{ROWS, AXES, elementFrom, elementRow}
 use Rattle.line.proofs.KeyLaws.{element-told, element-here, element-past, element-none}
 use Rattle.line.proofs.tables.row_in.Statement.{statement}
 use Rattle.line.proofs.tables.row_in.Tie as tie
 
 abbrev Inv-loop : tie.InvT-loop
-Inv-loop e elements i₀ i = (i ≤ ROWS) × (elementFrom i (drop i axes) e ≡ elementRow e)
+Inv-loop e elements i₀ i = (i ≤ ROWS) × (elementFrom i (drop i AXES) e ≡ elementRow e)
 
 abbrev μ-loop : tie.MeasureT-loop
 μ-loop e elements i₀ i = ROWS - i
