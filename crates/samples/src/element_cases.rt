@@ -81,7 +81,7 @@ fn half(b: u8) -> AxisRange {
 }
 
 // The ranges that a word `UL~` is: input, output, and whether inverted.
-fn ranges(s: &[u8]) -> Ranges {
+pub fn ranges(s: &[u8]) -> Ranges {
     if s.len() < 2 {
         return Ranges::FULL;
     }
@@ -94,7 +94,7 @@ fn ranges(s: &[u8]) -> Ranges {
 
 // A map that no call makes, with that count: code 5 to button 1, 3 to axis 2 with its ranges, 5 to button 3, 2 to button 1,
 // and unused entries.
-fn odd_map(count: usize) -> Mapping {
+pub fn odd_map(count: usize) -> Mapping {
     let mut m = Mapping::new();
     m.entries[0] = Entry::new(Code(5), AxisOrBtn::Btn(Button(1)));
     m.entries[1] = Entry::ranged(Code(3), AxisOrBtn::Axis(Axis(2)), ranges(b"UL~"));

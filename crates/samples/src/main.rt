@@ -7,6 +7,7 @@ mod element_cases;
 mod form_cases;
 mod line_cases;
 mod many_cases;
+mod pad_cases;
 mod regroup_cases;
 mod slot_cases;
 mod text_cases;
@@ -100,6 +101,17 @@ fn run_element_case(kind: &[u8], args: &[u8]) -> bool {
     run_text_case(kind, args)
 }
 
+// Runs one case of the pad layer.
+fn run_pad_case(kind: &[u8], args: &[u8]) -> bool {
+    if same_bytes(kind, b"value") {
+        return pad_cases::value_case(args);
+    }
+    if same_bytes(kind, b"event") {
+        return pad_cases::event_case(args);
+    }
+    run_element_case(kind, args)
+}
+
 // Runs one case of the map layer.
 fn run_map_case(kind: &[u8], args: &[u8]) -> bool {
     if same_bytes(kind, b"build") {
@@ -111,7 +123,7 @@ fn run_map_case(kind: &[u8], args: &[u8]) -> bool {
     if same_bytes(kind, b"default") {
         return slot_cases::default_case(args);
     }
-    run_element_case(kind, args)
+    run_pad_case(kind, args)
 }
 
 // Runs one case, by its first word. A kind that nobody knows is wrong.
@@ -236,5 +248,6 @@ fn main() {
     let text = run_file(b"text.txt");
     let line = run_file(b"line.txt");
     let map = run_file(b"map.txt");
-    say_totals(added(added(text, line), map));
+    let pad = run_file(b"pad.txt");
+    say_totals(added(added(text, line), added(map, pad)));
 }
