@@ -123,6 +123,15 @@ pub fn place_of(e: AxisOrBtn) -> usize {
     }
 }
 
+// Whether a pad has no events for an element: those that have are buttons 1 to 19 and axes 1 to 8.
+pub fn is_left_out(e: AxisOrBtn) -> bool {
+    let k = place_of(e);
+    if k == 0 {
+        return true;
+    }
+    k == BUTTONS
+}
+
 // `a`, or nothing where an element has no ident.
 fn with_ident(near: Near, key: &[u8], e: AxisOrBtn) -> Near {
     let ident = ident_of(e);

@@ -126,17 +126,31 @@ fn put_save(fd: i32) {
 fn put_test(fd: i32) {
     put(
         fd,
-        b"hub test STORE UUID buttons=CODES axes=CODES from=FILE
+        b"hub test STORE UUID buttons=CODES axes=CODES from=FILE [after=N:UUID ..]
+         [with=FILE [uuid2=UUID] [buttons2=CODES] [axes2=CODES] [after2=N:UUID ..]]
   Reads the line held under that UUID with the pad's codes, and tells what each event of a
-  recorded pad gives by it: the code with its raw value, the element and the element's value,
-  from -32768 to 32767, a button's from 0 on. FILE has Linux input events of 24 bytes each, as
-  'cat /dev/input/event5 > FILE' records them ('evtest' says which device is the pad).
-  Buttons (EV_KEY) and axes (EV_ABS) are told; other kinds are skipped and counted. There is no
-  event for a code that is not in the map, for a value that the line gives none (the half of an
-  axis that it leaves out) and for a button that is held and repeats. A value that no button or
-  axis has gives none either, and the status is then 1: a recording does not say which range a
-  pad's axes have, so nothing is scaled. Where only the UUID without its checksum is held, it
-  goes by that line, and says so as find does. 'hub help save' says how CODES are written.
+  recorded pad gives by it: the code with its raw value, and the element that has another value
+  now, from -32768 to 32767, a button's from 0 on. FILE has Linux input events of 24 bytes each,
+  as 'cat /dev/input/event5 > FILE' records them ('evtest' says which device is the pad).
+  Buttons (EV_KEY) and axes (EV_ABS) are told, a line each; other kinds are skipped and counted.
+  A code is held with its last raw value from its first event on; a 257th is refused (27), and the
+  status is then 1. Of the values that its held codes give, an element has the one farthest from
+  zero, between equals that of the smallest code, and 0 where there is none. It has no event where
+  it keeps its value, and the line says why: another code holds it, the code is not in the map, or
+  the map has no value there (the half of an axis that it leaves out). A button that is held and
+  repeats gives none, nor does a value that no button or axis has, and the status is then 1: a
+  recording does not say which range a pad's axes have, so nothing is scaled.
+  after=2:UUID changes the map after the pad's second record of a button or an axis: to that of
+  the line held under this UUID, read with the same codes. Each element that has another value by
+  it is told, the buttons, then the axes. There may be several; one that the recording ends before
+  is said, and the status is 1.
+  with=FILE is the recording of a second pad of the same player: an element has the value of the
+  pad that moves it farther from zero, the first one's between equals. The events of both are told
+  in the order of their times, the first pad's first between equals. The second pad's line and
+  codes are the first one's, unless uuid2, buttons2 or axes2 say others; after2 changes its map.
+  At the end it says how many codes are held, and each element that is not at 0. Where only the
+  UUID without its checksum is held, it goes by that line, and says so as find does. 'hub help
+  save' says how CODES are written.
 ",
     );
 }

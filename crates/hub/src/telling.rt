@@ -1,51 +1,40 @@
-// What is told of each event of a stream, by a map, and what became of all its records.
+// What is told of each record of a recording: the event that it gives by the pads' states, or why there is none.
 use crate::codes::KEY;
+use crate::elements::is_left_out;
 use crate::elements::put_element;
+use crate::holders::say_held_by;
+use crate::holders::say_reason;
 use crate::input_events::Input;
 use crate::input_events::RawEvent;
 use crate::input_events::Report;
 use crate::input_events::report_of;
-use crate::say::DONE;
+use crate::playing::Play;
+use crate::playing::say_element;
+use crate::playing::say_pad;
+use crate::playing::seat_of;
+use crate::playing::with_seat;
 use crate::say::OUT;
-use crate::say::REFUSED;
 use crate::say::put_code;
 use crate::say::say;
-use crate::say::say_number;
+use crate::tally::Tally;
+use crate::tally::more;
 use crate::values::put_signed;
 use crate::values::put_value;
+use crate::words::put_refused;
+use line::ev::AxisOrBtn;
 use line::ev::Code;
-use line::mapping::Mapped;
-use line::mapping::Mapping;
+use line::mapping::Entered;
+use line::mapping::Entry;
+use line::refusal::Outcome;
+use line::refusal::Refusal;
 use pad::events::Event;
+use pad::events::Events;
 use pad::events::Raw;
+use pad::two::Which;
+use pad::value::ElementValue;
 use pad::value::Emitted;
+use pad::value::entry_value;
 use pad::value::event;
-use std::num::wrapping_add_usize;
-
-// How many records told an event; how many of a button or an axis told none, and why; and how many are of other kinds.
-pub struct Tally {
-    told: usize,
-    unmapped: usize,
-    valueless: usize,
-    beyond: usize,
-    repeats: usize,
-    others: usize,
-}
-
-pub fn nothing_told() -> Tally {
-    Tally {
-        told: 0,
-        unmapped: 0,
-        valueless: 0,
-        beyond: 0,
-        repeats: 0,
-        others: 0,
-    }
-}
-
-fn more(n: usize) -> usize {
-    wrapping_add_usize(n, 1)
-}
 
 // `10130 pressed: `, `30000 -12: `
 fn say_raw(code: Code, raw: Raw) {
@@ -61,48 +50,139 @@ fn say_raw(code: Code, raw: Raw) {
     }
 }
 
-// `South (a) 32767`
-fn say_told(told: Event) {
+// What holds the element of a code whose raw value gives none.
+fn say_without(play: Play, which: Which, element: AxisOrBtn, value: i16) {
+    if value == 0 {
+        say(b", since it has no value there");
+        return;
+    }
+    say_held_by(play, which, element, value);
+}
+
+// `South (a) 32767`, and what holds it there, where it is not the code itself.
+fn say_told(play: Play, which: Which, e: RawEvent, told: Event) {
     let element = told.element;
-    put_element(OUT, element);
-    say(b" ");
-    put_value(OUT, told.value);
+    let value = told.value;
+    let seat = seat_of(play, which);
+    let map = seat.map;
+    let code = e.code;
+    let raw = e.raw;
+    say_element(element, value);
+    let given = event(map, code, raw);
+    match given {
+        Emitted::Is(own) => {
+            if own.value != value {
+                say_held_by(play, which, element, value);
+            }
+        }
+        Emitted::Nothing => say_without(play, which, element, value),
+    }
     say(b"\n");
 }
 
-// Why a raw event gives none.
-fn with_none(tally: Tally, map: Mapping, code: Code) -> Tally {
-    let mut next = tally;
-    let mapped = map.map(code);
-    match mapped {
-        Mapped::To(element) => {
-            say(b"no event: ");
-            put_element(OUT, element);
-            say(b" has no value there\n");
-            next.valueless = more(tally.valueless);
-        }
-        Mapped::Nothing => {
-            say(b"no event: the code is not in the map\n");
-            next.unmapped = more(tally.unmapped);
-        }
+// An element that a code gives a value, and that has its value already or has another one.
+fn say_kept(play: Play, which: Which, element: AxisOrBtn, value: i16, given: i16) {
+    if given == value {
+        say(b" is at ");
+        put_value(OUT, value);
+        say(b" already\n");
+        return;
     }
-    next
+    say(b" keeps ");
+    put_value(OUT, value);
+    say(b": ");
+    say_reason(play, which, element, value, given);
+    say(b"\n");
 }
 
-fn with_event(tally: Tally, map: Mapping, e: RawEvent) -> Tally {
+// Why a raw event of a code in the map gives none.
+fn with_kept(play: Play, which: Which, e: Entry, raw: Raw) -> Tally {
+    let element = e.element;
+    let mut tally = play.tally;
+    say(b"no event: ");
+    put_element(OUT, element);
+    if is_left_out(element) {
+        say(b" is left out, since only known elements have events\n");
+        tally.left_out = more(tally.left_out);
+        return tally;
+    }
+    let pads = play.pads;
+    let value = pads.value(element);
+    let given = entry_value(e, raw);
+    match given {
+        ElementValue::Is(v) => {
+            say_kept(play, which, element, value, v);
+            tally.kept = more(tally.kept);
+        }
+        ElementValue::Nothing => {
+            say(b" has no value there, and keeps ");
+            put_value(OUT, value);
+            say(b"\n");
+            tally.valueless = more(tally.valueless);
+        }
+    }
+    tally
+}
+
+// Why a raw event gives none.
+fn with_none(play: Play, which: Which, e: RawEvent) -> Tally {
+    let seat = seat_of(play, which);
+    let map = seat.map;
+    let code = e.code;
+    let raw = e.raw;
+    let entered = map.entry(code);
+    match entered {
+        Entered::Is(entry) => with_kept(play, which, entry, raw),
+        Entered::Absent => {
+            say(b"no event: the code is not in the map, and is held\n");
+            let mut tally = play.tally;
+            tally.unmapped = more(tally.unmapped);
+            tally
+        }
+    }
+}
+
+// The event of a raw event that is held, if there is one.
+fn with_held(play: Play, which: Which, e: RawEvent, events: Events) -> Tally {
+    if events.count == 0 {
+        return with_none(play, which, e);
+    }
+    let list = events.list;
+    let told = list[0];
+    say_told(play, which, e, told);
+    let mut tally = play.tally;
+    tally.told = more(tally.told);
+    tally
+}
+
+// A code that a pad has no room for.
+fn with_refused(play: Play, refusal: Refusal) -> Tally {
+    say(b"no event: ");
+    put_refused(OUT, refusal.number as usize);
+    say(b"\n");
+    let mut tally = play.tally;
+    tally.refused = more(tally.refused);
+    tally
+}
+
+fn with_event(play: Play, which: Which, e: RawEvent) -> Play {
     let code = e.code;
     let raw = e.raw;
     say_raw(code, raw);
-    let emitted = event(map, code, raw);
-    match emitted {
-        Emitted::Is(told) => {
-            say_told(told);
-            let mut next = tally;
-            next.told = more(tally.told);
-            next
-        }
-        Emitted::Nothing => with_none(tally, map, code),
-    }
+    let pads = play.pads;
+    let told = pads.raw_event(which, code, raw);
+    let answer = told.answer;
+    let later = told.pads;
+    let events = told.events;
+    let mut next = play;
+    next.pads = later;
+    let outcome = answer.outcome();
+    let tally = match outcome {
+        Outcome::Passes => with_held(next, which, e, events),
+        Outcome::Refuses(refusal) => with_refused(next, refusal),
+    };
+    next.tally = tally;
+    next
 }
 
 // `30000 40000: no event: ..`
@@ -115,66 +195,53 @@ fn say_untold(code: Code, value: u32, words: &[u8]) {
     say(b"\n");
 }
 
-fn with_beyond(tally: Tally, code: Code, input: Input) -> Tally {
+fn say_beyond(code: Code, input: Input) {
     if input.kind as u32 == KEY {
         say_untold(code, input.value, b"a button's value is 0, 1 or 2");
     } else {
         say_untold(code, input.value, b"an axis value is from -32768 to 32767");
     }
-    let mut next = tally;
-    next.beyond = more(tally.beyond);
-    next
 }
 
-// Tells what a record gives.
-pub fn with_input(tally: Tally, map: Mapping, input: Input) -> Tally {
-    let mut next = tally;
-    let report = report_of(input);
+// Counts one of the pad's records more.
+fn with_counted(play: Play, which: Which) -> Play {
+    let mut seat = seat_of(play, which);
+    seat.records = more(seat.records);
+    with_seat(play, which, seat)
+}
+
+// Tells what a record of a button or an axis gives.
+fn with_report(play: Play, which: Which, input: Input, report: Report) -> Play {
+    let mut next = with_counted(play, which);
+    let mut tally = play.tally;
+    say_pad(play, which);
     match report {
         Report::Is(e) => {
-            next = with_event(tally, map, e);
+            return with_event(next, which, e);
         }
         Report::Repeats(code) => {
             say_untold(code, input.value, b"the button is held, and repeats");
-            next.repeats = more(tally.repeats);
+            tally.repeats = more(tally.repeats);
         }
         Report::Beyond(code) => {
-            next = with_beyond(tally, code, input);
+            say_beyond(code, input);
+            tally.beyond = more(tally.beyond);
         }
-        Report::Other => {
-            next.others = more(tally.others);
-        }
+        Report::Other => {}
     }
+    next.tally = tally;
     next
 }
 
-fn say_count(n: usize, words: &[u8]) {
-    if n == 0 {
-        return;
+// Tells what a record of a pad gives.
+pub fn with_input(play: Play, which: Which, input: Input) -> Play {
+    let report = report_of(input);
+    if let Report::Other = report {
+        let mut tally = play.tally;
+        tally.others = more(tally.others);
+        let mut next = play;
+        next.tally = tally;
+        return next;
     }
-    say(b"  ");
-    say_number(n);
-    say(words);
-    say(b"\n");
-}
-
-// What became of the records; refused where a value is one that no button or axis has.
-pub fn say_tally(tally: Tally) -> u8 {
-    let unmapped = tally.unmapped;
-    let valueless = tally.valueless;
-    let silent = wrapping_add_usize(wrapping_add_usize(unmapped, valueless), tally.repeats);
-    say_number(tally.told);
-    say(b" events told, ");
-    say_number(wrapping_add_usize(silent, tally.beyond));
-    say(b" without one, ");
-    say_number(tally.others);
-    say(b" records of other kinds skipped\n");
-    say_count(unmapped, b" of codes that are not in the map");
-    say_count(valueless, b" of values that the line gives none");
-    say_count(tally.repeats, b" of buttons that repeat");
-    say_count(tally.beyond, b" of values that no button or axis has");
-    if tally.beyond == 0 {
-        return DONE;
-    }
-    REFUSED
+    with_report(play, which, input, report)
 }

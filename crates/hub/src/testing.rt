@@ -1,235 +1,295 @@
-// The command test: a line that is held is read, and tells what each event of a recorded stream gives.
-use crate::codes::ABS;
-use crate::codes::Codes;
-use crate::codes::KEY;
-use crate::codes::codes_named;
-use crate::codes::first_codes;
-use crate::excerpt::put_reading_refused;
+// The command test: lines that are held are read, and what the events of recordings give by them is told.
 use crate::fields::after;
-use crate::fields::before;
 use crate::files::arg_space;
 use crate::files::half;
 use crate::files::load;
-use crate::help::wrong_use;
+use crate::held_maps::held_status;
+use crate::held_maps::read_with;
+use crate::held_maps::reading_status;
 use crate::holding::no_uuid;
-use crate::input_events::NextInput;
-use crate::input_events::next_input;
-use crate::near::complain_near;
+use crate::map_changes::changes_status;
+use crate::map_changes::due_from;
+use crate::map_changes::never_status;
+use crate::map_changes::with_changes;
+use crate::playing::NEVER;
+use crate::playing::Play;
+use crate::playing::Seat;
+use crate::playing::new_play;
+use crate::playing::new_seat;
+use crate::playing::say_end;
 use crate::say::DONE;
-use crate::say::ERR;
 use crate::say::TROUBLE;
-use crate::say::complain;
-use crate::say::put_number;
 use crate::say::say;
-use crate::shown::complain_shown;
-use crate::shown::fail;
 use crate::shown::say_shown;
-use crate::telling::Tally;
-use crate::telling::nothing_told;
-use crate::telling::say_tally;
+use crate::streams::Stream;
+use crate::streams::Turn;
+use crate::streams::close_stream;
+use crate::streams::end_status;
+use crate::streams::is_open;
+use crate::streams::moved;
+use crate::streams::no_stream;
+use crate::streams::open_stream;
+use crate::streams::turn_of;
+use crate::tally::say_tally;
+use crate::tally::tally_status;
 use crate::telling::with_input;
-use crate::words::none;
-use crate::words::refused;
+use crate::test_args::Request;
+use crate::test_args::is_two;
+use crate::test_args::lists_of;
+use crate::test_args::request_from;
+use crate::test_args::request_status;
 use line::mapping::Mapping;
-use line::reading::SdlAnswer;
-use line::reading::parse_sdl_mapping;
-use store::near::NearLook;
-use store::near::found_near;
+use pad::two::Which;
 use store::near::get_near;
-use text::bytes::same_bytes;
 use text::uuid::Uuid;
 use text::uuid::UuidParse;
 
-// The most records of a stream: more than a pad sends in years.
+// The most records of a recording: more than a pad sends in years.
 const RECORDS_MAX: usize = 1099511627776;
 
-// The argument that names the stream, how many do, and whether one was not understood.
-struct Named {
-    at: usize,
-    given: usize,
-    bad: bool,
+// A pad before its recording: the status, and where that is DONE its map.
+struct Start {
+    status: u8,
+    seat: Seat,
 }
 
-// The arguments of the command.
-struct Request {
-    buttons: Codes,
-    axes: Codes,
-    stream: usize,
+// The greater status.
+fn worse(a: u8, b: u8) -> u8 {
+    if a < b {
+        return b;
+    }
+    a
 }
 
-// `from=FILE`, or a list of codes
-fn with_arg(named: Named, i: usize) -> Named {
-    let mut space = arg_space();
-    let n = os::arg(i, &mut space);
-    let arg = &space[..n];
-    let key = before(arg, b'=');
-    let mut next = named;
-    if same_bytes(key, b"from") {
-        next.at = i;
-        next.given = std::num::wrapping_add_usize(named.given, 1);
-        return next;
-    }
-    if same_bytes(key, b"buttons") {
-        return named;
-    }
-    if same_bytes(key, b"axes") {
-        return named;
-    }
-    complain_shown(arg);
-    complain(b": here the arguments are buttons=.., axes=.. and from=FILE\n");
-    next.bad = true;
-    next
-}
-
-// The argument from `from` on that names the stream.
-fn stream_named(from: usize) -> Named {
-    let mut named = Named {
-        at: 0,
-        given: 0,
-        bad: false,
-    };
-    let count = os::arg_count();
-    let mut i = from;
-    while i < count {
-        named = with_arg(named, i);
-        i += 1;
-    }
-    named
-}
-
-// A stream that can't be read on.
-fn broken(path: &[u8], tally: Tally) -> u8 {
+// What became of the records, and the status.
+fn ended(play: Play, first: Stream, second: Stream, from_arg: &[u8], with_arg: &[u8]) -> u8 {
+    let tally = play.tally;
     say_tally(tally);
-    fail(path);
-    TROUBLE
+    say_end(play);
+    let read = worse(end_status(first, from_arg), end_status(second, with_arg));
+    let never = never_status(play, Which::First);
+    let came = worse(never, never_status(play, Which::Second));
+    worse(worse(read, came), tally_status(tally))
 }
 
-// A stream that ends inside a record.
-fn cut(path: &[u8], left: usize, tally: Tally) -> u8 {
-    say_tally(tally);
-    complain_shown(path);
-    complain(b": a record has 24 bytes, and the last one only ");
-    put_number(ERR, left);
-    complain(b"; such a file is no whole recording of input events\n");
-    TROUBLE
-}
-
-// Tells each event of an open stream.
-fn test_open(fd: i32, path: &[u8], map: Mapping) -> u8 {
-    let mut tally = nothing_told();
+// Tells the records of both recordings, in the order of their times.
+fn tell(
+    index: &[u8],
+    text: &[u8],
+    asked: Request,
+    start: Play,
+    one: Stream,
+    other: Stream,
+    from_arg: &[u8],
+    with_arg: &[u8],
+) -> u8 {
+    let mut play = start;
+    let mut first = one;
+    let mut second = other;
     let mut i: usize = 0;
     while i < RECORDS_MAX {
-        let next = next_input(fd);
-        match next {
-            NextInput::Is(input) => {
-                tally = with_input(tally, map, input);
+        let turn = turn_of(first, second);
+        match turn {
+            Turn::First(input) => {
+                play = with_input(play, Which::First, input);
+                play = with_changes(index, text, asked, play, Which::First);
+                first = moved(first);
             }
-            NextInput::End => {
-                return say_tally(tally);
+            Turn::Second(input) => {
+                play = with_input(play, Which::Second, input);
+                play = with_changes(index, text, asked, play, Which::Second);
+                second = moved(second);
             }
-            NextInput::Cut(left) => {
-                return cut(path, left, tally);
-            }
-            NextInput::Failed => {
-                return broken(path, tally);
+            Turn::Over => {
+                return ended(play, first, second, from_arg, with_arg);
             }
         }
         i += 1;
     }
-    say_tally(tally)
+    ended(play, first, second, from_arg, with_arg)
 }
 
-fn test_path(path: &[u8], map: Mapping) -> u8 {
-    if path.len() == 0 {
-        complain(b"from=: no file is named\n");
+// Two recordings, the first of them open.
+fn test_both(
+    index: &[u8],
+    text: &[u8],
+    asked: Request,
+    play: Play,
+    first: Stream,
+    from_arg: &[u8],
+    with_arg: &[u8],
+) -> u8 {
+    let second = open_stream(with_arg);
+    if !is_open(second) {
         return TROUBLE;
     }
-    let fd = os::open_read(path);
-    if fd < 0 {
-        fail(path);
-        return TROUBLE;
-    }
-    let status = test_open(fd, path, map);
-    libc::close(fd);
+    let status = tell(
+        index,
+        text,
+        asked,
+        play,
+        moved(first),
+        moved(second),
+        from_arg,
+        with_arg,
+    );
+    close_stream(second);
     status
 }
 
-// The stream that argument `at` names.
-fn test_stream(at: usize, map: Mapping) -> u8 {
-    let mut space = arg_space();
-    let n = os::arg(at, &mut space);
-    test_path(after(&space[..n], b'='), map)
+// The recordings that two arguments name.
+fn test_streams(
+    index: &[u8],
+    text: &[u8],
+    asked: Request,
+    play: Play,
+    from_arg: &[u8],
+    with_arg: &[u8],
+) -> u8 {
+    let first = open_stream(from_arg);
+    if !is_open(first) {
+        return TROUBLE;
+    }
+    let mut status = DONE;
+    if play.two {
+        status = test_both(index, text, asked, play, first, from_arg, with_arg);
+    } else {
+        status = tell(
+            index,
+            text,
+            asked,
+            play,
+            moved(first),
+            no_stream(),
+            from_arg,
+            with_arg,
+        );
+    }
+    close_stream(first);
+    status
 }
 
-fn test_line(line: &[u8], asked: Request) -> u8 {
-    say_shown(line);
-    say(b"\n");
-    let buttons = asked.buttons;
-    let button_list = buttons.list;
-    let axes = asked.axes;
-    let axis_list = axes.list;
-    let reading = parse_sdl_mapping(
-        line,
-        first_codes(&button_list, buttons.len),
-        first_codes(&axis_list, axes.len),
-    );
-    let answer = reading.answer;
-    let map = reading.map;
-    match answer {
-        SdlAnswer::Accepted => test_stream(asked.stream, map),
-        SdlAnswer::Refused(e) => put_reading_refused(ERR, e, line),
+// The recordings of pads that have their maps.
+fn test_play(index: &[u8], text: &[u8], asked: Request, start: Play) -> u8 {
+    let named = asked.named;
+    let mut stream = arg_space();
+    let n = os::arg(named.stream, &mut stream);
+    let mut beside = arg_space();
+    let m = os::arg(named.beside, &mut beside);
+    let one = with_changes(index, text, asked, start, Which::First);
+    let play = with_changes(index, text, asked, one, Which::Second);
+    test_streams(index, text, asked, play, &stream[..n], &beside[..m])
+}
+
+fn no_start(status: u8) -> Start {
+    Start {
+        status,
+        seat: new_seat(Mapping::new(), NEVER),
     }
 }
 
-fn test_held(store: &[u8], id: Uuid, asked: Request) -> u8 {
+// A pad with the map of its line, which is shown. `label` is the pad, where there are two.
+fn start_of(
+    index: &[u8],
+    text: &[u8],
+    id: Uuid,
+    asked: Request,
+    which: Which,
+    label: &[u8],
+) -> Start {
+    let held = held_status(index, text, id, label);
+    if held != DONE {
+        return no_start(held);
+    }
+    let line = get_near(index, text, id);
+    let lists = lists_of(asked, which);
+    say_labelled(label, line);
+    let read = reading_status(line, lists, label);
+    if read != DONE {
+        return no_start(read);
+    }
+    let status = changes_status(index, text, asked, which);
+    let reading = read_with(line, lists);
+    let map = reading.map;
+    let seat = new_seat(map, due_from(which, asked.from, 0));
+    Start { status, seat }
+}
+
+// `pad 1: ` and the line
+fn say_labelled(label: &[u8], line: &[u8]) {
+    if 0 < label.len() {
+        say(label);
+        say(b": ");
+    }
+    say_shown(line);
+    say(b"\n");
+}
+
+fn test_first(index: &[u8], text: &[u8], id: Uuid, asked: Request) -> u8 {
+    let one = start_of(index, text, id, asked, Which::First, b"");
+    if one.status != DONE {
+        return one.status;
+    }
+    let first = one.seat;
+    let none = no_start(DONE);
+    let second = none.seat;
+    test_play(index, text, asked, new_play(false, first, second))
+}
+
+fn test_two(index: &[u8], text: &[u8], id: Uuid, other: Uuid, asked: Request) -> u8 {
+    let one = start_of(index, text, id, asked, Which::First, b"pad 1");
+    if one.status != DONE {
+        return one.status;
+    }
+    let two = start_of(index, text, other, asked, Which::Second, b"pad 2");
+    if two.status != DONE {
+        return two.status;
+    }
+    let first = one.seat;
+    let second = two.seat;
+    test_play(index, text, asked, new_play(true, first, second))
+}
+
+fn test_held(store: &[u8], id: Uuid, other: Uuid, asked: Request) -> u8 {
+    let named = asked.named;
     let mut index = half();
     let mut text = half();
     let status = load(store, &mut index, &mut text);
     if status != DONE {
         return status;
     }
-    let look = found_near(&index, &text, id);
-    match look {
-        NearLook::Exact => test_line(get_near(&index, &text, id), asked),
-        NearLook::Near => {
-            complain_near(id);
-            test_line(get_near(&index, &text, id), asked)
-        }
-        NearLook::Missing => none(),
-        NearLook::Unsound => refused(19),
+    if is_two(named) {
+        return test_two(&index, &text, id, other, asked);
     }
+    test_first(&index, &text, id, asked)
 }
 
-fn test_request(store: &[u8], key: &[u8], asked: Request) -> u8 {
+// The second pad's UUID is the first one's, where it has none of its own.
+fn test_ids(store: &[u8], id: Uuid, asked: Request) -> u8 {
+    let named = asked.named;
+    if named.uuids == 0 {
+        return test_held(store, id, id, asked);
+    }
+    let mut space = arg_space();
+    let n = os::arg(named.uuid, &mut space);
+    let key = after(&space[..n], b'=');
     let parsed = Uuid::parse_str(key);
     match parsed {
-        UuidParse::Parsed(spelled) => test_held(store, spelled.id, asked),
+        UuidParse::Parsed(spelled) => test_held(store, id, spelled.id, asked),
         UuidParse::Invalid => no_uuid(key),
     }
 }
 
 // `hub test STORE UUID ..`; the other arguments stand from `from` on.
 pub fn test_mapping(store: &[u8], key: &[u8], from: usize) -> u8 {
-    let buttons = codes_named(b"buttons", KEY, from);
-    let axes = codes_named(b"axes", ABS, from);
-    let named = stream_named(from);
-    if buttons.bad {
-        return TROUBLE;
+    let asked = request_from(from);
+    let status = request_status(asked);
+    if status != DONE {
+        return status;
     }
-    if axes.bad {
-        return TROUBLE;
+    let parsed = Uuid::parse_str(key);
+    match parsed {
+        UuidParse::Parsed(spelled) => test_ids(store, spelled.id, asked),
+        UuidParse::Invalid => no_uuid(key),
     }
-    if named.bad {
-        return TROUBLE;
-    }
-    if named.given != 1 {
-        return wrong_use(b"test");
-    }
-    let stream = named.at;
-    let asked = Request {
-        buttons,
-        axes,
-        stream,
-    };
-    test_request(store, key, asked)
 }

@@ -21,6 +21,15 @@ fn unbiased(x: u32) -> i16
     (x as i32 - 32768) as i16
 }
 
+// How far a value is from zero.
+pub fn distance(v: i16) -> u32 {
+    let x = biased(v);
+    if x < 32768 {
+        return std::num::wrapping_sub_u32(32768, x);
+    }
+    std::num::wrapping_sub_u32(x, 32768)
+}
+
 // The value that four bytes are, in two's complement.
 pub fn axis_value(value: u32) -> AxisValue {
     let x = std::num::wrapping_add_u32(value, 32768);

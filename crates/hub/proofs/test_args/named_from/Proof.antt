@@ -3,14 +3,17 @@
 use borrow.Author.Needs.{needs}
 use native.Mathlib.Omega.{arith}
 use Prim.Native.Nat.{_-_}
-use Rattle.hub.proofs.testing.stream_named.Statement.{statement}
-use Rattle.hub.proofs.testing.stream_named.Tie as tie
+use Rattle.hub.proofs.test_args.named_from.Statement.{statement}
+use Rattle.hub.proofs.test_args.named_from.Tie as tie
 
 abbrev Inv-loop : tie.InvT-loop
 Inv-loop from named₀ count i₀ named i = Unit {0}
 
 abbrev μ-loop : tie.MeasureT-loop
 μ-loop from named₀ count i₀ named i = count - i
+
+nothing-named-requires : tie.Need-nothing-named-requires Inv-loop μ-loop
+nothing-named-requires c κs = search needs
 
 arg-count-requires : tie.Need-arg-count-requires Inv-loop μ-loop
 arg-count-requires c κs = search needs
@@ -33,12 +36,13 @@ loop-again c = tt
 returns : tie.Need-returns Inv-loop μ-loop
 returns c = search needs
 
-pub stream-named-spec : {M : Type 1} → statement M
-stream-named-spec =
+pub named-from-spec : {M : Type 1} → statement M
+named-from-spec =
     tie.close
     (tie.spec
     Inv-loop
     μ-loop
+    nothing-named-requires
     arg-count-requires
     loop-holds
     with-arg-requires
