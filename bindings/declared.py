@@ -209,12 +209,12 @@ def main():
         check(told == right, f"{name}: Python {told}, header {right}")
     for name, told in limits():
         check(sizes.get(name, told[1]) == told[1], f"{name}: Python {sizes.get(name)}, header {told[1]}")
-    test, stack = (Path(f"bindings/c/{name}.c").read_text() for name in ("test", "stack"))
+    test, stores, stack = (Path(f"bindings/c/{name}.c").read_text() for name in ("test", "stores", "stack"))
     safe = Path("bindings/rust/src/ffi/safe.rs").read_text()
     sources = [p for folder in ("src", "tests") for p in Path("bindings/rust", folder).glob("*.rs")]
     used = "\n".join(p.read_text() for p in sources)
     for name in sorted(calls):
-        check(f"{name}(" in test, f"bindings/c/test.c does not call {name}")
+        check(f"{name}(" in test + stores, f"neither test.c nor stores.c of bindings/c calls {name}")
         check(f"X({name[9:]}, (" in stack, f"bindings/c/stack.c does not run {name}")
         check(f"{name}(" in safe, f"ffi/safe.rs does not call {name}")
         check(re.search(rf"\bsafe::{name[9:]}\(", used), f"the Rust crate does not use {name}")

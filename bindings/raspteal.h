@@ -20,7 +20,7 @@
  *   A code is an event code of the pad, 32 bits (10130 hexadecimal is the first gamepad button of Linux).
  *   A button number is 0 to 19 and an axis number 0 to 8; 0 is unknown. An element is a button or an axis.
  *   raspteal_numbers.h has them by name, and the native codes.
- *   A refusal number is one of 1 to 23, or 27; 0 means that nothing was refused. raspteal_meaning says what it means.
+ *   A refusal number is one of 1 to 24, or 27; 0 means that nothing was refused. raspteal_meaning says what it means.
  *   Where a struct has a flag beside a value (`found`, `valid`, `has_place`), the value is 0 while the flag is false.
  */
 #ifndef RASPTEAL_H
@@ -74,6 +74,15 @@ typedef struct {
     uint64_t high;
     uint64_t low;
 } raspteal_uuid;
+
+/* Who calls the store: the hall, or a league organiser by its owner byte, 1 to 255. Where organiser is false the byte is
+ * not read; an organiser with owner 0 is refused: 24. */
+typedef struct {
+    bool organiser;
+    uint8_t owner;
+} raspteal_party;
+
+static const raspteal_party RASPTEAL_HALL = {false, 0};
 
 /* How a UUID is spelled. */
 enum {
@@ -296,14 +305,15 @@ typedef struct {
     size_t not_simple;
 } raspteal_inserted;
 
-/* Whether a line is held; 19 where the store is not sound. */
+/* Whether a line is held; 19 where the store is not sound, 24 where an organiser has owner 0. */
 typedef struct {
     raspteal_refusal refusal;
     bool found;
 } raspteal_look;
 
 /* What is held under a UUID, its checksum set aside where need be: 0 nothing, 1 a line under the whole UUID (exact),
- * 2 only one under the UUID without its checksum (near); 19 where the store is not sound. */
+ * 2 only one under the UUID without its checksum (near); 19 where the store is not sound, 24 where an organiser has
+ * owner 0. */
 typedef struct {
     raspteal_refusal refusal;
     uint8_t how;
@@ -480,40 +490,43 @@ raspteal_keys raspteal_key_table(void);
 raspteal_answer raspteal_default(const uint32_t *buttons, size_t buttons_len, const uint32_t *axes, size_t axes_len);
 
 /* ---- The store: an index and a text, at most 65535 bytes each, all 0 when fresh -----------------------------------
- * Each line takes 21 bytes of the index and its own length of the text. Lend the same two buffers, of the same
- * lengths, to each call, and let nothing else write there. */
+ * Each line takes 21 bytes of the index, an organiser's 22, and its own length of the text. Lend the same two buffers,
+ * of the same lengths, to each call, and let nothing else write there.
+ * The hall and the organisers share the two. A call names its party (RASPTEAL_HALL, or {true, 7}), and files and finds
+ * lines of that party alone; each may hold a line under the same UUID. Refusal of each such call, before any other and
+ * with nothing changed: 24. */
 
-/* Sets every byte of both buffers to 0. Refusal: 23, nothing changed. */
+/* Sets every byte of both buffers to 0: no party has a line then. Refusal: 23, nothing changed. */
 raspteal_refusal raspteal_store_clear(uint8_t *index, size_t index_len, uint8_t *text, size_t text_len);
 
-/* Files the lines of a text that are for Linux and start with a UUID, each in place of the one under its UUID.
- * Refusals: 19 and 10 with nothing changed; 20 and 21 stop at one line, and those before it are filed. */
+/* Files the lines of a text that are for Linux and start with a UUID, each in place of the party's one under its UUID.
+ * Refusals: 24, 19 and 10 with nothing changed; 20 and 21 stop at one line, and those before it are filed. */
 raspteal_inserted raspteal_store_insert(uint8_t *index, size_t index_len, uint8_t *text, size_t text_len,
-                                        const uint8_t *lines, size_t lines_len);
+                                        raspteal_party party, const uint8_t *lines, size_t lines_len);
 
-/* Builds a line, as raspteal_from_data does, and files it. Refusals, with nothing changed: build's without 18, then
- * 22, 19, 21. */
+/* Builds a line, as raspteal_from_data does, and files it. Refusals, with nothing changed: 24, build's without 18,
+ * then 22, 19, 21. */
 raspteal_answer raspteal_store_save(uint8_t *index, size_t index_len, uint8_t *text, size_t text_len,
-                                    raspteal_data data, const uint32_t *buttons, size_t buttons_len,
-                                    const uint32_t *axes, size_t axes_len, const uint8_t *name, size_t name_len,
-                                    raspteal_uuid id);
+                                    raspteal_party party, raspteal_data data, const uint32_t *buttons,
+                                    size_t buttons_len, const uint32_t *axes, size_t axes_len, const uint8_t *name,
+                                    size_t name_len, raspteal_uuid id);
 
-/* Whether a line is held under a UUID. Refusal: 19. */
+/* Whether the party holds a line under a UUID. Refusals: 24, 19. */
 raspteal_look raspteal_store_found(const uint8_t *index, size_t index_len, const uint8_t *text, size_t text_len,
-                                   raspteal_uuid id);
+                                   raspteal_party party, raspteal_uuid id);
 
-/* Copies the line held under a UUID to the start of out; next is its length, 0 where none is held or the store is not
- * sound. fits is false, and out is left as it is, where out is shorter than the line. */
+/* Copies the party's line under a UUID to the start of out; next is its length, 0 where it holds none, the store is not
+ * sound or an organiser has owner 0. fits is false, and out is left as it is, where out is shorter than the line. */
 raspteal_written raspteal_store_get(const uint8_t *index, size_t index_len, const uint8_t *text, size_t text_len,
-                                    raspteal_uuid id, uint8_t *out, size_t out_len);
+                                    raspteal_party party, raspteal_uuid id, uint8_t *out, size_t out_len);
 
 /* The same two for a pad whose UUID may carry a checksum: they try the whole UUID, then raspteal_uuid_without_checksum
  * of it. An exact find is the line of raspteal_store_get. A line that is held with a checksum is not found without it,
  * nor with another. */
 raspteal_near_look raspteal_store_found_near(const uint8_t *index, size_t index_len, const uint8_t *text,
-                                             size_t text_len, raspteal_uuid id);
+                                             size_t text_len, raspteal_party party, raspteal_uuid id);
 raspteal_written raspteal_store_get_near(const uint8_t *index, size_t index_len, const uint8_t *text, size_t text_len,
-                                         raspteal_uuid id, uint8_t *out, size_t out_len);
+                                         raspteal_party party, raspteal_uuid id, uint8_t *out, size_t out_len);
 
 /* ---- Pads ------------------------------------------------------------------------------------------------------ */
 

@@ -109,6 +109,7 @@ static inline const char *raspteal_meaning(uint8_t number) {
     case 21: return "no room in the store";
     case 22: return "the name has a line end or platform:";
     case 23: return "a buffer of more than 65535 bytes";
+    case 24: return "an organiser's owner is 1 to 255, not 0";
     case 27: return "more than 256 codes held by a pad";
     default: return "no refusal has this number";
     }

@@ -1,6 +1,7 @@
 """Works the answers of samples_store's cases out from document 01, apart from the library, and compares them with
 those that data/ expects. A store is its two buffers; a call takes the list that they encode, goes by the book, and
-writes the encoding of the list that results. The last line is 'N passed, M failed'."""
+writes the encoding of the list that results. A line is held under its owner, 0 being the hall, and its UUID (document
+02, P9). The last line is 'N passed, M failed'."""
 import re
 import sys
 
@@ -38,10 +39,15 @@ def uuid_of(field):
 # ---- the list of lines that two buffers encode
 def encode(held):
     index, text = b"", b""
-    for uuid, line in held:
-        index += b"\1" + uuid.to_bytes(16, "big") + len(text).to_bytes(2, "big") + len(line).to_bytes(2, "big")
+    for (owner, uuid), line in held:
+        index += b"\3" + bytes([owner]) if owner else b"\1"
+        index += uuid.to_bytes(16, "big") + len(text).to_bytes(2, "big") + len(line).to_bytes(2, "big")
         text += line
     return index, text
+
+
+def record_size(key):
+    return 22 if key[0] else 21
 
 
 def padded(s, n):
@@ -52,15 +58,17 @@ def decode(index, text):
     """The list, or None where the store is not sound."""
     if len(index) > INDEX_MAX or len(text) > TEXT_MAX:
         return None
-    held, used = [], 0
-    while index[21 * len(held):21 * len(held) + 1] == b"\1":
-        record = index[21 * len(held):21 * len(held) + 21]
-        n = int.from_bytes(record[19:21], "big")
-        held.append((int.from_bytes(record[1:17], "big"), text[used:used + n]))
-        used += n
+    held, at, used = [], 0, 0
+    while index[at:at + 1] in (b"\1", b"\3"):
+        size = 22 if index[at] == 3 else 21
+        record = padded(index[at:at + size], size)
+        owner, body = (record[1] if size == 22 else 0), record[size - 20:]
+        n = int.from_bytes(body[18:20], "big")
+        held.append(((owner, int.from_bytes(body[:16], "big")), text[used:used + n]))
+        at, used = at + size, used + n
     i, t = encode(held) if used <= len(text) else (b"", b"\1")
     fits = len(i) <= len(index) and padded(i, len(index)) == index and padded(t, len(text)) == text
-    unlike = len({uuid for uuid, _ in held}) == len(held)
+    unlike = len({key for key, _ in held}) == len(held)
     return held if fits and unlike and all(1 <= len(line) <= LINE_MAX for _, line in held) else None
 
 
@@ -79,16 +87,20 @@ def wanted(line):
     return uuid_of(line.split(b",")[0])
 
 
-def no_room(held, uuid, line, index_len, text_len):
-    others = [h for h in held if h[0] != uuid]
-    return 21 * (len(others) + 1) > index_len or sum(len(h[1]) for h in others) + len(line) > text_len
+def no_room(held, key, line, index_len, text_len):
+    after = filed(held, key, line)
+    return sum(record_size(k) for k, _ in after) > index_len or sum(len(l) for _, l in after) > text_len
 
 
-def filed(held, uuid, line):
-    return [h for h in held if h[0] != uuid] + [(uuid, line)]
+def filed(held, key, line):
+    return [h for h in held if h[0] != key] + [(key, line)]
 
 
-def insert(held, text, index_len, text_len):
+def insert(held, owner, text, index_len, text_len):
+    if owner is None:
+        return "24", 0, held
+    if held is None:
+        return "19", 0, held
     run = valid_run(text)
     if run < len(text):
         return "10@%d" % run, 0, held
@@ -98,9 +110,9 @@ def insert(held, text, index_len, text_len):
             continue
         if len(line) > LINE_MAX:
             return "20", count, held
-        if no_room(held, uuid, line, index_len, text_len):
+        if no_room(held, (owner, uuid), line, index_len, text_len):
             return "21", count, held
-        held = filed(held, uuid, line)
+        held = filed(held, (owner, uuid), line)
     return "0", len(lines_of(text)), held
 
 
@@ -125,7 +137,9 @@ def build(uuid, slots, buttons, axes, name):
     return "0", b"%032x,%s,%s" % (uuid, name, "".join(pairs).encode())
 
 
-def save(held, uuid, slots, buttons, axes, name, index_len, text_len):
+def save(held, owner, uuid, slots, buttons, axes, name, index_len, text_len):
+    if owner is None:
+        return "24", held
     answer, line = build(uuid, slots, buttons, axes, name)
     if answer != "0":
         return answer, held
@@ -133,9 +147,9 @@ def save(held, uuid, slots, buttons, axes, name, index_len, text_len):
         return "22", held
     if held is None:
         return "19", held
-    if no_room(held, uuid, line, index_len, text_len):
+    if no_room(held, (owner, uuid), line, index_len, text_len):
         return "21", held
-    return "0", filed(held, uuid, line)
+    return "0", filed(held, (owner, uuid), line)
 
 
 # ---- the cases
@@ -165,15 +179,24 @@ def slots_of(word):
     return slots
 
 
-def near(held, uuid):
-    """Document 02, P5: 1 exact, 2 near, 0 none or 19, and the line; digits 5 to 8 are bytes 2 and 3."""
+def find(held, owner, uuid):
+    """1 found, 0 none, 19 or 24, and the line."""
+    if owner is None:
+        return "24", b""
     if held is None:
         return "19", b""
-    lines, digits = dict(held), "%032x" % uuid
-    second = int(digits[:4] + "0000" + digits[8:], 16)
-    if uuid in lines:
-        return "1", lines[uuid]
-    return ("2", lines[second]) if second in lines else ("0", b"")
+    line = dict(held).get((owner, uuid))
+    return ("0", b"") if line is None else ("1", line)
+
+
+def near(held, owner, uuid):
+    """Document 02, P5: 1 exact, 2 near, 0 none, 19 or 24, and the line; digits 5 to 8 are bytes 2 and 3."""
+    digits = "%032x" % uuid
+    says, line = find(held, owner, uuid)
+    if says == "0":
+        says, line = find(held, owner, int(digits[:4] + "0000" + digits[8:], 16))
+        return ("2" if says == "1" else says), line
+    return says, line
 
 
 class Store:
@@ -187,8 +210,8 @@ class Store:
     def poked(self, buffer, at, value):
         return buffer[:at] + value + buffer[at + len(value):] if at + len(value) <= len(buffer) else buffer
 
-    def right(self, kind, words):
-        """Whether a case expects what document 01 says; the store is changed as it says."""
+    def right(self, owner, kind, words):
+        """Whether a case expects what document 01 says; the store is changed as it says. Owner None: 24."""
         held = decode(self.index, self.text)
         sizes = len(self.index), len(self.text)
         if kind == "clear":
@@ -198,29 +221,25 @@ class Store:
             return words[0] == "0"
         if kind == "insert":
             text = spelled(" ".join(words[2:]))
-            answer, count, after = ("19", 0, None) if held is None else insert(held, text, *sizes)
+            answer, count, after = insert(held, owner, text, *sizes)
             if after is not None:
                 self.hold(after)
             return words[:2] == [answer, str(count)]
         if kind == "forms":
             text = spelled(" ".join(words[3:]))
-            answer, count, after = ("19", 0, None) if held is None else insert(held, text, *sizes)
+            answer, count, after = insert(held, owner, text, *sizes)
             others = [l for l in lines_of(text)[:count] if wanted(l) is not None and len(l.split(b",")[0]) != 32]
             if after is not None:
                 self.hold(after)
             return words[:3] == [answer, str(count), str(len(others))]
         if kind == "save":
             uuid, slots, name = uuid_word(words[1]), slots_of(words[2]), spelled(" ".join(words[5:]))
-            answer, after = save(held, uuid, slots, int(words[3]), int(words[4]), name, *sizes)
+            answer, after = save(held, owner, uuid, slots, int(words[3]), int(words[4]), name, *sizes)
             if after is not None:
                 self.hold(after)
             return words[0] == answer
-        if kind == "find":
-            line = None if held is None else dict(held).get(uuid_word(words[1]))
-            says = "19" if held is None else "0" if line is None else "1"
-            return words[0] == says and spelled(" ".join(words[2:])) == (line or b"")
-        if kind == "near":
-            says, line = near(held, uuid_word(words[1]))
+        if kind in ("find", "near"):
+            says, line = (find if kind == "find" else near)(held, owner, uuid_word(words[1]))
             return words[0] == says and spelled(" ".join(words[2:])) == line
         buffer = self.index if kind == "index" else self.text
         expected = spelled(" ".join(words))
@@ -234,13 +253,16 @@ def main(files):
             kind, *words = line.split(" ")
             if line == "" or line[0] in "#=":
                 continue
+            owner = 0
+            if kind == "by":
+                owner, kind, words = int(words[0]) or None, words[1], words[2:]
             if kind == "new":
                 store = Store(int(words[0]), int(words[1]))
             elif kind == "poke-index":
                 store.index = store.poked(store.index, int(words[0]), bytes.fromhex(words[1]))
             elif kind == "poke-text":
                 store.text = store.poked(store.text, int(words[0]), bytes.fromhex(words[1]))
-            elif store.right(kind, words):
+            elif store.right(owner, kind, words):
                 passed += 1
             else:
                 failed += 1

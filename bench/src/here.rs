@@ -1,8 +1,10 @@
 //! The port's side, through bindings/raspteal.h.
 use crate::measure::Work;
 use harness::ffi;
-use harness::plain::Uuid;
-use harness::port::{Reading, Store};
+use harness::book::Key;
+use harness::lent::{self, Store};
+use harness::plain::{Uuid, HALL};
+use harness::port::Reading;
 use std::hint::black_box;
 
 /// Pads by their lists of codes.
@@ -135,7 +137,7 @@ impl Work for Insert {
         put_back(&mut self.store, &self.before);
     }
     fn go(&mut self) {
-        let (refusal, _, _) = black_box(self.store.insert(black_box(self.text.as_bytes())));
+        let (refusal, _, _) = black_box(self.store.insert(HALL, black_box(self.text.as_bytes())));
         assert!(refusal.is_none(), "the store takes the list: {refusal:?}");
     }
 }
@@ -146,30 +148,31 @@ pub enum Call {
     Get,
 }
 
-/// Look-ups of a UUID that is held and of one that is not, in several stores by turns. In stores that aren't sound,
-/// none is found.
+/// Look-ups of a key that is held and of one that is not, each by its party, in several stores by turns. In stores that
+/// aren't sound, none is found.
 pub struct Look {
     pub stores: Vec<Store>,
-    pub lists: Vec<Vec<Uuid>>,
+    pub lists: Vec<Vec<Key>>,
     pub sound: bool,
     pub call: Call,
-    pub absent: Vec<Uuid>,
+    pub absent: Vec<Key>,
     pub turn: usize,
     pub out: Vec<u8>,
 }
 
 impl Look {
     /// A look-up in store k.
-    fn one(&mut self, k: usize, u: Uuid) -> bool {
+    fn one(&mut self, k: usize, key: Key) -> bool {
         let store = black_box(&self.stores[k]);
         let (i, t, out) = (&store.index, &store.text, &mut self.out);
-        let u = id(&black_box(u));
+        let (owner, u) = black_box(key);
+        let (p, u) = (lent::party((owner != 0).then_some(owner)), id(&u));
         if self.call == Call::Found {
-            let look = unsafe { ffi::raspteal_store_found(i.as_ptr(), i.len(), t.as_ptr(), t.len(), u) };
+            let look = unsafe { ffi::raspteal_store_found(i.as_ptr(), i.len(), t.as_ptr(), t.len(), p, u) };
             return black_box(look).found;
         }
         let line = unsafe {
-            ffi::raspteal_store_get(i.as_ptr(), i.len(), t.as_ptr(), t.len(), u, out.as_mut_ptr(), out.len())
+            ffi::raspteal_store_get(i.as_ptr(), i.len(), t.as_ptr(), t.len(), p, u, out.as_mut_ptr(), out.len())
         };
         black_box(out);
         black_box(line).next > 0
@@ -233,8 +236,8 @@ impl Work for Save {
         let (b, a) = (&self.pad.buttons, &self.pad.axes);
         let answer = unsafe {
             ffi::raspteal_store_save(
-                s.index.as_mut_ptr(), s.index.len(), s.text.as_mut_ptr(), s.text.len(), self.data, b.as_ptr(),
-                b.len(), a.as_ptr(), a.len(), n.as_ptr(), n.len(), id(&self.form.uuid),
+                s.index.as_mut_ptr(), s.index.len(), s.text.as_mut_ptr(), s.text.len(), lent::party(HALL), self.data,
+                b.as_ptr(), b.len(), a.as_ptr(), a.len(), n.as_ptr(), n.len(), id(&self.form.uuid),
             )
         };
         assert!(black_box(answer).refusal.number == 0, "the store takes the save");

@@ -1,6 +1,7 @@
 //! Inputs: mapping lists, pads and full stores.
-use harness::plain::Uuid;
-use harness::port::Store;
+use harness::book::{self, Key};
+use harness::lent::Store;
+use harness::plain::{Uuid, HALL};
 
 pub const BUFFER: usize = 65535;
 pub const RECORD: usize = 21;
@@ -28,7 +29,7 @@ pub fn mappings(text: &str) -> Vec<&str> {
 
 /// The longest front of the text, in whole lines, that a fresh store holds.
 pub fn fitting(text: &str) -> String {
-    let (refusal, lines, _) = Store::fresh(BUFFER, BUFFER).insert(text.as_bytes());
+    let (refusal, lines, _) = Store::fresh(BUFFER, BUFFER).insert(HALL, text.as_bytes());
     match refusal {
         None => text.to_string(),
         Some(_) => text.split_inclusive('\n').take(lines).collect(),
@@ -44,15 +45,20 @@ pub fn axes(n: u32) -> Vec<u32> {
     (0..n).map(|k| 0x30000 + k).collect()
 }
 
-/// A store with a line of that length under each UUID, in buffers of those lengths.
-pub fn store(uuids: &[Uuid], line: usize, index: usize, text: usize) -> Store {
+/// A store with a line of that length under each key, an owner and a UUID, in buffers of those lengths.
+pub fn store(keys: &[Key], line: usize, index: usize, text: usize) -> Store {
     let mut s = Store::fresh(index, text);
-    for (k, u) in uuids.iter().enumerate() {
-        let (at, off) = (RECORD * k, line * k);
-        s.index[at] = 1;
-        s.index[at + 1..at + 17].copy_from_slice(u);
-        s.index[at + 17..at + 19].copy_from_slice(&(off as u16).to_be_bytes());
-        s.index[at + 19..at + 21].copy_from_slice(&(line as u16).to_be_bytes());
+    let mut at = 0;
+    for (k, key) in keys.iter().enumerate() {
+        let (off, body) = (line * k, at + book::record(*key) - 20);
+        s.index[at] = if key.0 == 0 { 1 } else { 3 };
+        if key.0 != 0 {
+            s.index[at + 1] = key.0;
+        }
+        s.index[body..body + 16].copy_from_slice(&key.1);
+        s.index[body + 16..body + 18].copy_from_slice(&(off as u16).to_be_bytes());
+        s.index[body + 18..body + 20].copy_from_slice(&(line as u16).to_be_bytes());
+        at = body + 20;
         for (i, b) in s.text[off..off + line].iter_mut().enumerate() {
             *b = b"dpleft:h0.8,lefttrigger:b8,"[(i + k) % 27];
         }

@@ -1,6 +1,6 @@
 //! The yardsticks: plain passes over the bytes of a store, compiled with the options of everything else here.
 use crate::measure::Work;
-use harness::port::Store;
+use harness::lent::Store;
 use std::hint::black_box;
 
 /// The sum of the bytes in 64 bits, as the compiler makes it: rustc 1.95 adds one byte at a time, eight in a turn of

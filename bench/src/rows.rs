@@ -6,9 +6,11 @@ use crate::pads;
 use crate::passes::{CopyPass, SumPass};
 use crate::rust;
 use crate::uuids::{self, Family};
+use harness::book::Key;
 use harness::gen::Rng;
-use harness::plain::{Uuid, AXIS};
-use harness::port::{Reading, Store};
+use harness::lent::Store;
+use harness::plain::{Uuid, AXIS, HALL};
+use harness::port::Reading;
 use std::collections::HashSet;
 
 #[derive(Clone, Copy)]
@@ -40,7 +42,7 @@ const ORDINARY: Goal = Goal::AtMost(1.5, Side::Sum);
 const WORST: Goal = Goal::AtMost(15.0, Side::Sum);
 const LINEAR: Goal = Goal::Growth(2.2);
 
-pub const ROWS: [Row; 24] = [
+pub const ROWS: [Row; 28] = [
     row("read", "`parse_sdl_mapping`, 32 buttons and 16 axes", HALF, read),
     row("build", "`from_data`, 25 slots", HALF, build),
     row("default", "`default`", Goal::Stated, default),
@@ -51,6 +53,14 @@ pub const ROWS: [Row; 24] = [
     row("get", "`get`, full store, ordinary UUIDs", ORDINARY, |_| full(Call::Get, &uuids::ORDINARY)),
     row("found-worst", "`found`, full store, constructed UUIDs", WORST, |_| full(Call::Found, &uuids::CONSTRUCTED)),
     row("get-worst", "`get`, full store, constructed UUIDs", WORST, |_| full(Call::Get, &uuids::CONSTRUCTED)),
+    row("found-shared", "`found`, one UUID of 255 organisers", ORDINARY, |_| shared(Call::Found, &uuids::SHARED)),
+    row("get-shared", "`get`, one UUID of 255 organisers", ORDINARY, |_| shared(Call::Get, &uuids::SHARED)),
+    row("found-shared-worst", "`found`, constructed, 255 organisers", WORST, |_| {
+        shared(Call::Found, &uuids::SHARED_CONSTRUCTED)
+    }),
+    row("get-shared-worst", "`get`, constructed, 255 organisers", WORST, |_| {
+        shared(Call::Get, &uuids::SHARED_CONSTRUCTED)
+    }),
     row("found-growth", "`found`, ordinary UUIDs", LINEAR, |_| growing(Call::Found, &uuids::ORDINARY)),
     row("get-growth", "`get`, ordinary UUIDs", LINEAR, |_| growing(Call::Get, &uuids::ORDINARY)),
     row("found-worst-growth", "`found`, constructed UUIDs", LINEAR, |_| growing(Call::Found, &uuids::CONSTRUCTED)),
@@ -67,8 +77,9 @@ pub const ROWS: [Row; 24] = [
     row("pads-event", "`Pads::raw_event`", Goal::Nanoseconds(1200.0), |_| pads::two_events(20)),
 ];
 
-/// Records that fill an index of 65535 bytes, and sizes for a growth.
+/// Records that fill an index of 65535 bytes, the hall's and organisers', and sizes for a growth.
 const FULL: usize = 3120;
+const FULL_SHARED: usize = 2978;
 const SIZES: [usize; 5] = [195, 390, 780, 1560, FULL];
 const HELD: [usize; 4] = [240, 480, 960, 1920];
 const AGAIN: [usize; 4] = [230, 460, 920, 1840];
@@ -165,7 +176,7 @@ fn filled(held: &[Uuid], list: &[Uuid], more: usize) -> Case {
     let line = before.lines().next().map_or(0, str::len);
     let lines = held.len() + more;
     let mut store = Store::fresh(RECORD * lines, line * lines);
-    let (refusal, _, _) = store.insert(before.as_bytes());
+    let (refusal, _, _) = store.insert(HALL, before.as_bytes());
     assert!(refusal.is_none(), "the store takes the lines that it holds");
     let gilrs = rust::Insert::of(&before, &text);
     case(held.len().to_string(), here::Insert { before: store.clone(), store, text }, gilrs)
@@ -202,12 +213,15 @@ fn insert_again(_: &[List]) -> Vec<Case> {
 /// Look-ups in several stores in turn, as many as have the records of four full ones: in a single small store, the
 /// processor would learn the branches of a sort by heart.
 fn look(call: Call, family: &Family, n: usize, buffers: [usize; 2], label: String) -> Case {
-    let lists: Vec<Vec<Uuid>> = (0..4 * FULL / n).map(|seed| (family.list)(n, seed as u64)).collect();
+    let lists: Vec<Vec<Key>> = (0..4 * FULL / n).map(|seed| (family.list)(n, seed as u64)).collect();
     let stores: Vec<Store> = lists.iter().map(|l| inputs::store(l, 21, buffers[0], buffers[1])).collect();
     let mut r = Rng::new(10);
-    let held: Vec<Uuid> = (0..LOOKS).map(|_| r.pick(&lists[0])).collect();
+    let held: Vec<Uuid> = (0..LOOKS).map(|_| r.pick(&lists[0]).1).collect();
     let absent = uuids::random(LOOKS, 99);
-    let gilrs = rust::Look::of(&text_of(&lists[0]), &held, &absent);
+    // gilrs has one database for each party: here one with the UUIDs of all
+    let listed: Vec<Uuid> = lists[0].iter().map(|key| key.1).collect();
+    let gilrs = rust::Look::of(&text_of(&listed), &held, &absent);
+    let absent = absent.into_iter().zip(lists[0].iter().cycle()).map(|(u, key)| (key.0, u)).collect();
     let sound = lists[0].iter().collect::<HashSet<_>>().len() == n;
     let port = here::Look { stores: stores.clone(), lists, sound, call, absent, turn: 0, out: vec![0; 4096] };
     with_passes(case(label, port, gilrs), stores)
@@ -216,6 +230,11 @@ fn look(call: Call, family: &Family, n: usize, buffers: [usize; 2], label: Strin
 /// Full stores: 3120 records, buffers of 65535 bytes.
 fn full(call: Call, families: &[Family]) -> Vec<Case> {
     families.iter().map(|f| look(call, f, FULL, [BUFFER; 2], f.name.to_string())).collect()
+}
+
+/// Full stores of organisers' lines: 2978 records.
+fn shared(call: Call, families: &[Family]) -> Vec<Case> {
+    families.iter().map(|f| look(call, f, FULL_SHARED, [BUFFER; 2], f.name.to_string())).collect()
 }
 
 /// Stores of doubling size; each one's buffers are full.
@@ -231,7 +250,8 @@ fn growing(call: Call, families: &[Family]) -> Vec<Case> {
 
 fn save(lists: &[List]) -> Vec<Case> {
     let held: Vec<Vec<Uuid>> = (0..4).map(|seed| uuids::pads(FULL, seed)).collect();
-    let stores: Vec<Store> = held.iter().map(|l| inputs::store(l, 20, BUFFER, BUFFER)).collect();
+    let stores: Vec<Store> =
+        held.iter().map(|l| inputs::store(&uuids::hall(l.clone()), 20, BUFFER, BUFFER)).collect();
     let mut form = forms(lists).swap_remove(0);
     form.uuid = held[0][0];
     let gilrs = rust::Save::of(&text_of(&held[0]), &form, &pad());

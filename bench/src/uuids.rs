@@ -1,27 +1,53 @@
-//! Lists of UUIDs: ordinary ones, and ones constructed against the store's check that no UUID stands twice.
+//! Lists of keys, of the hall and of organisers: ordinary ones, and ones constructed against the store's check that no
+//! key stands twice.
+use harness::book::Key;
 use harness::gen::Rng;
 use harness::plain::Uuid;
 
-/// Lists of one kind: of that many UUIDs, another one for each seed.
+/// Lists of one kind: of that many keys, another one for each seed.
 pub struct Family {
     pub name: &'static str,
-    pub list: fn(usize, u64) -> Vec<Uuid>,
+    pub list: fn(usize, u64) -> Vec<Key>,
+}
+
+/// The hall's keys.
+pub fn hall(uuids: Vec<Uuid>) -> Vec<Key> {
+    uuids.into_iter().map(|u| (0, u)).collect()
 }
 
 pub const ORDINARY: [Family; 3] = [
-    Family { name: "pads", list: pads },
-    Family { name: "random", list: random },
-    Family { name: "ascending", list: ascending },
+    Family { name: "pads", list: |n, seed| hall(pads(n, seed)) },
+    Family { name: "random", list: |n, seed| hall(random(n, seed)) },
+    Family { name: "ascending", list: |n, seed| hall(ascending(n, seed)) },
 ];
 
 pub const CONSTRUCTED: [Family; 6] = [
-    Family { name: "one bucket", list: |n, seed| one_bucket(n, seed, multiple) },
-    Family { name: "one bucket, first halves alike", list: |n, seed| one_bucket(n, seed, |_| 0) },
-    Family { name: "long chains", list: long_chains },
-    Family { name: "long chains, one too long", list: |n, seed| too_long(n, seed, multiple) },
-    Family { name: "long chains, one too long, first halves alike", list: |n, seed| too_long(n, seed, |_| 0) },
-    Family { name: "one bucket, the last UUID twice", list: twice },
+    Family { name: "one bucket", list: |n, seed| hall(one_bucket(n, seed, multiple)) },
+    Family { name: "one bucket, first halves alike", list: |n, seed| hall(one_bucket(n, seed, |_| 0)) },
+    Family { name: "long chains", list: |n, seed| hall(long_chains(n, seed)) },
+    Family { name: "long chains, one too long", list: |n, seed| hall(too_long(n, seed, multiple)) },
+    Family { name: "long chains, one too long, first halves alike", list: |n, seed| hall(too_long(n, seed, |_| 0)) },
+    Family { name: "one bucket, the last UUID twice", list: |n, seed| hall(twice(n, seed)) },
 ];
+
+/// Organisers' lines, whose records have 22 bytes.
+pub const SHARED: [Family; 2] = [
+    Family { name: "each pad of 255 organisers", list: |n, seed| shared(n, &pads(n / OWNERS + 1, seed)) },
+    Family { name: "each random UUID of 255 organisers", list: |n, seed| shared(n, &random(n / OWNERS + 1, seed)) },
+];
+
+pub const SHARED_CONSTRUCTED: [Family; 1] = [Family { name: "one bucket, 255 organisers", list: one_bucket_shared }];
+
+const OWNERS: usize = 255;
+
+fn owner(k: usize) -> u8 {
+    (1 + k % OWNERS) as u8
+}
+
+/// Each UUID in turn under every owner.
+fn shared(n: usize, uuids: &[Uuid]) -> Vec<Key> {
+    (0..n).map(|k| (owner(k), uuids[k / OWNERS])).collect()
+}
 
 /// As SDL makes them: bus, vendor, product and version, low byte first, each followed by two zeros.
 pub fn pads(n: usize, seed: u64) -> Vec<Uuid> {
@@ -54,8 +80,8 @@ fn halves(high: u64, low: u64) -> Uuid {
     ((high as u128) << 64 | low as u128).to_be_bytes()
 }
 
-// What the lists aim at: the store puts a UUID into one of 4096 buckets, (31 high + low) mod 4096 with the halves taken
-// mod 65521, compares it with at most 16 of its bucket, and sorts all by their halves where a bucket has more.
+// What the lists aim at: the store puts a key into one of 4096 buckets, (31 high + low + 7919 owner) mod 4096 with the
+// halves taken mod 65521, compares it with at most 16 of its bucket, and sorts all where a bucket has more.
 const PRIME: u64 = 65521;
 const CHAIN: usize = 17;
 
@@ -68,6 +94,13 @@ fn multiple(r: &mut Rng) -> u64 {
 fn one_bucket(n: usize, seed: u64, first: fn(&mut Rng) -> u64) -> Vec<Uuid> {
     let mut r = Rng::new(3000 + seed);
     (0..n).map(|_| halves(first(&mut r), multiple(&mut r))).collect()
+}
+
+/// All in bucket 0, whatever their owners.
+fn one_bucket_shared(n: usize, seed: u64) -> Vec<Key> {
+    let mut r = Rng::new(5000 + seed);
+    let rest = |o: u8| 4095 - (7919 * o as u64 + 4095) % 4096;
+    (0..n).map(|k| (owner(k), halves(multiple(&mut r), multiple(&mut r) + rest(owner(k))))).collect()
 }
 
 /// The store is damaged: look-ups refuse it, at the end of the sort.

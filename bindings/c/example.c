@@ -20,6 +20,7 @@ static const uint32_t axes[] = {RASPTEAL_NEC_AXIS_LSTICKX, RASPTEAL_NEC_AXIS_LST
 /* The largest store. Keep the two buffers between runs, e.g. in a file; fresh ones are all 0. */
 static uint8_t index_[RASPTEAL_INDEX_MAX], text[RASPTEAL_TEXT_MAX];
 #define STORE index_, sizeof index_, text, sizeof text
+#define HALL RASPTEAL_HALL /* the hall's own lines; a league organiser's are {true, 7}'s */
 
 /* Ends the program where a call was refused. */
 static void accept(raspteal_refusal r, const char *what) {
@@ -74,9 +75,9 @@ static size_t load(const char *path, uint8_t *to, size_t room) {
 
 /* The line under a UUID: its length, 0 where none is held. */
 static size_t line_of(raspteal_uuid pad, uint8_t line[RASPTEAL_LINE_MAX]) {
-    raspteal_look l = raspteal_store_found(STORE, pad);
+    raspteal_look l = raspteal_store_found(STORE, HALL, pad);
     accept(l.refusal, "look-up");
-    return raspteal_store_get(STORE, pad, line, RASPTEAL_LINE_MAX).next;
+    return raspteal_store_get(STORE, HALL, pad, line, RASPTEAL_LINE_MAX).next;
 }
 
 int main(int argc, char **argv) {
@@ -85,7 +86,7 @@ int main(int argc, char **argv) {
         fprintf(stderr, "usage: hub LIST\n");
         return 1;
     }
-    raspteal_inserted i = raspteal_store_insert(STORE, list, load(argv[1], list, sizeof list));
+    raspteal_inserted i = raspteal_store_insert(STORE, HALL, list, load(argv[1], list, sizeof list));
     printf("%zu lines\n", i.count);
     if (i.refusal.number == 21)
         printf("refused 21: %s; the lines before it are filed\n", raspteal_meaning(21));
@@ -115,7 +116,8 @@ int main(int argc, char **argv) {
     }
     bound = bind(bound, RASPTEAL_NEC_BTN_SOUTH, RASPTEAL_BUTTON_SOUTH);
     bound = bind(bound, RASPTEAL_NEC_BTN_EAST, RASPTEAL_BUTTON_EAST);
-    raspteal_answer saved = raspteal_store_save(STORE, bound, BUTTONS, AXES, (const uint8_t *)"Seat 7", 6, pad);
+    raspteal_answer saved =
+        raspteal_store_save(STORE, HALL, bound, BUTTONS, AXES, (const uint8_t *)"Seat 7", 6, pad);
     accept(saved.refusal, "save");
     len = line_of(pad, line);
     printf("saved %.*s\n", (int)len, (const char *)line);
@@ -129,7 +131,7 @@ int main(int argc, char **argv) {
     printf("reads back %s\n", same ? "the same" : "differently");
 
     /* A name that may not be saved is refused, and the store stays as it was. */
-    saved = raspteal_store_save(STORE, bound, BUTTONS, AXES, (const uint8_t *)"Seat 7, left", 12, pad);
+    saved = raspteal_store_save(STORE, HALL, bound, BUTTONS, AXES, (const uint8_t *)"Seat 7, left", 12, pad);
     if (saved.refusal.number != 0)
         printf("refused %d: %s\n", saved.refusal.number, raspteal_meaning(saved.refusal.number));
     return 0;

@@ -145,7 +145,7 @@ static bool same_map(const raspteal_mapping *a, const raspteal_mapping *b) {
 
 static void check_map(const raspteal_answer *a) {
     met[a->refusal.number]++;
-    CHECK(a->refusal.number <= 23 && a->map.count <= RASPTEAL_CODES_MAX);
+    CHECK(a->refusal.number <= 24 && a->map.count <= RASPTEAL_CODES_MAX);
     CHECK(a->refusal.number == 0 || a->map.count == 0);
     bool ascending = true;
     for (size_t i = 1; i < a->map.count; i++)
@@ -238,19 +238,37 @@ static bool unchanged(void) {
     return memcmp(kept[0], at(INDEX), lent[INDEX]) == 0 && memcmp(kept[1], at(TEXT), lent[TEXT]) == 0;
 }
 
+/* The hall, one of two organisers, or rarely any other, owner 0 too; the hall with any byte. */
+static raspteal_party any_party(void) {
+    size_t k = below(12);
+    if (k == 0)
+        return (raspteal_party){true, (uint8_t)below(256)};
+    if (k == 1)
+        return (raspteal_party){true, 0};
+    return (raspteal_party){k > 6, k > 6 ? (uint8_t)(1 + k % 2) : (uint8_t)any()};
+}
+
+/* 24 exactly for an organiser with owner 0. */
+static void check_owner(raspteal_party p, raspteal_refusal r) {
+    CHECK((r.number == 24) == (p.organiser && p.owner == 0));
+}
+
 static void new_store(void) {
-    fill(INDEX, below(3) == 0 ? length(65600) : 21 * below(9), 0);
+    fill(INDEX, below(3) == 0 ? length(65600) : 21 * below(9) + below(9), 0);
     fill(TEXT, below(3) == 0 ? length(65600) : 400, 0);
 }
 
 static void insert_lines(void) {
     any_line(false);
     keep();
-    raspteal_inserted i = raspteal_store_insert(STORE, at(LINE), lent[LINE]);
+    raspteal_party p = any_party();
+    raspteal_inserted i = raspteal_store_insert(STORE, p, at(LINE), lent[LINE]);
     met[i.refusal.number]++;
-    CHECK(i.count <= lent[LINE] && (i.refusal.number != 19 || i.count == 0));
-    CHECK((i.refusal.number != 19 && i.refusal.number != 10) || unchanged());
-    CHECK(i.refusal.number == 19 || raspteal_store_found(STORE, any_uuid()).refusal.number == 0);
+    check_owner(p, i.refusal);
+    bool whole = i.refusal.number == 24 || i.refusal.number == 19 || i.refusal.number == 10;
+    CHECK(i.count <= lent[LINE] && (!whole || (i.count == 0 && i.not_simple == 0 && unchanged())));
+    bool unsound = raspteal_store_found(STORE, RASPTEAL_HALL, any_uuid()).refusal.number == 19;
+    CHECK(i.refusal.number == 24 || unsound == (i.refusal.number == 19));
 }
 
 static void save_line(void) {
@@ -259,14 +277,16 @@ static void save_line(void) {
     any_name();
     keep();
     raspteal_uuid id = any_uuid();
-    raspteal_answer s = raspteal_store_save(STORE, any_slots(), LIST(BUTTONS), LIST(AXES), at(NAME), lent[NAME], id);
+    raspteal_party p = any_party();
+    raspteal_answer s = raspteal_store_save(STORE, p, any_slots(), LIST(BUTTONS), LIST(AXES), at(NAME), lent[NAME], id);
     check_map(&s);
+    check_owner(p, s.refusal);
     if (s.refusal.number != 0) {
         check(unchanged(), "a refused save changes nothing");
         return;
     }
     lend(OUT, RASPTEAL_LINE_MAX);
-    raspteal_written w = raspteal_store_get(STORE, id, at(OUT), lent[OUT]);
+    raspteal_written w = raspteal_store_get(STORE, p, id, at(OUT), lent[OUT]);
     raspteal_answer a = raspteal_parse_sdl_mapping(at(OUT), w.next, LIST(BUTTONS), LIST(AXES));
     CHECK(w.fits && a.refusal.number == 0 && same_map(&a.map, &s.map));
 }
@@ -275,9 +295,11 @@ static void look(void) {
     raspteal_uuid id = any_uuid();
     keep();
     fill(OUT, length(RASPTEAL_LINE_MAX), 7);
-    raspteal_look l = raspteal_store_found(STORE, id);
-    raspteal_written w = raspteal_store_get(STORE, id, at(OUT), lent[OUT]);
-    CHECK(unchanged() && (l.refusal.number == 0 || l.refusal.number == 19));
+    raspteal_party p = any_party();
+    raspteal_look l = raspteal_store_found(STORE, p, id);
+    raspteal_written w = raspteal_store_get(STORE, p, id, at(OUT), lent[OUT]);
+    check_owner(p, l.refusal);
+    CHECK(unchanged() && (l.refusal.number == 0 || l.refusal.number == 19 || l.refusal.number == 24));
     CHECK(w.fits ? w.next <= lent[OUT] && l.found == (w.next > 0) : l.found && w.next == 0);
 }
 
@@ -291,7 +313,7 @@ static void clear_store(void) {
     raspteal_refusal r = raspteal_store_clear(STORE);
     met[r.number]++;
     CHECK(r.number == (lent[INDEX] > RASPTEAL_INDEX_MAX || lent[TEXT] > RASPTEAL_TEXT_MAX ? 23 : 0));
-    CHECK(r.number != 0 || !raspteal_store_found(STORE, any_uuid()).found);
+    CHECK(r.number != 0 || !raspteal_store_found(STORE, any_party(), any_uuid()).found);
 }
 
 static void (*const calls[])(void) = {read_line, walk_line, build_line, insert_lines, insert_lines,

@@ -92,12 +92,12 @@ static raspteal_element element;
     X(pads_raw_event, (raspteal_pads_new(), true, 5, 2, 5))                                                            \
     X(pads_change_map, (raspteal_pads_new(), true, map))                                                               \
     X(pads_value, (raspteal_pads_new(), element))                                                                      \
-    X(store_insert, (STORE, (const uint8_t *)list, strlen(list)))                                                      \
-    X(store_found, (STORE, pad))                                                                                       \
-    X(store_get, (STORE, pad, OUT))                                                                                    \
-    X(store_found_near, (STORE, pad))                                                                                  \
-    X(store_get_near, (STORE, pad, OUT))                                                                               \
-    X(store_save, (STORE, data, CODES, CODES, NAME, pad))                                                              \
+    X(store_insert, (STORE, RASPTEAL_HALL, (const uint8_t *)list, strlen(list)))                                       \
+    X(store_found, (STORE, RASPTEAL_HALL, pad))                                                                        \
+    X(store_get, (STORE, RASPTEAL_HALL, pad, OUT))                                                                     \
+    X(store_found_near, (STORE, RASPTEAL_HALL, pad))                                                                   \
+    X(store_get_near, (STORE, RASPTEAL_HALL, pad, OUT))                                                                \
+    X(store_save, (STORE, RASPTEAL_HALL, data, CODES, CODES, NAME, pad))                                               \
     X(store_clear, (STORE))
 
 #define X(name, arguments) static void run_##name(void) { (void)raspteal_##name arguments; }
@@ -127,7 +127,7 @@ static void prepare(void) {
         to += sprintf(to, "leftx:a%u,", k);
         map = raspteal_mapping_put(map, raspteal_entry_new(k, (raspteal_element){true, 1})).map;
     }
-    raspteal_store_insert(STORE, (const uint8_t *)list, strlen(list));
+    raspteal_store_insert(STORE, RASPTEAL_HALL, (const uint8_t *)list, strlen(list));
     element = (raspteal_element){true, 1};
     entry = map.entries[5];
     data = raspteal_data_insert_btn(raspteal_data_new(), 5, 1).slots;

@@ -1,37 +1,13 @@
-/* The C boundary: layout of what crosses, and a handful of calls. Prints a line for each check that fails, and last
- * 'N passed, M failed'. */
-#include <stdio.h>
-#include <string.h>
-
-#include "../raspteal.h"
-
-static int passed, failed;
-
-static void check(bool ok, const char *what) {
-    if (ok) {
-        passed++;
-        return;
-    }
-    failed++;
-    printf("failed: %s\n", what);
-}
-
-#define CHECK(test) check((test), #test)
-#define TEXT(s) (const uint8_t *)(s), sizeof(s) - 1
-#define LIST(a) (a), sizeof(a) / sizeof((a)[0])
-#define BUFFER(a) (a), sizeof(a)
-
-#define U "00000000000000000000000000000000"
-
-static const uint32_t buttons[] = {0x10130, 0x10131};
-static const uint32_t axes[] = {0x30000};
-static const raspteal_uuid one = {0, 1};
+/* The C boundary: layout of what crosses, and a handful of calls; stores.c has those of the store. Prints a line for
+ * each check that fails, and last 'N passed, M failed'. */
+#include "checks.h"
 
 static void layout(void) {
     CHECK(sizeof(raspteal_refusal) == 24);
     CHECK(offsetof(raspteal_refusal, place) == 8);
     CHECK(offsetof(raspteal_refusal, code) == 20);
     CHECK(sizeof(raspteal_written) == 16);
+    CHECK(sizeof(raspteal_party) == 2 && offsetof(raspteal_party, owner) == 1);
     CHECK(sizeof(raspteal_uuid_parse) == 32 && offsetof(raspteal_uuid_parse, form) == 24);
     CHECK(sizeof(raspteal_inserted) == 40 && offsetof(raspteal_inserted, not_simple) == 32);
     CHECK(sizeof(raspteal_index_parse) == 4);
@@ -222,71 +198,6 @@ static void builds(void) {
     CHECK(d.refusal.number == 0 && d.map.is_default && d.map.count == 0);
 }
 
-static void stores(void) {
-    uint8_t index[42] = {0}, text[100] = {0}, out[100];
-    raspteal_inserted i = raspteal_store_insert(BUFFER(index), BUFFER(text), TEXT("# a pad\n" U ",T\n"));
-    CHECK(i.refusal.number == 0 && i.count == 2 && index[0] == 1 && memcmp(text, U ",T", 34) == 0);
-    raspteal_changed c = raspteal_data_insert_btn(raspteal_data_new(), 0x10130, 1);
-    raspteal_answer s =
-        raspteal_store_save(BUFFER(index), BUFFER(text), c.slots, LIST(buttons), LIST(axes), TEXT("Pad"), one);
-    CHECK(s.refusal.number == 0 && s.map.count == 1 && s.map.name_len == 3);
-    raspteal_look l = raspteal_store_found(BUFFER(index), BUFFER(text), one);
-    CHECK(l.refusal.number == 0 && l.found);
-    raspteal_written w = raspteal_store_get(BUFFER(index), BUFFER(text), one, BUFFER(out));
-    CHECK(w.fits && w.next == 42 && memcmp(out, "00000000000000000000000000000001,Pad,a:b0,", 42) == 0);
-    CHECK(!raspteal_store_get(BUFFER(index), BUFFER(text), one, out, 41).fits);
-    s = raspteal_store_save(BUFFER(index), BUFFER(text), c.slots, LIST(buttons), LIST(axes), TEXT("platform:"), one);
-    CHECK(s.refusal.number == 22 && s.map.count == 0);
-    i = raspteal_store_insert(BUFFER(index), BUFFER(text), TEXT("00000000000000000000000000000002,T"));
-    CHECK(i.refusal.number == 21 && i.count == 0);
-    index[0] = 9;
-    CHECK(raspteal_store_found(BUFFER(index), BUFFER(text), one).refusal.number == 19);
-    raspteal_refusal r = raspteal_store_clear(BUFFER(index), BUFFER(text));
-    CHECK(r.number == 0 && index[0] == 0 && text[0] == 0);
-    CHECK(!raspteal_store_found(BUFFER(index), BUFFER(text), one).found);
-}
-
-static void forms(void) {
-    static const char *const spelled[] = {"00000000000000000000000000000001", "00000000-0000-0000-0000-000000000001",
-                                          "{00000000-0000-0000-0000-000000000001}",
-                                          "urn:uuid:00000000-0000-0000-0000-000000000001"};
-    for (uint8_t k = 0; k < 4; k++) {
-        const uint8_t *s = (const uint8_t *)spelled[k];
-        raspteal_uuid_parse p = raspteal_uuid_parse_str(s, strlen(spelled[k]));
-        CHECK(p.valid && p.form == k + 1 && p.id.low == 1);
-        uint8_t index[21] = {0}, text[60] = {0};
-        raspteal_inserted i = raspteal_store_insert(BUFFER(index), BUFFER(text), s, strlen(spelled[k]));
-        CHECK(i.refusal.number == 0 && i.count == 1 && i.not_simple == (k > 0));
-        CHECK(raspteal_store_found(BUFFER(index), BUFFER(text), one).found);
-    }
-    CHECK(raspteal_uuid_parse_str(TEXT("q")).form == 0);
-    CHECK(raspteal_first_form(TEXT("xinput,T")) == RASPTEAL_XINPUT);
-    CHECK(raspteal_first_form(TEXT(U ",T")) == RASPTEAL_SIMPLE && raspteal_first_form(TEXT(U)) == 0);
-}
-
-static void near_stores(void) {
-    uint8_t index[42] = {0}, text[100] = {0}, out[100];
-    raspteal_uuid pad = {0x0300abcd5e040000, 1}, plain = {0x030000005e040000, 1}, other = {0x0300abce5e040000, 1};
-    CHECK(raspteal_uuid_without_checksum(pad).high == plain.high && raspteal_uuid_without_checksum(pad).low == 1);
-    CHECK(raspteal_store_found_near(BUFFER(index), BUFFER(text), pad).how == 0);
-    CHECK(raspteal_store_get_near(BUFFER(index), BUFFER(text), pad, BUFFER(out)).next == 0);
-    raspteal_store_insert(BUFFER(index), BUFFER(text), TEXT("030000005e0400000000000000000001,P"));
-    CHECK(raspteal_store_found_near(BUFFER(index), BUFFER(text), pad).how == 2);
-    CHECK(!raspteal_store_found(BUFFER(index), BUFFER(text), pad).found);
-    raspteal_written w = raspteal_store_get_near(BUFFER(index), BUFFER(text), pad, BUFFER(out));
-    CHECK(w.fits && w.next == 34 && memcmp(out, "030000005e0400000000000000000001,P", 34) == 0);
-    CHECK(!raspteal_store_get_near(BUFFER(index), BUFFER(text), pad, out, 33).fits);
-    CHECK(raspteal_store_found_near(BUFFER(index), BUFFER(text), plain).how == 1);
-    raspteal_store_insert(BUFFER(index), BUFFER(text), TEXT("0300abcd5e0400000000000000000001,Q"));
-    CHECK(raspteal_store_found_near(BUFFER(index), BUFFER(text), pad).how == 1);
-    w = raspteal_store_get_near(BUFFER(index), BUFFER(text), pad, BUFFER(out));
-    CHECK(w.next == 34 && out[33] == 'Q' && raspteal_store_found_near(BUFFER(index), BUFFER(text), other).how == 2);
-    index[0] = 9;
-    raspteal_near_look l = raspteal_store_found_near(BUFFER(index), BUFFER(text), pad);
-    CHECK(l.refusal.number == 19 && l.how == 0);
-    CHECK(raspteal_store_get_near(BUFFER(index), BUFFER(text), pad, BUFFER(out)).next == 0);
-}
-
 static void pads(void) {
     raspteal_entry e = raspteal_entry_ranged(5, (raspteal_element){true, 1}, 2, 0, false);
     raspteal_value v = raspteal_entry_value(e, 2, 0);
@@ -379,9 +290,6 @@ int main(void) {
     elements();
     lines();
     builds();
-    stores();
-    near_stores();
-    forms();
     pads();
     games();
     two_pads();

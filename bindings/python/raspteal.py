@@ -48,6 +48,7 @@ MEANINGS = {
     21: "no room in the store",
     22: "the name has a line end or platform:",
     23: "a buffer of more than 65535 bytes",
+    24: "an organiser's owner is 1 to 255, not 0",
     27: "more than 256 codes held by a pad",
 }
 
@@ -62,6 +63,7 @@ refusal = struct("refusal", ("number", c_uint8), ("has_place", c_bool), ("place"
                  ("code", c_uint32))
 written = struct("written", ("fits", c_bool), ("next", c_size_t))
 uuid = struct("uuid", ("high", c_uint64), ("low", c_uint64))
+party = struct("party", ("organiser", c_bool), ("owner", c_uint8))
 uuid_parse = struct("uuid_parse", ("valid", c_bool), ("id", uuid), ("form", c_uint8))
 element = struct("element", ("is_axis", c_bool), ("number", c_uint16))
 mapped = struct("mapped", ("found", c_bool), ("element", element))
@@ -108,12 +110,12 @@ CALLS = {
     "from_data": (built, [data, *LISTS, *BYTES, uuid, *BYTES]),
     "default": (answer, LISTS),
     "store_clear": (refusal, STORE),
-    "store_insert": (inserted, STORE + BYTES),
-    "store_save": (answer, [*STORE, data, *LISTS, *BYTES, uuid]),
-    "store_found": (look, [*STORE, uuid]),
-    "store_get": (written, [*STORE, uuid, *BYTES]),
-    "store_found_near": (near_look, [*STORE, uuid]),
-    "store_get_near": (written, [*STORE, uuid, *BYTES]),
+    "store_insert": (inserted, [*STORE, party, *BYTES]),
+    "store_save": (answer, [*STORE, party, data, *LISTS, *BYTES, uuid]),
+    "store_found": (look, [*STORE, party, uuid]),
+    "store_get": (written, [*STORE, party, uuid, *BYTES]),
+    "store_found_near": (near_look, [*STORE, party, uuid]),
+    "store_get_near": (written, [*STORE, party, uuid, *BYTES]),
     "entry_value": (value, [entry, c_uint8, c_int16]),
     "mapping_event": (emitted, [mapping, c_uint32, c_uint8, c_int16]),
     "pad_new": (pad, []),
@@ -163,6 +165,11 @@ def listed(codes):
     """A list of codes as two arguments."""
     codes = [within(n, 0, 2**32 - 1, "a code") for n in codes]
     return (c_uint32 * max(1, len(codes)))(*codes), len(codes)
+
+
+def who(owner):
+    """Who calls the store: an organiser by its owner byte, or the hall for None. An organiser's 0 is refused: 24."""
+    return party(owner is not None, 0 if owner is None else within(owner, 0, 255, "an owner"))
 
 
 # ---- Answers
@@ -401,7 +408,10 @@ def build(bound, buttons, axes, name, pad):
 
 class Store:
     """The lines held under their UUIDs, in an index and a text. Store() is fresh and as large as can be; Store(data)
-    holds the bytes of a hub's store file: index and text, half each."""
+    holds the bytes of a hub's store file: index and text, half each.
+
+    The hall and the league organisers share a store, each with lines of its own. A call is the hall's, or that of the
+    organiser whose owner byte `party` says, 1 to 255."""
 
     def __init__(self, data=bytes(INDEX_MAX + TEXT_MAX)):
         if len(data) % 2:
@@ -414,46 +424,48 @@ class Store:
         return bytes(index)[:index_len] + bytes(text)[:text_len]
 
     def clear(self):
-        """Sets every byte to 0, whether the store was sound or not."""
+        """Sets every byte to 0, whether the store was sound or not: no party has a line then."""
         accepted(call("store_clear", *self.buffers))
 
-    def insert(self, lines):
+    def insert(self, lines, party=None):
         """Files the lines of a list, and hands back how many were walked, and how many of them were filed with a UUID
         that is not spelled in 32 digits."""
-        done = call("store_insert", *self.buffers, *lent(lines))
+        done = call("store_insert", *self.buffers, who(party), *lent(lines))
         accepted(done.refusal, done.count)
         return Inserted(done.count, done.not_simple)
 
-    def save(self, bound, buttons, axes, name, pad):
+    def save(self, bound, buttons, axes, name, pad, party=None):
         """Builds a line, as `build` does, files it under the UUID, and hands back its map."""
         lists = *listed(buttons), *listed(axes)
-        return Mapping.accepted(call("store_save", *self.buffers, slots_of(bound), *lists, *lent(name), uuid(*pad)))
+        slots = slots_of(bound)
+        return Mapping.accepted(
+            call("store_save", *self.buffers, who(party), slots, *lists, *lent(name), uuid(*pad)))
 
-    def found(self, pad):
+    def found(self, pad, party=None):
         """Whether a line is held under the UUID."""
-        at = call("store_found", *self.buffers, uuid(*pad))
+        at = call("store_found", *self.buffers, who(party), uuid(*pad))
         accepted(at.refusal)
         return at.found
 
-    def get(self, pad):
+    def get(self, pad, party=None):
         """The line held under the UUID, as bytes, or None."""
-        if not self.found(pad):
+        if not self.found(pad, party):
             return None
         out = (c_uint8 * LINE_MAX)()
-        return bytes(out[: call("store_get", *self.buffers, uuid(*pad), out, LINE_MAX).next])
+        return bytes(out[: call("store_get", *self.buffers, who(party), uuid(*pad), out, LINE_MAX).next])
 
-    def get_near(self, pad):
+    def get_near(self, pad, party=None):
         """The line held under the UUID, and "exact"; else the line held under it without its checksum, and "near";
         else None."""
-        at = call("store_found_near", *self.buffers, uuid(*pad))
+        at = call("store_found_near", *self.buffers, who(party), uuid(*pad))
         accepted(at.refusal)
         if not at.how:
             return None
         out = (c_uint8 * LINE_MAX)()
-        line = bytes(out[: call("store_get_near", *self.buffers, uuid(*pad), out, LINE_MAX).next])
+        line = bytes(out[: call("store_get_near", *self.buffers, who(party), uuid(*pad), out, LINE_MAX).next])
         return line, "exact" if at.how == 1 else "near"
 
-    def mapping(self, pad, buttons=(), axes=()):
+    def mapping(self, pad, buttons=(), axes=(), party=None):
         """The map of the line held under the UUID, or None."""
-        line = self.get(pad)
+        line = self.get(pad, party)
         return None if line is None else Mapping.read(line, buttons, axes)

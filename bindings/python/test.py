@@ -103,6 +103,29 @@ class Cases(unittest.TestCase):
         self.assertIsNone(store.get_near(Uuid("0300abcd" + "0" * 23 + "1")))
         self.refused(19, Store(b"\t" + bytes(65)).get_near, pad)
 
+    def test_parties(self):
+        store = Store(bytes(2 * 110))
+        for n, party in enumerate((None, 1, 255)):
+            self.assertFalse(store.found(ONE, party))
+            self.assertEqual(store.insert(f"{ONE},{n}", party), (1, 0))
+        for n, party in enumerate((None, 1, 255)):
+            self.assertEqual(store.get(ONE, party=party), f"{ONE},{n}".encode())
+            self.assertEqual(store.get_near(ONE, party), (f"{ONE},{n}".encode(), "exact"))
+        self.assertIsNone(store.get(ONE, party=2))
+        self.refused(21, store.save, {"a": 5}, [5], [], "", ONE, 2)
+        self.assertEqual(store.save({"a": 5}, [5], [], "", ONE, 1), store.mapping(ONE, [5], party=1))
+        self.assertEqual(len(store.mapping(ONE)), 0)
+        before = bytes(store)
+        self.assertEqual(self.refused(24, store.insert, b"\xff", 0).count, 0)
+        self.refused(24, store.save, {}, [], [], "a,b", ONE, 0)
+        self.refused(24, store.found, ONE, 0)
+        self.refused(24, store.get_near, ONE, 0)
+        self.refused(24, Store(bytes(2 * 65536)).mapping, ONE, (), (), 0)
+        self.assertEqual(bytes(store), before)
+        self.assertRaises(ValueError, store.found, ONE, 256)
+        store.clear()
+        self.assertFalse(any(store.found(ONE, party) for party in (None, 1, 255)))
+
     def test_refused_stores(self):
         store = Store(b"\x09" + bytes(99))
         before = bytes(store)

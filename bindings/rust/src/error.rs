@@ -3,7 +3,7 @@ use crate::ffi;
 use crate::{Code, Inserted};
 use std::fmt;
 
-/// A refusal of document 01, number 1 to 23, or of document 02, number 27. A place is a byte's place in the line, name or
+/// A refusal of document 01, number 1 to 23, or of document 02, number 24 or 27. A place is a byte's place in the line, name or
 /// text that was given. Requests of the customers bring further numbers, so that a `match` has to have an arm for those.
 ///
 /// ```
@@ -98,6 +98,8 @@ pub enum Error {
     UnsavedName,
     /// 23: a clear of a buffer with more than 65535 bytes.
     BufferTooLarge,
+    /// 24: an organiser's call with owner 0.
+    NoOwner,
     /// 27: a raw event for a 257th code of a pad.
     PadFull,
 }
@@ -131,6 +133,7 @@ impl Error {
             21 => Error::NoRoom,
             22 => Error::UnsavedName,
             23 => Error::BufferTooLarge,
+            24 => Error::NoOwner,
             27 => Error::PadFull,
             n => unreachable!("the library has no refusal {n}"),
         })
@@ -162,6 +165,7 @@ impl Error {
             Error::NoRoom => 21,
             Error::UnsavedName => 22,
             Error::BufferTooLarge => 23,
+            Error::NoOwner => 24,
             Error::PadFull => 27,
         }
     }
@@ -218,6 +222,7 @@ impl Error {
             Error::NoRoom => "no room in the store",
             Error::UnsavedName => "the name has a line end or platform:",
             Error::BufferTooLarge => "a buffer of more than 65535 bytes",
+            Error::NoOwner => "an organiser's owner is 1 to 255, not 0",
             Error::PadFull => "more than 256 codes held by a pad",
         }
     }
@@ -242,7 +247,7 @@ impl std::error::Error for Error {}
 /// An insert that stopped at a line, or was refused whole. The lines before it are filed.
 #[derive(Clone, Copy, Debug, PartialEq, Eq, Hash)]
 pub struct InsertError {
-    /// What was refused: 19 or 10 with nothing changed, 20 or 21 at the line after those walked.
+    /// What was refused: 24, 19 or 10 with nothing changed, 20 or 21 at the line after those walked.
     pub error: Error,
     /// The lines walked before it.
     pub walked: Inserted,

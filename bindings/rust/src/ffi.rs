@@ -43,6 +43,13 @@ pub struct Uuid {
 
 #[repr(C)]
 #[derive(Clone, Copy, Debug, PartialEq, Eq)]
+pub struct Party {
+    pub organiser: bool,
+    pub owner: u8,
+}
+
+#[repr(C)]
+#[derive(Clone, Copy, Debug, PartialEq, Eq)]
 pub struct UuidParse {
     pub valid: bool,
     pub id: Uuid,
@@ -374,6 +381,7 @@ extern "C" {
         index_len: usize,
         text: *mut u8,
         text_len: usize,
+        party: Party,
         lines: *const u8,
         lines_len: usize,
     ) -> Inserted;
@@ -382,6 +390,7 @@ extern "C" {
         index_len: usize,
         text: *mut u8,
         text_len: usize,
+        party: Party,
         data: MappingData,
         buttons: *const u32,
         buttons_len: usize,
@@ -396,6 +405,7 @@ extern "C" {
         index_len: usize,
         text: *const u8,
         text_len: usize,
+        party: Party,
         id: Uuid,
     ) -> Look;
     pub fn raspteal_store_get(
@@ -403,6 +413,7 @@ extern "C" {
         index_len: usize,
         text: *const u8,
         text_len: usize,
+        party: Party,
         id: Uuid,
         out: *mut u8,
         out_len: usize,
@@ -412,6 +423,7 @@ extern "C" {
         index_len: usize,
         text: *const u8,
         text_len: usize,
+        party: Party,
         id: Uuid,
     ) -> NearLook;
     pub fn raspteal_store_get_near(
@@ -419,6 +431,7 @@ extern "C" {
         index_len: usize,
         text: *const u8,
         text_len: usize,
+        party: Party,
         id: Uuid,
         out: *mut u8,
         out_len: usize,

@@ -6,8 +6,8 @@
 //!
 //! A pad is known by its [`Uuid`]. What its kernel driver reports are event [`Code`]s; a [`Mapping`] turns a code
 //! into a named element, an [`AxisOrBtn`]. A mapping is read from a line by the lists of the pad's button and axis
-//! codes. A [`Store`] holds lines under their UUIDs; [`MappingData`] is what staff have bound, and a save makes a
-//! line of it.
+//! codes. A [`Store`] holds lines under their UUIDs, the hall's and those of league organisers ([`Party`]);
+//! [`MappingData`] is what staff have bound, and a save makes a line of it.
 //!
 //! ```
 //! use raspteal::{AxisOrBtn, Button, Code, MappingData, Store, Uuid};
@@ -37,6 +37,7 @@ pub mod ffi;
 mod mapping;
 mod pad;
 mod parser;
+mod party;
 mod store;
 pub mod text;
 mod uuid;
@@ -47,6 +48,7 @@ pub use error::{Error, InsertError, ParseUuidError};
 pub use mapping::{Entry, Iter, Lookup, Mapping};
 pub use pad::{Event, Events, Pad, Pads, Raw, Which};
 pub use parser::{count_tokens, first_form, first_token, AxisRange, Parser, Token};
+pub use party::{By, Party};
 pub use store::{Inserted, Match, Store};
 pub use uuid::{Form, Uuid};
 
@@ -68,5 +70,7 @@ pub const KEYS: usize = ffi::KEYS;
 pub const KEY_FIRST: Code = Code(0x10100);
 /// The codes that a pad holds.
 pub const HELD_MAX: usize = ffi::HELD_MAX;
-/// The bytes of the index that a line takes.
+/// The bytes of the index that a line of the hall takes.
 pub const RECORD_LEN: usize = 21;
+/// The bytes of the index that an organiser's line takes.
+pub const ORGANISER_RECORD_LEN: usize = 22;

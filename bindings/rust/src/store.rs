@@ -1,10 +1,13 @@
 //! The store of lines.
 use crate::error::{Error, InsertError};
 use crate::ffi::safe;
-use crate::{Code, Mapping, MappingData, Uuid, LINE_MAX};
+use crate::{By, Code, Mapping, MappingData, Party, Uuid};
 
 /// The lines held under their UUIDs, in two buffers of at most 65535 bytes: an index, of which each line takes 21
-/// bytes, and a text. Fresh buffers are all 0.
+/// bytes, an organiser's 22, and a text. Fresh buffers are all 0.
+///
+/// The hall and the league organisers share a store, each with lines of its own. The calls here are the hall's;
+/// [`Store::by`] and [`Store::seen_by`] make those of an organiser.
 ///
 /// The buffers are owned (`Vec<u8>`, arrays) or lent (`&mut [u8]`); a store over `&[u8]` can only be looked up. Keep
 /// them as they are between calls, in a file or in shared memory: the store has no other state.
@@ -80,29 +83,25 @@ impl<B: AsRef<[u8]>> Store<B> {
         self.text.as_ref()
     }
 
+    /// The store as a party sees it: look-ups alone.
+    pub fn seen_by(&self, party: Party) -> By<&[u8]> {
+        By::new(self.index(), self.text(), party)
+    }
+
     /// Whether a line is held under a UUID. Refusal: 19.
     pub fn found(&self, id: Uuid) -> Result<bool, Error> {
-        let look = safe::store_found(self.index(), self.text(), id.into());
-        Error::check(look.refusal)?;
-        Ok(look.found)
+        self.seen_by(Party::Hall).found(id)
     }
 
     /// The line held under a UUID. Refusal: 19.
     pub fn get(&self, id: Uuid) -> Result<Option<Vec<u8>>, Error> {
-        if !self.found(id)? {
-            return Ok(None);
-        }
-        let mut line = vec![0; LINE_MAX];
-        let len = self.get_into(id, &mut line).expect("a held line has at most 16384 bytes");
-        line.truncate(len);
-        Ok(Some(line))
+        self.seen_by(Party::Hall).get(id)
     }
 
     /// Copies the line held under a UUID to the start of a buffer and hands back its length, 0 where none is held or
     /// the store is not sound. `None`, and the buffer as it was, where it is shorter than the line.
     pub fn get_into(&self, id: Uuid, out: &mut [u8]) -> Option<usize> {
-        let w = safe::store_get(self.index(), self.text(), id.into(), out);
-        w.fits.then_some(w.next)
+        self.seen_by(Party::Hall).get_into(id, out)
     }
 
     /// The line held under a UUID, or else under the same UUID without its checksum. Refusal: 19.
@@ -118,48 +117,34 @@ impl<B: AsRef<[u8]>> Store<B> {
     /// # Ok::<(), Box<dyn std::error::Error>>(())
     /// ```
     pub fn get_near(&self, id: Uuid) -> Result<Option<Match>, Error> {
-        let Some(found) = self.found_near(id)? else {
-            return Ok(None);
-        };
-        let mut line = vec![0; LINE_MAX];
-        let len = self.get_near_into(id, &mut line).expect("a held line has at most 16384 bytes");
-        line.truncate(len);
-        Ok(Some(match found {
-            Match::Exact(()) => Match::Exact(line),
-            Match::Near(()) => Match::Near(line),
-        }))
+        self.seen_by(Party::Hall).get_near(id)
     }
 
     /// The same without the line: whether one is held under a UUID, or else under the same UUID without its checksum.
     /// Refusal: 19.
     pub fn found_near(&self, id: Uuid) -> Result<Option<Match<()>>, Error> {
-        let look = safe::store_found_near(self.index(), self.text(), id.into());
-        Error::check(look.refusal)?;
-        Ok(match look.how {
-            1 => Some(Match::Exact(())),
-            2 => Some(Match::Near(())),
-            _ => None,
-        })
+        self.seen_by(Party::Hall).found_near(id)
     }
 
     /// Copies the line that [`Store::get_near`] finds to the start of a buffer, as [`Store::get_into`] does.
     pub fn get_near_into(&self, id: Uuid, out: &mut [u8]) -> Option<usize> {
-        let w = safe::store_get_near(self.index(), self.text(), id.into(), out);
-        w.fits.then_some(w.next)
+        self.seen_by(Party::Hall).get_near_into(id, out)
     }
 
     /// The map of the line held under a UUID, by the lists of the pad's codes. Refusals: 19, then those of
     /// [`Mapping::parse_sdl_mapping`].
     pub fn mapping(&self, id: Uuid, buttons: &[Code], axes: &[Code]) -> Result<Option<Mapping>, Error> {
-        match self.get(id)? {
-            None => Ok(None),
-            Some(line) => Mapping::parse_sdl_mapping(line, buttons, axes).map(Some),
-        }
+        self.seen_by(Party::Hall).mapping(id, buttons, axes)
     }
 }
 
 impl<B: AsRef<[u8]> + AsMut<[u8]>> Store<B> {
-    /// Sets every byte of both buffers to 0, whether the store was sound or not. Refusal: 23.
+    /// The store in a party's hands: inserts, saves and look-ups.
+    pub fn by(&mut self, party: Party) -> By<&mut [u8]> {
+        By::new(self.index.as_mut(), self.text.as_mut(), party)
+    }
+
+    /// Sets every byte of both buffers to 0, whether the store was sound or not: no party has a line then. Refusal: 23.
     pub fn clear(&mut self) -> Result<(), Error> {
         Error::check(safe::store_clear(self.index.as_mut(), self.text.as_mut()))
     }
@@ -168,10 +153,7 @@ impl<B: AsRef<[u8]> + AsMut<[u8]>> Store<B> {
     /// and hands back the number of lines walked, and of those filed in another form than 32 digits. Refusals: 19 and
     /// 10 with nothing changed; 20 and 21 stop at one line, and those before it are filed.
     pub fn insert(&mut self, lines: impl AsRef<[u8]>) -> Result<Inserted, InsertError> {
-        let inserted = safe::store_insert(self.index.as_mut(), self.text.as_mut(), lines.as_ref());
-        let walked = Inserted { count: inserted.count, not_simple: inserted.not_simple };
-        Error::check(inserted.refusal).map_err(|error| InsertError { error, walked })?;
-        Ok(walked)
+        self.by(Party::Hall).insert(lines)
     }
 
     /// Builds the line of what staff have bound, as [`MappingData::build`] does, and files it under the UUID. Looked
@@ -185,7 +167,6 @@ impl<B: AsRef<[u8]> + AsMut<[u8]>> Store<B> {
         name: impl AsRef<[u8]>,
         id: Uuid,
     ) -> Result<Mapping, Error> {
-        let (index, text) = (self.index.as_mut(), self.text.as_mut());
-        Mapping::accepted(safe::store_save(index, text, data.slots(), buttons, axes, name.as_ref(), id.into()))
+        self.by(Party::Hall).save(data, buttons, axes, name, id)
     }
 }

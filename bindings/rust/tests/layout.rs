@@ -36,15 +36,17 @@ fn rows() -> Vec<Row> {
     let step = safe::parser_step(b"", 0, 0);
     let changed = safe::data_remove_axis(safe::data_new(), 0);
     let slot = changed.slots.axes[0];
-    let inserted = safe::store_insert(&mut [], &mut [], b"");
-    let look = safe::store_found(&[], &[], ffi::Uuid { high: 0, low: 0 });
-    let near = safe::store_found_near(&[], &[], ffi::Uuid { high: 0, low: 0 });
+    let hall = ffi::Party { organiser: false, owner: 9 };
+    let inserted = safe::store_insert(&mut [], &mut [], hall, b"");
+    let look = safe::store_found(&[], &[], hall, ffi::Uuid { high: 0, low: 0 });
+    let near = safe::store_found_near(&[], &[], hall, ffi::Uuid { high: 0, low: 0 });
     let told = safe::pad_raw_event(safe::pad_new(), 0, 0, 0);
     let both = safe::pads_raw_event(safe::pads_new(), false, 0, 0, 0);
     vec![
         row!(Refusal, "raspteal_refusal", built.refusal, number, has_place, place, has_code, code),
         row!(Written, "raspteal_written", safe::write_bytes(&mut [], 0, b""), fits, next),
         row!(Uuid, "raspteal_uuid", step.token.id, high, low),
+        row!(Party, "raspteal_party", hall, organiser, owner),
         row!(UuidParse, "raspteal_uuid_parse", safe::uuid_parse_str(b""), valid, id, form),
         row!(IndexParse, "raspteal_index_parse", safe::parse_u16(b""), valid, number),
         row!(Element, "raspteal_element", step.token.pair.to, is_axis, number),

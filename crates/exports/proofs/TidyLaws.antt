@@ -29,10 +29,10 @@ use Rattle.line.specs.Fields.{fieldsOf, firstField}
 use Rattle.line.specs.Maps.{CODES_MAX, unusedEntry, toMap, emptyView, emptyMap, held, putEntry, withEntries, putOf}
 use Rattle.line.specs.Pairs.{pairOf}
 use Rattle.line.specs.Puts.{putsOf}
-use Rattle.line.specs.Refusals.{refusal, refusalAt}
 use Rattle.line.specs.Reading.{acceptedOf, refusedOf, refuses, follow, withName, withHat, storedAt, putOne, thenPut}
 use Rattle.line.specs.Reading.{flagged, putAll, skips, taken, pairsFrom, namedFrom, headed, lineFrom, readLine}
 use Rattle.line.specs.Reading.{listsFit, readingOf}
+use Rattle.line.specs.Refusals.{refusal, refusalAt}
 use Rattle.line.specs.Walker.{guidOf}
 use Rattle.line.proofs.ViewLaws.{drop-replicate, put-grows}
 use Rattle.exports.specs.FlatMaps.{Unused}

@@ -14,6 +14,7 @@ nearHow Nl.Exact = 1
 nearHow Nl.Near = 2
 nearHow Nl.Missing = 0
 nearHow Nl.Unsound = 0
+nearHow Nl.NoOwner = 0
 
 abbrev pub flatNearLook : NearLook → FlatNearLook
 flatNearLook l = record { refusal = flatOutcome (nearOutcome l); how = nearHow l }

@@ -1,6 +1,9 @@
--- Answers of the store as numbers at the C boundary.
+-- Who calls the store, and its answers, as numbers at the C boundary.
 -- The contracts of the exports rest on these definitions; they assume nothing.
 use mathlib.Core.Bool.{true, false}
+use Rattle.text.specs.Bytes.{pick}
+use Rattle.store.specs.declared.parties.Party.{Party}
+use Rattle.store.specs.declared.parties.Party.the-variants as Pa
 use Rattle.store.specs.declared.calls.Answer.{Answer}
 use Rattle.store.specs.declared.calls.Inserted.{Inserted}
 use Rattle.store.specs.declared.calls.Look.{Look}
@@ -11,11 +14,16 @@ use Rattle.store.specs.Refusals.{storeOutcome, saveOutcome, lookOutcome}
 use Rattle.store.specs.declared.refusal.LookOutcome.{LookOutcome}
 use Rattle.store.specs.declared.refusal.LookOutcome.the-variants as Lo
 use Rattle.exports.specs.declared.flat.FlatRefusal.{FlatRefusal}
+use Rattle.exports.specs.declared.flat_party.FlatParty.{FlatParty}
 use Rattle.exports.specs.declared.store_calls.FlatInserted.{FlatInserted}
 use Rattle.exports.specs.declared.store_calls.FlatLook.{FlatLook}
 use Rattle.exports.specs.declared.store_calls.FlatSaved.{FlatSaved}
 use Rattle.exports.specs.Flat.{noRefusal, flatOutcome}
 use Rattle.exports.specs.FlatMaps.{flatMapping}
+
+-- an organiser by its owner byte, or the hall, whatever that byte is
+abbrev pub partyIn : FlatParty → Party
+partyIn p = pick (p .organiser) (Pa.Organiser (p .owner)) Pa.Hall
 
 abbrev pub flatStoreAnswer : Answer → FlatRefusal
 flatStoreAnswer a = flatOutcome (storeOutcome a)

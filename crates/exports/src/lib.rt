@@ -5,6 +5,7 @@ mod data_calls;
 mod flat;
 mod flat_data;
 mod flat_mapping;
+mod flat_party;
 mod flat_token;
 mod line_calls;
 mod list_calls;

@@ -5,6 +5,8 @@ use crate::flat::FlatWritten;
 use crate::flat::flat_outcome;
 use crate::flat::flat_written;
 use crate::flat::uuid_of;
+use crate::flat_party::FlatParty;
+use crate::flat_party::party_of;
 use store::near::NearLook;
 use text::bytes::write_bytes;
 ghost use mathlib.Core.Path.{_≡_};
@@ -12,8 +14,9 @@ ghost use Rattle.text.specs.Bytes.{writeAnswer, writeBuffer};
 ghost use Rattle.store.specs.Near.{nearUp, nearSays, nearLine};
 ghost use Rattle.exports.specs.Flat.{uuidIn, flatWritten};
 ghost use Rattle.exports.specs.FlatNear.{nearHow, flatNearLook};
+ghost use Rattle.exports.specs.FlatStore.{partyIn};
 
-// What is held, or 19: 0 nothing, 1 a line under the whole UUID, 2 one under that without its checksum alone.
+// What is held, or 19 or 24: 0 nothing, 1 a line under the whole UUID, 2 one under that without its checksum alone.
 #[repr(C)]
 pub struct FlatNearLook {
     pub refusal: FlatRefusal,
@@ -28,6 +31,7 @@ fn near_how(l: NearLook) -> u8
         NearLook::Near => 2,
         NearLook::Missing => 0,
         NearLook::Unsound => 0,
+        NearLook::NoOwner => 0,
     }
 }
 
@@ -41,10 +45,15 @@ fn flat_near_look(l: NearLook) -> FlatNearLook
 }
 
 #[no_mangle]
-pub extern "C" fn raspteal_store_found_near(index: &[u8], text: &[u8], id: FlatUuid) -> FlatNearLook
-    ensures { λ r. ⌜ r ≡ flatNearLook (nearSays (nearUp (uuidIn id) (now (index .entry)) (now (text .entry)))) ⌝ }
+pub extern "C" fn raspteal_store_found_near(
+    index: &[u8],
+    text: &[u8],
+    party: FlatParty,
+    id: FlatUuid,
+) -> FlatNearLook
+    ensures { λ r. ⌜ r ≡ flatNearLook (nearSays (nearUp (partyIn party) (uuidIn id) (now (index .entry)) (now (text .entry)))) ⌝ }
 {
-    flat_near_look(store::near::found_near(index, text, uuid_of(id)))
+    flat_near_look(store::near::found_near(index, text, party_of(party), uuid_of(id)))
 }
 
 // A reference can't be returned to C: the line is copied to the start of `out`.
@@ -52,12 +61,13 @@ pub extern "C" fn raspteal_store_found_near(index: &[u8], text: &[u8], id: FlatU
 pub extern "C" fn raspteal_store_get_near(
     index: &[u8],
     text: &[u8],
+    party: FlatParty,
     id: FlatUuid,
     out: &mut [u8],
 ) -> FlatWritten
-    ensures { λ r. ⌜ r ≡ flatWritten (writeAnswer (now (out .entry)) 0 (nearLine (nearUp (uuidIn id) (now (index .entry)) (now (text .entry))))) ⌝ }
-    ensures { λ _. ⌜ now (out .exit) ≡ writeBuffer (now (out .entry)) 0 (nearLine (nearUp (uuidIn id) (now (index .entry)) (now (text .entry)))) ⌝ }
+    ensures { λ r. ⌜ r ≡ flatWritten (writeAnswer (now (out .entry)) 0 (nearLine (nearUp (partyIn party) (uuidIn id) (now (index .entry)) (now (text .entry))))) ⌝ }
+    ensures { λ _. ⌜ now (out .exit) ≡ writeBuffer (now (out .entry)) 0 (nearLine (nearUp (partyIn party) (uuidIn id) (now (index .entry)) (now (text .entry)))) ⌝ }
 {
-    let line = store::near::get_near(index, text, uuid_of(id));
+    let line = store::near::get_near(index, text, party_of(party), uuid_of(id));
     flat_written(write_bytes(out, 0, line))
 }

@@ -11,6 +11,8 @@ use crate::flat_data::FlatData;
 use crate::flat_data::data_of;
 use crate::flat_mapping::FlatMapping;
 use crate::flat_mapping::flat_mapping;
+use crate::flat_party::FlatParty;
+use crate::flat_party::party_of;
 use store::calls::Inserted;
 use store::calls::Look;
 use store::calls::Saved;
@@ -22,7 +24,7 @@ ghost use Rattle.store.specs.Store.{storeClear, storeInsert, lookUp, saysOf, li
 ghost use Rattle.store.specs.Saves.{saveArgs, storeSave};
 ghost use Rattle.exports.specs.Flat.{uuidIn, flatWritten};
 ghost use Rattle.exports.specs.FlatSlots.{dataIn};
-ghost use Rattle.exports.specs.FlatStore.{flatStoreAnswer, flatInserted, flatLook, flatSaved};
+ghost use Rattle.exports.specs.FlatStore.{partyIn, flatStoreAnswer, flatInserted, flatLook, flatSaved};
 
 // An insert's refusal, the lines walked, and how many of them were filed in another form than 32 digits.
 #[repr(C)]
@@ -39,7 +41,7 @@ pub struct FlatSaved {
     pub map: FlatMapping,
 }
 
-// Whether a line is held, or 19.
+// Whether a line is held, or 19 or 24.
 #[repr(C)]
 pub struct FlatLook {
     pub refusal: FlatRefusal,
@@ -90,13 +92,14 @@ pub extern "C" fn raspteal_store_clear(index: &mut [u8], text: &mut [u8]) -> Fla
 pub extern "C" fn raspteal_store_insert(
     index: &mut [u8],
     text: &mut [u8],
+    party: FlatParty,
     lines: &[u8],
 ) -> FlatInserted
-    ensures { λ r. ⌜ r ≡ flatInserted (storeInsert (now (index .entry)) (now (text .entry)) (now (lines .entry)) .answer) ⌝ }
-    ensures { λ _. ⌜ now (index .exit) ≡ storeInsert (now (index .entry)) (now (text .entry)) (now (lines .entry)) .index ⌝ }
-    ensures { λ _. ⌜ now (text .exit) ≡ storeInsert (now (index .entry)) (now (text .entry)) (now (lines .entry)) .text ⌝ }
+    ensures { λ r. ⌜ r ≡ flatInserted (storeInsert (now (index .entry)) (now (text .entry)) (partyIn party) (now (lines .entry)) .answer) ⌝ }
+    ensures { λ _. ⌜ now (index .exit) ≡ storeInsert (now (index .entry)) (now (text .entry)) (partyIn party) (now (lines .entry)) .index ⌝ }
+    ensures { λ _. ⌜ now (text .exit) ≡ storeInsert (now (index .entry)) (now (text .entry)) (partyIn party) (now (lines .entry)) .text ⌝ }
 {
-    flat_inserted(store::calls::insert(index, text, lines))
+    flat_inserted(store::calls::insert(index, text, party_of(party), lines))
 }
 
 fn flat_saved(s: Saved) -> FlatSaved
@@ -114,25 +117,40 @@ fn flat_saved(s: Saved) -> FlatSaved
 pub extern "C" fn raspteal_store_save(
     index: &mut [u8],
     text: &mut [u8],
+    party: FlatParty,
     data: FlatData,
     buttons: &[u32],
     axes: &[u32],
     name: &[u8],
     id: FlatUuid,
 ) -> FlatSaved
-    ensures { λ r. ⌜ r ≡ flatSaved (storeSave (now (index .entry)) (now (text .entry)) (saveArgs (dataIn «data») (now (buttons .entry)) (now (axes .entry)) (now (name .entry)) (uuidIn id)) .answer) ⌝ }
-    ensures { λ _. ⌜ now (index .exit) ≡ storeSave (now (index .entry)) (now (text .entry)) (saveArgs (dataIn «data») (now (buttons .entry)) (now (axes .entry)) (now (name .entry)) (uuidIn id)) .index ⌝ }
-    ensures { λ _. ⌜ now (text .exit) ≡ storeSave (now (index .entry)) (now (text .entry)) (saveArgs (dataIn «data») (now (buttons .entry)) (now (axes .entry)) (now (name .entry)) (uuidIn id)) .text ⌝ }
+    ensures { λ r. ⌜ r ≡ flatSaved (storeSave (now (index .entry)) (now (text .entry)) (partyIn party) (saveArgs (dataIn «data») (now (buttons .entry)) (now (axes .entry)) (now (name .entry)) (uuidIn id)) .answer) ⌝ }
+    ensures { λ _. ⌜ now (index .exit) ≡ storeSave (now (index .entry)) (now (text .entry)) (partyIn party) (saveArgs (dataIn «data») (now (buttons .entry)) (now (axes .entry)) (now (name .entry)) (uuidIn id)) .index ⌝ }
+    ensures { λ _. ⌜ now (text .exit) ≡ storeSave (now (index .entry)) (now (text .entry)) (partyIn party) (saveArgs (dataIn «data») (now (buttons .entry)) (now (axes .entry)) (now (name .entry)) (uuidIn id)) .text ⌝ }
 {
     let d = data_of(data);
-    flat_saved(store::calls::save(index, text, d, buttons, axes, name, uuid_of(id)))
+    flat_saved(store::calls::save(
+        index,
+        text,
+        party_of(party),
+        d,
+        buttons,
+        axes,
+        name,
+        uuid_of(id),
+    ))
 }
 
 #[no_mangle]
-pub extern "C" fn raspteal_store_found(index: &[u8], text: &[u8], id: FlatUuid) -> FlatLook
-    ensures { λ r. ⌜ r ≡ flatLook (saysOf (lookUp (uuidIn id) (now (index .entry)) (now (text .entry)))) ⌝ }
+pub extern "C" fn raspteal_store_found(
+    index: &[u8],
+    text: &[u8],
+    party: FlatParty,
+    id: FlatUuid,
+) -> FlatLook
+    ensures { λ r. ⌜ r ≡ flatLook (saysOf (lookUp (partyIn party) (uuidIn id) (now (index .entry)) (now (text .entry)))) ⌝ }
 {
-    flat_look(store::calls::found(index, text, uuid_of(id)))
+    flat_look(store::calls::found(index, text, party_of(party), uuid_of(id)))
 }
 
 // A reference can't be returned to C: the line is copied to the start of `out`.
@@ -140,12 +158,13 @@ pub extern "C" fn raspteal_store_found(index: &[u8], text: &[u8], id: FlatUuid) 
 pub extern "C" fn raspteal_store_get(
     index: &[u8],
     text: &[u8],
+    party: FlatParty,
     id: FlatUuid,
     out: &mut [u8],
 ) -> FlatWritten
-    ensures { λ r. ⌜ r ≡ flatWritten (writeAnswer (now (out .entry)) 0 (lineOf (lookUp (uuidIn id) (now (index .entry)) (now (text .entry))))) ⌝ }
-    ensures { λ _. ⌜ now (out .exit) ≡ writeBuffer (now (out .entry)) 0 (lineOf (lookUp (uuidIn id) (now (index .entry)) (now (text .entry)))) ⌝ }
+    ensures { λ r. ⌜ r ≡ flatWritten (writeAnswer (now (out .entry)) 0 (lineOf (lookUp (partyIn party) (uuidIn id) (now (index .entry)) (now (text .entry))))) ⌝ }
+    ensures { λ _. ⌜ now (out .exit) ≡ writeBuffer (now (out .entry)) 0 (lineOf (lookUp (partyIn party) (uuidIn id) (now (index .entry)) (now (text .entry)))) ⌝ }
 {
-    let line = store::calls::get(index, text, uuid_of(id));
+    let line = store::calls::get(index, text, party_of(party), uuid_of(id));
     flat_written(write_bytes(out, 0, line))
 }

@@ -11,6 +11,7 @@ use line::reading::parse_sdl_mapping;
 use std::num::wrapping_add_usize;
 use store::calls::Answer;
 use store::calls::insert;
+use store::parties::Party;
 use text::bytes::same_bytes;
 use text::uuid::Uuid;
 use text::uuid::UuidParse;
@@ -57,7 +58,7 @@ pub fn no_lines() -> Census {
 fn trial(line: &[u8]) -> LineKind {
     let mut index = [0u8; 64];
     let mut text = arg_space();
-    let inserted = insert(&mut index, &mut text, line);
+    let inserted = insert(&mut index, &mut text, Party::Hall, line);
     let answer = inserted.answer;
     if let Answer::LineTooLong = answer {
         return LineKind::TooLong;

@@ -13,6 +13,7 @@ use map::mapping_data::MappingData;
 use store::calls::get;
 use store::calls::insert;
 use store::calls::save;
+use store::parties::Party;
 use text::uuid::Uuid;
 
 // The pad at hand: its UUID and its codes.
@@ -33,8 +34,8 @@ fn insert_list(index: &mut [u8], text: &mut [u8]) -> u8 {
 03000000485500001100000000000000,Hall Pad,a:b1,b:b2,platform:Windows,
 ";
     say(list);
-    let inserted = insert(index, text, list);
-    say_inserted(inserted, list, 0, index, text)
+    let inserted = insert(index, text, Party::Hall, list);
+    say_inserted(inserted, list, 0, index, text, Party::Hall)
 }
 
 // Jump is on button code 10131.
@@ -43,9 +44,18 @@ fn save_pad(index: &mut [u8], text: &mut [u8]) -> u8 {
         .insert_btn(Code::BTN_EAST, Button::South)
         .slots;
     let slots = jump.insert_axis(Code::AXIS_LSTICKX, Axis::LeftStickX).slots;
-    let saved = save(index, text, slots, &BUTTONS, &AXES, b"Seat 4", PAD);
+    let saved = save(
+        index,
+        text,
+        Party::Hall,
+        slots,
+        &BUTTONS,
+        &AXES,
+        b"Seat 4",
+        PAD,
+    );
     let map = saved.map;
-    say_saved(get(index, text, PAD), map)
+    say_saved(get(index, text, Party::Hall, PAD), map)
 }
 
 // `hub demo`
@@ -62,11 +72,11 @@ pub fn demo() -> u8 {
     say(b"   jump (a) is on button code 10131; the line that is filed, and its map\n\n");
     save_pad(&mut index, &mut text);
     say(b"\n4. hub find STORE UUID: the line is found again\n\n");
-    say_line(&index, &text, PAD);
+    say_line(&index, &text, Party::Hall, PAD);
     say(
         b"\n5. hub show STORE UUID buttons=10130,10131,10133,10134 axes=30000,30001: and reads back the same\n\n",
     );
-    say_reading(get(&index, &text, PAD), &BUTTONS, &AXES);
+    say_reading(get(&index, &text, Party::Hall, PAD), &BUTTONS, &AXES);
     say(b"\n6. hub list STORE: what the store holds\n\n");
     say_store(&index, &text, true)
 }

@@ -15,6 +15,7 @@ use line::reading::parse_sdl_mapping;
 use store::near::NearLook;
 use store::near::found_near;
 use store::near::get_near;
+use store::parties::Party;
 use text::uuid::Uuid;
 
 // A pad's codes, in the order by which lines count them.
@@ -44,9 +45,9 @@ fn complain_about(arg: &[u8]) {
     }
 }
 
-// Whether a line is held for a UUID: what is not exact is said.
-pub fn held_status(index: &[u8], text: &[u8], id: Uuid, arg: &[u8]) -> u8 {
-    let look = found_near(index, text, id);
+// Whether a party holds a line for a UUID: what is not exact is said.
+pub fn held_status(index: &[u8], text: &[u8], party: Party, id: Uuid, arg: &[u8]) -> u8 {
+    let look = found_near(index, text, party, id);
     match look {
         NearLook::Exact => DONE,
         NearLook::Near => {
@@ -59,6 +60,7 @@ pub fn held_status(index: &[u8], text: &[u8], id: Uuid, arg: &[u8]) -> u8 {
             none()
         }
         NearLook::Unsound => refused_outcome(look.outcome()),
+        NearLook::NoOwner => refused_outcome(look.outcome()),
     }
 }
 
@@ -75,11 +77,18 @@ pub fn reading_status(line: &[u8], lists: Lists, arg: &[u8]) -> u8 {
     }
 }
 
-// Whether a line is held for a UUID, and accepted.
-pub fn map_status(index: &[u8], text: &[u8], id: Uuid, lists: Lists, arg: &[u8]) -> u8 {
-    let status = held_status(index, text, id, arg);
+// Whether a party holds a line for a UUID, and it is accepted.
+pub fn map_status(
+    index: &[u8],
+    text: &[u8],
+    party: Party,
+    id: Uuid,
+    lists: Lists,
+    arg: &[u8],
+) -> u8 {
+    let status = held_status(index, text, party, id, arg);
     if status != DONE {
         return status;
     }
-    reading_status(get_near(index, text, id), lists, arg)
+    reading_status(get_near(index, text, party, id), lists, arg)
 }

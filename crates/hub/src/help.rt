@@ -33,6 +33,8 @@ pub fn help() -> u8 {
   hub demo                       shows the main job on a small list
   hub help COMMAND               says more about a command
 
+A league organiser's lines are kept apart from the hall's: insert, save, find, show and test
+take party=NUMBER, from 1 to 255.
 A refusal prints 'refused NUMBER: meaning'. The exit status is 0 where all was done,
 1 where something was refused or not found, 2 for wrong use, for trouble with a file and
 where the output can't be written. Refusals and trouble go to standard error.

@@ -18,8 +18,11 @@ use crate::files::list_space;
 use crate::files::load;
 use crate::files::read_list;
 use crate::forms::say_other_forms;
+use crate::help::wrong_use;
 use crate::holding::Room;
 use crate::holding::room_in;
+use crate::parties::caller_named;
+use crate::parties::record_of;
 use crate::say::DONE;
 use crate::say::ERR;
 use crate::say::OUT;
@@ -39,6 +42,7 @@ use store::calls::Answer;
 use store::calls::Inserted;
 use store::calls::get;
 use store::calls::insert;
+use store::parties::Party;
 use text::uuid::Uuid;
 use text::uuid::UuidParse;
 
@@ -88,22 +92,31 @@ fn say_census(census: Census, list: &[u8], count: usize, fresh: usize) {
     say_no_uuid(census, list);
 }
 
-// The bytes of the line that one with the same UUID takes the place of.
-fn bytes_freed(index: &[u8], text: &[u8], line: &[u8]) -> usize {
+// The bytes of the party's line that one with the same UUID takes the place of.
+fn bytes_freed(index: &[u8], text: &[u8], party: Party, line: &[u8]) -> usize {
     let id = Uuid::parse_str(before(line, b','));
     match id {
-        UuidParse::Parsed(spelled) => get(index, text, spelled.id).len(),
+        UuidParse::Parsed(spelled) => get(index, text, party, spelled.id).len(),
         UuidParse::Invalid => 0,
     }
 }
 
-// How many bytes a line wants, and what is free.
-pub fn complain_room(wanted: usize, freed: usize, room: Room) {
+// How many lines of a party so many bytes of the index take.
+fn lines_in(bytes: usize, party: Party) -> usize {
+    let size = record_of(party);
+    if size == 0 {
+        return 0;
+    }
+    bytes / size
+}
+
+// How many bytes a party's line wants, and what is free.
+pub fn complain_room(wanted: usize, freed: usize, party: Party, room: Room) {
     put_number(ERR, wanted);
     complain(b" bytes wanted; ");
     put_number(ERR, wrapping_add_usize(room.bytes, freed));
     complain(b" bytes free, and room for ");
-    put_number(ERR, room.lines);
+    put_number(ERR, lines_in(room.index, party));
     complain(b" more lines\n");
 }
 
@@ -128,13 +141,21 @@ fn complain_stop(number: usize, list: &[u8], count: usize, line: &[u8]) {
     complain(b" lines after it were not reached\n  ");
 }
 
-fn stopped(number: usize, list: &[u8], count: usize, index: &[u8], text: &[u8]) -> u8 {
+fn stopped(
+    number: usize,
+    list: &[u8],
+    count: usize,
+    index: &[u8],
+    text: &[u8],
+    party: Party,
+) -> u8 {
     let line = bare(line_at(list, place_of_line(list, count)));
     complain_stop(number, list, count, line);
     if number == 21 {
         complain_room(
             line.len(),
-            bytes_freed(index, text, line),
+            bytes_freed(index, text, party, line),
+            party,
             room_in(index, text),
         );
         complain_advice();
@@ -168,12 +189,20 @@ fn insert_refused(
     held: usize,
     index: &[u8],
     text: &[u8],
+    party: Party,
 ) -> u8 {
     let answer = inserted.answer;
     let place = refusal.place;
     if has_filed(answer) {
         say_filed(inserted, list, held, index, text);
-        return stopped(refusal.number as usize, list, inserted.count, index, text);
+        return stopped(
+            refusal.number as usize,
+            list,
+            inserted.count,
+            index,
+            text,
+            party,
+        );
     }
     refused_by(refusal);
     if let Place::At(p) = place {
@@ -182,8 +211,15 @@ fn insert_refused(
     REFUSED
 }
 
-// What an insert came to, in a store that held `held` lines before.
-pub fn say_inserted(inserted: Inserted, list: &[u8], held: usize, index: &[u8], text: &[u8]) -> u8 {
+// What a party's insert came to, in a store that held `held` lines before.
+pub fn say_inserted(
+    inserted: Inserted,
+    list: &[u8],
+    held: usize,
+    index: &[u8],
+    text: &[u8],
+    party: Party,
+) -> u8 {
     let answer = inserted.answer;
     let outcome = answer.outcome();
     match outcome {
@@ -191,7 +227,15 @@ pub fn say_inserted(inserted: Inserted, list: &[u8], held: usize, index: &[u8], 
             say_filed(inserted, list, held, index, text);
             DONE
         }
-        Outcome::Refuses(refusal) => insert_refused(inserted, refusal, list, held, index, text),
+        Outcome::Refuses(refusal) => insert_refused(
+            inserted,
+            refusal,
+            list,
+            held,
+            index,
+            text,
+            party,
+        ),
     }
 }
 
@@ -204,10 +248,11 @@ fn has_filed(answer: Answer) -> bool {
         Answer::LineTooLong => true,
         Answer::NoRoom => true,
         Answer::BufferTooLarge => false,
+        Answer::NoOwner => false,
     }
 }
 
-fn insert_text(held: Held, store: &[u8], list: &[u8]) -> u8 {
+fn insert_text(held: Held, store: &[u8], party: Party, list: &[u8]) -> u8 {
     let mut former_index = half();
     let mut former_text = half();
     let status = load(store, &mut former_index, &mut former_text);
@@ -216,7 +261,7 @@ fn insert_text(held: Held, store: &[u8], list: &[u8]) -> u8 {
     }
     let mut index = former_index;
     let mut text = former_text;
-    let inserted = insert(&mut index, &mut text, list);
+    let inserted = insert(&mut index, &mut text, party, list);
     let answer = inserted.answer;
     if has_filed(answer) {
         let status = replace(store, held, &former_index, &former_text, &index, &text);
@@ -225,17 +270,29 @@ fn insert_text(held: Held, store: &[u8], list: &[u8]) -> u8 {
         }
     }
     let room = room_in(&former_index, &former_text);
-    say_inserted(inserted, list, room.held, &index, &text)
+    say_inserted(inserted, list, room.held, &index, &text, party)
 }
 
-// `hub insert STORE FILE`
-pub fn insert_list(held: Held, store: &[u8], path: &[u8]) -> u8 {
+fn insert_file(held: Held, store: &[u8], party: Party, path: &[u8]) -> u8 {
+    let mut space = list_space();
+    match read_list(path, &mut space) {
+        List::Read(n) => insert_text(held, store, party, first(&space, n)),
+        List::Failed => TROUBLE,
+    }
+}
+
+// `hub insert STORE FILE ..`; the party stands from argument `from` on.
+pub fn insert_list(held: Held, store: &[u8], path: &[u8], from: usize) -> u8 {
     if !may_change(held) {
         return TROUBLE;
     }
-    let mut space = list_space();
-    match read_list(path, &mut space) {
-        List::Read(n) => insert_text(held, store, first(&space, n)),
-        List::Failed => TROUBLE,
+    let caller = caller_named(from);
+    if caller.others != 0 {
+        return wrong_use(b"insert");
     }
+    if caller.bad {
+        return TROUBLE;
+    }
+    let party = caller.party;
+    insert_file(held, store, party, path)
 }

@@ -22,6 +22,7 @@ mod manual;
 mod map_changes;
 mod mappings;
 mod near;
+mod parties;
 mod playing;
 mod saving;
 mod say;
@@ -87,8 +88,8 @@ fn run_changing(held: Held, command: &[u8], at: usize, given: usize, a: &[u8], b
     if is(command, b"new", given, 1, 1) {
         return filing::new_store(held, a);
     }
-    if is(command, b"insert", given, 2, 2) {
-        return inserting::insert_list(held, a, b);
+    if is(command, b"insert", given, 2, MANY) {
+        return inserting::insert_list(held, a, b, nth(at, 3));
     }
     if is(command, b"save", given, 3, MANY) {
         return saving::save_mapping(held, a, b, nth(at, 3));
@@ -104,8 +105,8 @@ fn run_changing(held: Held, command: &[u8], at: usize, given: usize, a: &[u8], b
 
 // The commands that look into a store.
 fn run_looking(held: Held, command: &[u8], at: usize, given: usize, a: &[u8], b: &[u8]) -> u8 {
-    if is(command, b"find", given, 2, 2) {
-        return holding::find_line(a, b);
+    if is(command, b"find", given, 2, MANY) {
+        return holding::find_line(a, b, nth(at, 3));
     }
     if is(command, b"list", given, 1, 1) {
         return holding::list_store(a, true);

@@ -5,7 +5,7 @@ use text::bytes::same_bytes;
 fn put_insert(fd: i32) {
     put(
         fd,
-        b"hub insert STORE FILE
+        b"hub insert STORE FILE [party=NUMBER]
   Files the lines of a list of at most 1048576 bytes; lines end at LF or CR LF. A line is
   filed when its first field is a UUID, and its 'platform:', if any, says Linux. It takes the
   place of a line that is held under the same UUID. Says how many lines were filed, how many of
@@ -14,6 +14,8 @@ fn put_insert(fd: i32) {
   filed whose UUID is not spelled in 32 digits, the one form that consoles read. It stops at a
   line that is too long (20) or has no room (21), says at which, and keeps the lines before it.
   A list that is not UTF-8 (10) files nothing. 'hub undo STORE' takes an insert back.
+  party=7 files for league organiser 7, 1 to 255, and takes the place of that organiser's lines
+  alone; without it the lines are the hall's. All of them share the room of the store.
 ",
     );
 }
@@ -38,8 +40,9 @@ pub fn put_filing(fd: i32, command: &[u8]) -> bool {
         put(
             fd,
             b"hub clear STORE
-  Empties the store, whether it was sound or not. A file that has not the 131070 bytes of a
-  store file is left alone. 'hub undo STORE' brings the lines back.
+  Empties the store, the hall's lines and the organisers', whether it was sound or not. A file
+  that has not the 131070 bytes of a store file is left alone. 'hub undo STORE' brings the lines
+  back.
 ",
         );
         return true;
@@ -63,12 +66,13 @@ pub fn put_holding(fd: i32, command: &[u8]) -> bool {
     if same_bytes(command, b"find") {
         put(
             fd,
-            b"hub find STORE UUID
+            b"hub find STORE UUID [party=NUMBER]
   Prints the line held under that UUID, or says 'none'. A UUID has 32 hexadecimal digits, or
   the form with hyphens, also in braces or after 'urn:uuid:'. Recent SDL releases put a
   checksum into digits 5 to 8: where only the UUID with zeros there is held, its line is
   printed, and 'near' with that UUID said on standard error. Control bytes of a line are
-  printed as \\x and two digits.
+  printed as \\x and two digits. party=7 finds the lines of league organiser 7 alone; without it
+  the hall's alone are found.
 ",
         );
         return true;
@@ -77,7 +81,8 @@ pub fn put_holding(fd: i32, command: &[u8]) -> bool {
         put(
             fd,
             b"hub list STORE
-  Prints the lines held, in the order in which they were filed, and the room left.
+  Prints the lines held, in the order in which they were filed, and the room left. A line of a
+  league organiser has its party before it, as 'party 7: '.
 ",
         );
         return true;
@@ -97,10 +102,10 @@ pub fn put_holding(fd: i32, command: &[u8]) -> bool {
 fn put_save(fd: i32) {
     put(
         fd,
-        b"hub save STORE UUID NAME buttons=CODES axes=CODES ELEMENT=CODE .. [anyway]
+        b"hub save STORE UUID NAME buttons=CODES axes=CODES ELEMENT=CODE .. [party=NUMBER] [anyway]
   Builds a mapping line for the pad and files it; prints the line and its map, and where it
   takes the place of another line, that line and the elements that are no longer bound.
-  'hub undo STORE' takes a save back.
+  'hub undo STORE' takes a save back. party=7 saves for league organiser 7, as insert does.
   CODES are all of the pad's button and axis codes, in the order by which lines count them, for
   most pads ascending: a line says which place of the list is meant, so a list that is not the
   pad's own binds other buttons. 'evtest' prints the codes of a pad that is plugged in: buttons
@@ -126,7 +131,7 @@ fn put_save(fd: i32) {
 fn put_test(fd: i32) {
     put(
         fd,
-        b"hub test STORE UUID buttons=CODES axes=CODES from=FILE [after=N:UUID ..]
+        b"hub test STORE UUID buttons=CODES axes=CODES [party=NUMBER] from=FILE [after=N:UUID ..]
          [with=FILE [uuid2=UUID] [buttons2=CODES] [axes2=CODES] [after2=N:UUID ..]]
   Reads the line held under that UUID with the pad's codes, and tells what each event of a
   recorded pad gives by it: the code with its raw value, and the element that has another value
@@ -151,6 +156,7 @@ fn put_test(fd: i32) {
   At the end it says how many codes are held, and each element that is not at 0. Where only the
   UUID without its checksum is held, it goes by that line, and says so as find does. 'hub help
   save' says how CODES are written.
+  party=7 goes by the lines of league organiser 7, for both pads.
 ",
     );
 }
@@ -164,11 +170,12 @@ pub fn put_mappings(fd: i32, command: &[u8]) -> bool {
     if same_bytes(command, b"show") {
         put(
             fd,
-            b"hub show STORE UUID buttons=CODES axes=CODES
+            b"hub show STORE UUID buttons=CODES axes=CODES [party=NUMBER]
   Reads the line held under that UUID with the pad's codes, and prints it with its map: each
   code with its element, then name, hat flags and default flag. Where only the UUID without its
   checksum is held, it goes by that line, and says so as find does. 'hub help save' says how
-  CODES are written, and where a pad's codes are to be found.
+  CODES are written, and where a pad's codes are to be found. party=7 takes the line of league
+  organiser 7.
 ",
         );
         return true;

@@ -78,10 +78,10 @@ fn parse_change(s: &[u8]) -> MapChange {
     let records = parse_count(before(s, b':'));
     let parsed = Uuid::parse_str(after(s, b':'));
     match parsed {
-        UuidParse::Parsed(spelled) => MapChange {
-            records,
-            id: spelled.id,
-        },
+        UuidParse::Parsed(spelled) => {
+            let id = spelled.id;
+            MapChange { records, id }
+        }
         UuidParse::Invalid => no_change(),
     }
 }
@@ -131,12 +131,14 @@ pub fn due_from(which: Which, from: usize, least: usize) -> usize {
 fn change_status(index: &[u8], text: &[u8], asked: Request, which: Which, i: usize) -> u8 {
     let change = change_at(which, i);
     let id = change.id;
+    let caller = asked.caller;
+    let party = caller.party;
     let mut space = arg_space();
     let n = os::arg(i, &mut space);
     if change.records == NEVER {
         return DONE;
     }
-    map_status(index, text, id, lists_of(asked, which), &space[..n])
+    map_status(index, text, party, id, lists_of(asked, which), &space[..n])
 }
 
 // Whether all lines of a pad's changes are.
@@ -226,7 +228,9 @@ fn with_change(
         return play;
     }
     let id = change.id;
-    let line = get_near(index, text, id);
+    let caller = asked.caller;
+    let party = caller.party;
+    let line = get_near(index, text, party, id);
     say_change(play, which, line);
     let reading = read_with(line, lists_of(asked, which));
     let map = reading.map;

@@ -8,6 +8,8 @@ use crate::files::half;
 use crate::files::load;
 use crate::holding::no_uuid;
 use crate::near::complain_near;
+use crate::parties::Caller;
+use crate::parties::caller_named;
 use crate::say::DONE;
 use crate::say::TROUBLE;
 use crate::say::complain;
@@ -34,6 +36,7 @@ pub struct Request {
     pub buttons: Codes,
     pub axes: Codes,
     pub slots: Slots,
+    pub caller: Caller,
     pub anyway: bool,
 }
 
@@ -41,11 +44,13 @@ pub fn asked_from(from: usize) -> Request {
     let buttons = codes_named(b"buttons", KEY, from);
     let axes = codes_named(b"axes", ABS, from);
     let slots = slots_named(from);
+    let caller = caller_named(from);
     let anyway = has_word(b"anyway", from);
     Request {
         buttons,
         axes,
         slots,
+        caller,
         anyway,
     }
 }
@@ -58,7 +63,30 @@ pub fn is_good(asked: Request) -> bool {
     if asked.axes.bad {
         return false;
     }
+    if asked.caller.bad {
+        return false;
+    }
     !asked.slots.bad
+}
+
+// Whether they are lists, and perhaps a party, only.
+fn has_no_slots(asked: Request) -> bool {
+    if asked.slots.given == 0 {
+        return !asked.anyway;
+    }
+    false
+}
+
+// Whether they are what show takes.
+fn may_show(asked: Request) -> bool {
+    if !is_good(asked) {
+        return false;
+    }
+    if has_no_slots(asked) {
+        return true;
+    }
+    complain(b"here the arguments are buttons=.., axes=.. and party=.. only\n");
+    false
 }
 
 // Whether they are lists only.
@@ -66,8 +94,8 @@ fn has_lists_only(asked: Request) -> bool {
     if !is_good(asked) {
         return false;
     }
-    if asked.slots.given == 0 {
-        if !asked.anyway {
+    if has_no_slots(asked) {
+        if asked.caller.given == 0 {
             return true;
         }
     }
@@ -91,15 +119,18 @@ fn show_line(line: &[u8], asked: Request) -> u8 {
 }
 
 fn show_held(index: &[u8], text: &[u8], id: Uuid, asked: Request) -> u8 {
-    let look = found_near(index, text, id);
+    let caller = asked.caller;
+    let party = caller.party;
+    let look = found_near(index, text, party, id);
     match look {
-        NearLook::Exact => show_line(get_near(index, text, id), asked),
+        NearLook::Exact => show_line(get_near(index, text, party, id), asked),
         NearLook::Near => {
             complain_near(id);
-            show_line(get_near(index, text, id), asked)
+            show_line(get_near(index, text, party, id), asked)
         }
         NearLook::Missing => none(),
         NearLook::Unsound => refused_outcome(look.outcome()),
+        NearLook::NoOwner => refused_outcome(look.outcome()),
     }
 }
 
@@ -116,7 +147,7 @@ fn show_request(store: &[u8], id: Uuid, asked: Request) -> u8 {
 // `hub show STORE UUID ..`; the lists stand from argument `from` on.
 pub fn show_mapping(store: &[u8], key: &[u8], from: usize) -> u8 {
     let asked = asked_from(from);
-    if !has_lists_only(asked) {
+    if !may_show(asked) {
         return TROUBLE;
     }
     let parsed = Uuid::parse_str(key);

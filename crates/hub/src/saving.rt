@@ -5,6 +5,7 @@ use crate::bound::twins;
 use crate::changing::Held;
 use crate::changing::may_change;
 use crate::changing::replace;
+use crate::codes::Codes;
 use crate::codes::first_codes;
 use crate::codes::has_code;
 use crate::elements::element_at;
@@ -41,6 +42,7 @@ use map::mapping_data::MappingData;
 use store::calls::SaveAnswer;
 use store::calls::get;
 use store::calls::save;
+use store::parties::Party;
 use text::uuid::Uuid;
 use text::uuid::UuidParse;
 
@@ -100,10 +102,11 @@ fn built_len(slots: MappingData, buttons: &[u32], axes: &[u32], name: &[u8], id:
     built.len
 }
 
-fn no_room(wanted: usize, index: &[u8], text: &[u8], id: Uuid) -> u8 {
+fn no_room(wanted: usize, index: &[u8], text: &[u8], party: Party, id: Uuid) -> u8 {
     put_refused(ERR, 21);
     complain(b"\n  ");
-    complain_room(wanted, get(index, text, id).len(), room_in(index, text));
+    let freed = get(index, text, party, id).len();
+    complain_room(wanted, freed, party, room_in(index, text));
     complain_advice();
     REFUSED
 }
@@ -112,6 +115,7 @@ fn no_room(wanted: usize, index: &[u8], text: &[u8], id: Uuid) -> u8 {
 fn save_slots(
     held: Held,
     store: &[u8],
+    party: Party,
     id: Uuid,
     name: &[u8],
     slots: MappingData,
@@ -126,7 +130,7 @@ fn save_slots(
     }
     let mut index = former_index;
     let mut text = former_text;
-    let saved = save(&mut index, &mut text, slots, buttons, axes, name, id);
+    let saved = save(&mut index, &mut text, party, slots, buttons, axes, name, id);
     let answer = saved.answer;
     let map = saved.map;
     match answer {
@@ -136,8 +140,8 @@ fn save_slots(
                 return status;
             }
             say_filed(
-                get(&former_index, &former_text, id),
-                get(&index, &text, id),
+                get(&former_index, &former_text, party, id),
+                get(&index, &text, party, id),
                 map,
             )
         }
@@ -146,8 +150,9 @@ fn save_slots(
         SaveAnswer::Unsound => refused_outcome(answer.outcome()),
         SaveAnswer::NoRoom => {
             let wanted = built_len(slots, buttons, axes, name, id);
-            no_room(wanted, &index, &text, id)
+            no_room(wanted, &index, &text, party, id)
         }
+        SaveAnswer::NoOwner => refused_outcome(answer.outcome()),
     }
 }
 
@@ -175,22 +180,38 @@ fn is_whole(slots: Slots) -> bool {
     true
 }
 
-fn save_lists(held: Held, store: &[u8], id: Uuid, name: &[u8], asked: Request) -> u8 {
-    let buttons = asked.buttons;
+fn save_codes(
+    held: Held,
+    store: &[u8],
+    party: Party,
+    id: Uuid,
+    name: &[u8],
+    filled: MappingData,
+    buttons: Codes,
+    axes: Codes,
+) -> u8 {
     let button_list = buttons.list;
-    let axes = asked.axes;
     let axis_list = axes.list;
-    let slots = asked.slots;
-    let filled = slots.filled;
     save_slots(
         held,
         store,
+        party,
         id,
         name,
         filled,
         first_codes(&button_list, buttons.len),
         first_codes(&axis_list, axes.len),
     )
+}
+
+fn save_lists(held: Held, store: &[u8], id: Uuid, name: &[u8], asked: Request) -> u8 {
+    let buttons = asked.buttons;
+    let axes = asked.axes;
+    let slots = asked.slots;
+    let filled = slots.filled;
+    let caller = asked.caller;
+    let party = caller.party;
+    save_codes(held, store, party, id, name, filled, buttons, axes)
 }
 
 fn save_request(held: Held, store: &[u8], id: Uuid, name: &[u8], asked: Request) -> u8 {

@@ -10,6 +10,7 @@ use crate::elements::put_nearest_element;
 use crate::fields::after;
 use crate::fields::before;
 use crate::files::arg_space;
+use crate::parties::is_party;
 use crate::say::ERR;
 use crate::say::complain;
 use crate::shown::complain_shown;
@@ -91,13 +92,16 @@ fn with_code(slots: Slots, pair: &[u8], code: u32) -> Slots {
     }
 }
 
-// Whether an argument fills no slot: a list of codes, or `anyway`.
+// Whether an argument fills no slot: a list of codes, a party, or `anyway`.
 fn is_no_pair(arg: &[u8]) -> bool {
     let key = before(arg, b'=');
     if same_bytes(key, b"buttons") {
         return true;
     }
     if same_bytes(key, b"axes") {
+        return true;
+    }
+    if is_party(arg) {
         return true;
     }
     same_bytes(arg, b"anyway")

@@ -8,6 +8,9 @@ use crate::files::arg_space;
 use crate::held_maps::Lists;
 use crate::help::wrong_use;
 use crate::map_changes::is_change;
+use crate::parties::Caller;
+use crate::parties::caller_named;
+use crate::parties::is_party;
 use crate::say::DONE;
 use crate::say::TROUBLE;
 use crate::say::complain;
@@ -31,10 +34,11 @@ pub struct Named {
     pub bad: bool,
 }
 
-// Both pads' codes, and the arguments' places; they stand from `from` on.
+// Both pads' codes, whose lines they go by, and the arguments' places; they stand from `from` on.
 pub struct Request {
     pub first: Lists,
     pub second: Lists,
+    pub caller: Caller,
     pub named: Named,
     pub from: usize,
 }
@@ -57,9 +61,9 @@ fn nothing_named() -> Named {
 fn with_unknown(named: Named, arg: &[u8]) -> Named {
     complain_shown(arg);
     complain(
-        b": here the arguments are buttons=.., axes=.., from=FILE and after=N:UUID; for a second\n",
+        b": here the arguments are buttons=.., axes=.., party=.., from=FILE and after=N:UUID; for a\n",
     );
-    complain(b"pad with=FILE, uuid2=UUID, buttons2=.., axes2=.. and after2=N:UUID\n");
+    complain(b"second pad with=FILE, uuid2=UUID, buttons2=.., axes2=.. and after2=N:UUID\n");
     let mut next = named;
     next.bad = true;
     next
@@ -120,6 +124,9 @@ fn with_key(named: Named, i: usize, key: &[u8], arg: &[u8]) -> Named {
     if same_bytes(key, b"axes") {
         return named;
     }
+    if is_party(arg) {
+        return named;
+    }
     if same_bytes(key, b"after") {
         return with_change(named, arg);
     }
@@ -168,6 +175,7 @@ pub fn request_from(from: usize) -> Request {
     Request {
         first,
         second,
+        caller: caller_named(from),
         named,
         from,
     }
@@ -213,6 +221,9 @@ pub fn request_status(asked: Request) -> u8 {
         return TROUBLE;
     }
     if is_bad(second) {
+        return TROUBLE;
+    }
+    if asked.caller.bad {
         return TROUBLE;
     }
     if named.bad {

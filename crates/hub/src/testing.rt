@@ -197,11 +197,13 @@ fn start_of(
     which: Which,
     label: &[u8],
 ) -> Start {
-    let held = held_status(index, text, id, label);
+    let caller = asked.caller;
+    let party = caller.party;
+    let held = held_status(index, text, party, id, label);
     if held != DONE {
         return no_start(held);
     }
-    let line = get_near(index, text, id);
+    let line = get_near(index, text, party, id);
     let lists = lists_of(asked, which);
     say_labelled(label, line);
     let read = reading_status(line, lists, label);

@@ -45,7 +45,7 @@ a wanted line of more than 16384 bytes
 no room in the store
 the name has a line end or platform:
 a buffer of more than 65535 bytes
-
+an organiser's owner is 1 to 255, not 0
 
 
 more than 256 codes held by a pad",
@@ -64,6 +64,11 @@ pub fn put_place(fd: i32, place: usize) {
 pub fn refused(number: usize) -> u8 {
     put_refused(ERR, number);
     complain(b"\n");
+    if number == 24 {
+        complain(
+            b"  name an organiser, party=1 to party=255, or leave party= out: then it is the hall's line\n",
+        );
+    }
     REFUSED
 }
 

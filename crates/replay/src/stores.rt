@@ -1,4 +1,4 @@
-// Cases of a store: a history of clear and insert, and what is then found.
+// Cases of a store: a history of clear and insert, and what is then found; the hall's, as the Rust has no parties.
 use crate::builds::uuid_of;
 use crate::fields::rest;
 use crate::fields::word;
@@ -8,6 +8,7 @@ use store::calls::clear;
 use store::calls::found;
 use store::calls::get;
 use store::calls::insert;
+use store::parties::Party;
 use text::bytes::same_bytes;
 use text::bytes::write_bytes;
 
@@ -22,6 +23,7 @@ fn is_done(a: Answer) -> bool {
         Answer::LineTooLong => false,
         Answer::NoRoom => false,
         Answer::BufferTooLarge => false,
+        Answer::NoOwner => false,
     }
 }
 
@@ -54,7 +56,7 @@ pub fn insert_case(args: &[u8], index: &mut [u8], text: &mut [u8]) -> bool {
     }
     write_bytes(&mut space, 0, args);
     with_lf(&mut space);
-    let inserted = insert(index, text, &space[..n]);
+    let inserted = insert(index, text, Party::Hall, &space[..n]);
     let answer = inserted.answer;
     is_done(answer)
 }
@@ -64,24 +66,26 @@ fn is_found(l: Look) -> bool {
         Look::Found => true,
         Look::Missing => false,
         Look::Unsound => false,
+        Look::NoOwner => false,
     }
 }
 
 // `get UUID LINE`
 pub fn get_case(args: &[u8], index: &[u8], text: &[u8]) -> bool {
     let id = uuid_of(word(args));
-    if !is_found(found(index, text, id)) {
+    if !is_found(found(index, text, Party::Hall, id)) {
         return false;
     }
-    same_bytes(get(index, text, id), rest(args))
+    same_bytes(get(index, text, Party::Hall, id), rest(args))
 }
 
 // `none UUID`
 pub fn none_case(args: &[u8], index: &[u8], text: &[u8]) -> bool {
     let id = uuid_of(word(args));
-    match found(index, text, id) {
+    match found(index, text, Party::Hall, id) {
         Look::Missing => true,
         Look::Found => false,
         Look::Unsound => false,
+        Look::NoOwner => false,
     }
 }

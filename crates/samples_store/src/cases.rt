@@ -18,6 +18,7 @@ use store::calls::clear;
 use store::calls::found;
 use store::calls::get;
 use store::calls::insert;
+use store::parties::Party;
 use store::refusal::LookOutcome;
 use text::bytes::same_bytes;
 
@@ -70,11 +71,11 @@ pub fn clear_case(index: &mut [u8], text: &mut [u8], args: &[u8]) -> bool {
 }
 
 // `insert ANSWER COUNT TEXT`
-pub fn insert_case(index: &mut [u8], text: &mut [u8], args: &[u8]) -> bool {
+pub fn insert_case(index: &mut [u8], text: &mut [u8], party: Party, args: &[u8]) -> bool {
     let lines = spelled(rest(rest(args)));
     let bytes = lines.bytes;
     let len = lines.len;
-    let inserted = insert(index, text, first(&bytes, len));
+    let inserted = insert(index, text, party, first(&bytes, len));
     let answer = inserted.answer;
     if inserted.count != number(word(rest(args))) {
         return false;
@@ -91,20 +92,20 @@ fn look_number(look: Look) -> usize {
     }
 }
 
-fn same_line(index: &[u8], text: &[u8], key: &[u8], line: &[u8]) -> bool {
-    same_bytes(get(index, text, uuid(key)), line)
+fn same_line(index: &[u8], text: &[u8], party: Party, key: &[u8], line: &[u8]) -> bool {
+    same_bytes(get(index, text, party, uuid(key)), line)
 }
 
-// `find SAYS UUID LINE`: 1 found, 0 none or 19, and the line that is handed back, empty unless found.
-pub fn find_case(index: &[u8], text: &[u8], args: &[u8]) -> bool {
+// `find SAYS UUID LINE`: 1 found, 0 none, 19 or 24, and the line that is handed back, empty unless found.
+pub fn find_case(index: &[u8], text: &[u8], party: Party, args: &[u8]) -> bool {
     let key = word(rest(args));
-    if look_number(found(index, text, uuid(key))) != number(word(args)) {
+    if look_number(found(index, text, party, uuid(key))) != number(word(args)) {
         return false;
     }
     let line = spelled(rest(rest(args)));
     let bytes = line.bytes;
     let len = line.len;
-    same_line(index, text, key, first(&bytes, len))
+    same_line(index, text, party, key, first(&bytes, len))
 }
 
 // Whether all bytes from `from` on are 0.

@@ -6,14 +6,15 @@ use crate::fields::word;
 use crate::spelled::first;
 use crate::spelled::spelled;
 use store::calls::insert;
+use store::parties::Party;
 
 // `forms ANSWER COUNT OTHERS TEXT`
-pub fn forms_case(index: &mut [u8], text: &mut [u8], args: &[u8]) -> bool {
+pub fn forms_case(index: &mut [u8], text: &mut [u8], party: Party, args: &[u8]) -> bool {
     let counts = rest(args);
     let lines = spelled(rest(rest(counts)));
     let bytes = lines.bytes;
     let len = lines.len;
-    let inserted = insert(index, text, first(&bytes, len));
+    let inserted = insert(index, text, party, first(&bytes, len));
     let answer = inserted.answer;
     if inserted.count != number(word(counts)) {
         return false;

@@ -1,10 +1,11 @@
 // Executes histories of calls on a store, and compares each answer with what is expected.
 // A file has groups, `== TITLE`, each of cases, one a line; `#` starts a comment; `new INDEX TEXT` makes a fresh store
-// of buffers of those lengths. A mismatch prints its line.
+// of buffers of those lengths; `by 7` before a call says that it is organiser 7's. A mismatch prints its line.
 mod cases;
 mod fields;
 mod form_cases;
 mod near_cases;
+mod parties;
 mod save_cases;
 mod spelled;
 
@@ -14,6 +15,9 @@ use fields::number;
 use fields::part_at;
 use fields::rest;
 use fields::word;
+use parties::call_of;
+use parties::party_of;
+use store::parties::Party;
 use text::bytes::same_bytes;
 
 // The lengths of the buffers, and how many cases were run and went wrong, of this group and of all.
@@ -37,24 +41,24 @@ fn say_counts(cases: u64, wrong: u64) {
     say(b" wrong\n");
 }
 
-// One case on the store.
-fn run_case(index: &mut [u8], text: &mut [u8], line: &[u8]) -> bool {
+// One call of a party on the store.
+fn run_case(index: &mut [u8], text: &mut [u8], party: Party, line: &[u8]) -> bool {
     let kind = word(line);
     let args = rest(line);
     if same_bytes(kind, b"find") {
-        return cases::find_case(index, text, args);
+        return cases::find_case(index, text, party, args);
     }
     if same_bytes(kind, b"near") {
-        return near_cases::near_case(index, text, args);
+        return near_cases::near_case(index, text, party, args);
     }
     if same_bytes(kind, b"insert") {
-        return cases::insert_case(index, text, args);
+        return cases::insert_case(index, text, party, args);
     }
     if same_bytes(kind, b"forms") {
-        return form_cases::forms_case(index, text, args);
+        return form_cases::forms_case(index, text, party, args);
     }
     if same_bytes(kind, b"save") {
-        return save_cases::save_case(index, text, args);
+        return save_cases::save_case(index, text, party, args);
     }
     if same_bytes(kind, b"clear") {
         return cases::clear_case(index, text, args);
@@ -87,7 +91,12 @@ fn start(whole: usize, len: usize) -> usize
 fn run_sized(run: Run, index: &mut [u8], text: &mut [u8], line: &[u8]) -> bool {
     let i = start(index.len(), run.index);
     let t = start(text.len(), run.text);
-    run_case(&mut index[i..], &mut text[t..], line)
+    run_case(
+        &mut index[i..],
+        &mut text[t..],
+        party_of(line),
+        call_of(line),
+    )
 }
 
 // Counts one case more.
@@ -219,5 +228,8 @@ fn main() {
     run = run_file(run, b"store.txt");
     run = run_file(run, b"damage.txt");
     run = run_file(run, b"history.txt");
+    run = run_file(run, b"parties.txt");
+    run = run_file(run, b"owned-damage.txt");
+    run = run_file(run, b"party-history.txt");
     say_counts(run.all, run.all_wrong);
 }

@@ -17,11 +17,12 @@ use line::ev::Code;
 use line::mapping::Mapping;
 use line::reading::SdlAnswer;
 use line::reading::parse_sdl_mapping;
+use line::refusal::Outcome;
 use map::mapping_data::MappingData;
 use store::calls::Saved;
 use store::calls::get;
 use store::calls::save;
-use text::uuid::Uuid;
+use store::parties::Party;
 
 const LONGEST: usize = 1025;
 
@@ -115,23 +116,17 @@ fn reads_back(line: &[u8], map: Mapping, buttons: &[u32], axes: &[u32]) -> bool 
     }
 }
 
-// A save that filed reads back as its map; a refused one has the empty map.
-fn is_right(
-    index: &[u8],
-    text: &[u8],
-    saved: Saved,
-    key: Uuid,
-    buttons: &[u32],
-    axes: &[u32],
-) -> bool {
+// Whether a save answers so; one that filed reads back as its map, and a refused one has the empty map.
+fn is_right(saved: Saved, expected: &[u8], line: &[u8], buttons: &[u32], axes: &[u32]) -> bool {
     let answer = saved.answer;
     let map = saved.map;
-    match answer {
-        SaveAnswer::Done => reads_back(get(index, text, key), map, buttons, axes),
-        SaveAnswer::Refused(_) => same_map(map, Mapping::new()),
-        SaveAnswer::UnsavedName => same_map(map, Mapping::new()),
-        SaveAnswer::Unsound => same_map(map, Mapping::new()),
-        SaveAnswer::NoRoom => same_map(map, Mapping::new()),
+    let outcome = answer.outcome();
+    if !is(outcome, expected) {
+        return false;
+    }
+    match outcome {
+        Outcome::Passes => reads_back(line, map, buttons, axes),
+        Outcome::Refuses(_) => same_map(map, Mapping::new()),
     }
 }
 
@@ -139,6 +134,7 @@ fn is_right(
 fn run_save(
     index: &mut [u8],
     text: &mut [u8],
+    party: Party,
     args: &[u8],
     buttons: &[u32],
     axes: &[u32],
@@ -147,26 +143,35 @@ fn run_save(
     let more = rest(args);
     let key = uuid(word(more));
     let data = slots_of(word(rest(more)));
-    let saved = save(index, text, data, buttons, axes, name, key);
-    let answer = saved.answer;
-    if !is(answer.outcome(), word(args)) {
-        return false;
-    }
-    is_right(index, text, saved, key, buttons, axes)
+    let saved = save(index, text, party, data, buttons, axes, name, key);
+    is_right(
+        saved,
+        word(args),
+        get(index, text, party, key),
+        buttons,
+        axes,
+    )
 }
 
-fn run_lists(index: &mut [u8], text: &mut [u8], args: &[u8], list: &[u32], name: &[u8]) -> bool {
+fn run_lists(
+    index: &mut [u8],
+    text: &mut [u8],
+    party: Party,
+    args: &[u8],
+    list: &[u32],
+    name: &[u8],
+) -> bool {
     let lists = rest(rest(rest(args)));
     let buttons = first_codes(list, number(word(lists)));
     let axes = first_codes(list, number(word(rest(lists))));
-    run_save(index, text, args, buttons, axes, name)
+    run_save(index, text, party, args, buttons, axes, name)
 }
 
 // `save ANSWER UUID SLOTS BUTTONS AXES NAME`: the lists are the codes from 1 on, so many each.
-pub fn save_case(index: &mut [u8], text: &mut [u8], args: &[u8]) -> bool {
+pub fn save_case(index: &mut [u8], text: &mut [u8], party: Party, args: &[u8]) -> bool {
     let name = spelled(rest(rest(rest(rest(rest(args))))));
     let bytes = name.bytes;
     let len = name.len;
     let list = numbered();
-    run_lists(index, text, args, &list, first(&bytes, len))
+    run_lists(index, text, party, args, &list, first(&bytes, len))
 }

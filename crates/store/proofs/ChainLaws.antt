@@ -133,14 +133,27 @@ pub found-twice : (K : ℕ → Key) (n k r : ℕ) → k < n → Sought K k r →
 found-twice K n k r h q l p =
     record { a = r - 1; b = k; less = omega arith; below = h; same = q .hit p l }
 
--- the test of two keys: the high halves first
-pub same-unless : (a b : Key) → (a .high ≡ b .high → ⊥) → false ≡ sameKey a b
+-- the test of two keys: the owners first, then the high halves
+pub other-owner : (a b : Key) → (a .owner ≡ b .owner → ⊥) → false ≡ sameKey a b
 unfolding sameKey
-same-unless a b n = sym (ap (λ (t : Bool). t && eqb (a .low) (b .low)) (ne-eqb (a .high) (b .high) n))
+other-owner a b n =
+    sym (ap (λ (t : Bool). t && (eqb (a .uuid .high) (b .uuid .high) && eqb (a .uuid .low) (b .uuid .low)))
+    (ne-eqb (a .owner) (b .owner) n))
 
-pub same-when : (a b : Key) → a .high ≡ b .high → eqb (a .low) (b .low) ≡ sameKey a b
-unfolding sameKey
-same-when a b e = sym (ap (λ (t : Bool). t && eqb (a .low) (b .low)) (eq-eqb (a .high) (b .high) e))
+module _ (a b : Key) (o : a .owner ≡ b .owner) where
+  by-uuid : eqb (a .uuid .high) (b .uuid .high) && eqb (a .uuid .low) (b .uuid .low) ≡ sameKey a b
+  unfolding sameKey
+  by-uuid =
+      sym (ap (λ (t : Bool). t && (eqb (a .uuid .high) (b .uuid .high) && eqb (a .uuid .low) (b .uuid .low)))
+      (eq-eqb (a .owner) (b .owner) o))
+
+  pub same-unless : (a .uuid .high ≡ b .uuid .high → ⊥) → false ≡ sameKey a b
+  same-unless n =
+      sym (ap (λ (t : Bool). t && eqb (a .uuid .low) (b .uuid .low)) (ne-eqb (a .uuid .high) (b .uuid .high) n)) ∙ by-uuid
+
+  pub same-when : a .uuid .high ≡ b .uuid .high → eqb (a .uuid .low) (b .uuid .low) ≡ sameKey a b
+  same-when e =
+      sym (ap (λ (t : Bool). t && eqb (a .uuid .low) (b .uuid .low)) (eq-eqb (a .uuid .high) (b .uuid .high) e)) ∙ by-uuid
 
 -- ---- what is told of the first n
 

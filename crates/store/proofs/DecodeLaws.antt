@@ -20,7 +20,7 @@ use Rattle.store.specs.Inner.{headOf, Lies}
 use Rattle.store.specs.Layout.{Shapes, recordOf, records, texts, padded, encodeIndex, encodeText}
 use Rattle.store.proofs.BoolLaws.{and-left, and-right, and-both}
 use Rattle.store.proofs.HeldLaws.{zeroes-replicate}
-use Rattle.store.proofs.RecordLaws.{size-some, head-small, read-back, Fits, fits-of, fits-all}
+use Rattle.store.proofs.RecordLaws.{size-some, head-proper, read-back, Fits, fits-of, fits-all}
 use Rattle.store.proofs.RowLaws.{sizes-cons, texts-cons, texts-none, records-cons, records-none, texts-first}
 use Rattle.store.proofs.RowLaws.{texts-nothing, lies-none, lies-head, lies-next, padded-is}
 
@@ -173,7 +173,7 @@ walk-rows (suc f) off i t hs e b l =
                 ∙ sym (records-cons off (heldOf i t) ks (replicate (r .lies .more) 0));
             shapes = (
               record {
-                key = head-small i b n;
+                key = head-proper i b n;
                 some = omega (arith, q, h .some);
                 most =
                     omega (arith, q, h .most);

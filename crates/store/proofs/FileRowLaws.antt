@@ -32,7 +32,7 @@ use Rattle.store.proofs.StruckLaws.{Struck, struck, Before, before, tab
 use Rattle.store.proofs.TableLaws.{chained-agree, living-same, living-most, gives-same}
 
 module _ (i t s a heads next : List ℕ) (old : ℕ) (f : Fill) (u : Key) (start len : ℕ)
-    (hs : List Held) (w : Files′ i t s a heads next old f u start len hs) (cl : f .count < rowsMax)
+    (hs : List Held) (w : Files′ i t s a heads next old f u start len hs) (cl : f .count < rowsMax) (byte : u .owner < 256)
   where
     abbrev a′ : List ℕ
     a′ = rowPut a (f .count) u start len
@@ -51,13 +51,13 @@ module _ (i t s a heads next : List ℕ) (old : ℕ) (f : Fill) (u : Key) (start
       S″ k = lineAt t s b old k
 
       -- filed: one number more
-      module _ (y : Struck x u start len cl had b) where
-        new-line : S″ (f .count) ≡ under u (take len (drop start s)) ∷ []
+      module _ (y : Struck x u start len cl byte had b) where
+        new-line : S″ (f .count) ≡ record { key = u; line = take len (drop start s) } ∷ []
         unfolding lineAt
         new-line =
             ap (λ (r : Row). pick (eqb (r .len) 0) []
-            (under (r .key) (take (r .len) (drop (r .start) (sourceOf t s old (f .count)))) ∷ [])) (y .last)
-            ∙ ap₂ (λ (c d : Bool). pick c [] (under u (take len (drop start (pick d t s))) ∷ []))
+            (record { key = r .key; line = take (r .len) (drop (r .start) (sourceOf t s old (f .count))) } ∷ [])) (y .last)
+            ∙ ap₂ (λ (c d : Bool). pick c [] (record { key = u; line = take len (drop start (pick d t s)) } ∷ []))
             (ne-eqb len 0 (λ z. omega (arith, new-some (w .shape .some)))) (le-ltb (f .count) old (x .tabled .olds))
           where
             new-some : 1 ≤ length (take len (drop start s)) → 1 ≤ len
@@ -67,7 +67,7 @@ module _ (i t s a heads next : List ℕ) (old : ℕ) (f : Fill) (u : Key) (start
               length-take-le len (drop start s) (omega (arith, length-drop start s, w .inside)),
             )
 
-        filed-is : file (under u (take len (drop start s))) hs ≡ living S″ (f .count + 1)
+        filed-is : file (record { key = u; line = take len (drop start s) }) hs ≡ living S″ (f .count + 1)
         filed-is =
             unfold file in (ap₂ (λ (v q : List Held). v ++ q) (y .lines) (sym new-line))
             ∙ sym (ap (living S″) (add-one (f .count)) ∙ unfold living in refl)
@@ -82,7 +82,7 @@ module _ (i t s a heads next : List ℕ) (old : ℕ) (f : Fill) (u : Key) (start
         len-is = length-take-le len (drop start s) (omega (arith, length-drop start s, w .inside))
 
         abbrev h : Held
-        h = under u (take len (drop start s))
+        h = record { key = u; line = take len (drop start s) }
 
         -- what the room is measured by
         size : ℕ
@@ -140,9 +140,9 @@ module _ (i t s a heads next : List ℕ) (old : ℕ) (f : Fill) (u : Key) (start
                 (λ k b c z.
                 let n : lenIn a j ≡ 0
                 = x .older j k c b
-                (sym (key-before x u start len cl j (omega arith)) ∙ z ∙ key-before x u start len cl k b) in
+                (sym (key-before x u start len cl byte j (omega arith)) ∙ z ∙ key-before x u start len cl byte k b) in
                 ⊎-elim (λ g. g) (λ g. ap (λ (r : Row). r .len) g ∙ n) (y .either j (omega arith)))
-                (λ c z. y .once j c (sym (key-before x u start len cl j c) ∙ z ∙ key-new x u start len cl)) k v l o
+                (λ c z. y .once j c (sym (key-before x u start len cl byte j c) ∙ z ∙ key-new x u start len cl byte)) k v l o
 
             pub rows-more : (heads′ next′ : List ℕ) → Chained K′ heads′ next′ (f .count + 1)
                 → InRows i t s b heads′ next′ old
@@ -202,36 +202,36 @@ module _ (i t s a heads next : List ℕ) (old : ℕ) (f : Fill) (u : Key) (start
       so′ : Sought K′ (f .count) r
       so′ = subst (λ (v : List ℕ). Sought (keyIn v) (f .count) r) eb so
 
-      goes-out : (d : List ℕ) → d ≡ struckBefore b r → Struck x u start len cl had d
-      goes-out d el = struck x u start len cl had d
-          (subst (λ (v : ℕ). Before x u start len cl v d) (sym (eh ∙ ap (λ (v : List ℕ). lenBefore v r) eb))
-          (subst (λ (v : List ℕ). Before x u start len cl (lenBefore a′ r) v)
-          (sym (el ∙ ap (λ (v : List ℕ). struckBefore v r) eb)) (before x u start len cl r so′ rl)))
+      goes-out : (d : List ℕ) → d ≡ struckBefore b r → Struck x u start len cl byte had d
+      goes-out d el = struck x u start len cl byte had d
+          (subst (λ (v : ℕ). Before x u start len cl byte v d) (sym (eh ∙ ap (λ (v : List ℕ). lenBefore v r) eb))
+          (subst (λ (v : List ℕ). Before x u start len cl byte (lenBefore a′ r) v)
+          (sym (el ∙ ap (λ (v : List ℕ). struckBefore v r) eb)) (before x u start len cl byte r so′ rl)))
 
       pub had-less : had ≤ f .used
       had-less = used-had had _ (goes-out _ refl)
 
       module _ (e : ℕ) (ee : Ends (f .end) had u e) (heads′ next′ : List ℕ) where
-        no-room : room (length i) (length t) (under u (take len (drop start s))) hs ≡ false
-            → Filed i t s b heads′ next′ old f (under u (take len (drop start s))) hs f
+        no-room : room (length i) (length t) (record { key = u; line = take len (drop start s) }) hs ≡ false
+            → Filed i t s b heads′ next′ old f (record { key = u; line = take len (drop start s) }) hs f
         no-room z = full z refl (subst (λ (v : List ℕ). Tabled i t s v old (f .count) hs) (sym eb)
-            (tabled-more x u start len cl))
+            (tabled-more x u start len cl byte))
 
         pub files-index : length i < e
-            → Filed i t s b heads′ next′ old f (under u (take len (drop start s))) hs f
+            → Filed i t s b heads′ next′ old f (record { key = u; line = take len (drop start s) }) hs f
         files-index l = no-room (full-index had _ (goes-out _ refl) e ee l)
 
         pub files-text : length t < f .used - had + len
-            → Filed i t s b heads′ next′ old f (under u (take len (drop start s))) hs f
+            → Filed i t s b heads′ next′ old f (record { key = u; line = take len (drop start s) }) hs f
         files-text l = no-room (full-text had _ (goes-out _ refl) e ee l)
 
         pub files-fit : e ≤ length i → f .used - had + len ≤ length t
             → Chained (keyIn b) heads′ next′ (f .count + 1)
             → (d : List ℕ) → d ≡ struckBefore b r
-            → Filed i t s d heads′ next′ old f (under u (take len (drop start s))) hs
+            → Filed i t s d heads′ next′ old f (record { key = u; line = take len (drop start s) }) hs
             (record { count = f .count + 1; end = e; used = f .used - had + len })
         files-fit p q ch d el =
-            let y : Struck x u start len cl had d = goes-out d el in
+            let y : Struck x u start len cl byte had d = goes-out d el in
             fits (has-room had d y e ee p q) refl
             (rows-more had d y e ee p q heads′ next′
             (subst (λ (v : List ℕ). Chained (keyIn v) heads′ next′ (f .count + 1)) eb ch))

@@ -15,17 +15,21 @@ use Rattle.text.specs.declared.uuid.UuidParse.{UuidParse}
 use Rattle.text.specs.declared.uuid.UuidParse.the-variants.{Parsed, Invalid}
 use Rattle.line.specs.Fields.{firstField}
 use Rattle.store.specs.declared.calls.Answer.the-variants as A
-use Rattle.store.specs.Book.{noRoom, under, Reached, after, stopped, reach, insertTurn, onReached, insertLines}
+use Rattle.store.specs.declared.calls.Tally.{Tally}
+use Rattle.store.specs.declared.owners.Owner.{Owner}
+use Rattle.store.specs.declared.owners.Owner.the-variants as O
+use Rattle.store.specs.Parties.{ownerOf, byOwner}
+use Rattle.store.specs.Book.{Caller, caller, Turn, noRoom, under, Reached, after, stopped, reach, insertTurn, onReached, insertLines}
 use Rattle.store.specs.Book.{bookWalk, otherSpelling, otherSpellings, bookInsert, Saving, Call, insert, Reply}
 use Rattle.store.specs.Book.{bookTurn}
 use Rattle.store.specs.Decode.{decode}
 use Rattle.store.specs.Filings.{Filing, filedLine, filedLines}
 use Rattle.store.specs.Forms.{otherFilings, CountsFilings, FoundAnyForm}
 use Rattle.store.specs.Guarantee.{Calls, booked, next, Guarantee}
-use Rattle.store.specs.Held.{Key, Held, sameKey, file, find, indexMax, textMax}
+use Rattle.store.specs.Held.{Held, keyBy, file, find, indexMax, textMax}
 use Rattle.store.specs.Lines.{linesOf, wanted}
 use Rattle.store.specs.Saves.{saving}
-use Rattle.store.specs.Store.{lookUp, lookedAt, lookedIn, found}
+use Rattle.store.specs.Store.{noOwner, lookedIn, lookedAt, lookBy, lookUp}
 use Rattle.store.proofs.HeldLaws.{same-refl, find-file}
 use Rattle.store.proofs.RefusedLaws.{count-least}
 use Rattle.store.proofs.Saves.{whole-guarantee}
@@ -33,75 +37,88 @@ use Rattle.store.proofs.WantedLaws.{wanted-uuid}
 
 -- ---- the number of filings
 
-module _ {S : Saving} (p : ℕ) (x : Call S) (a : Reply S) (n m : ℕ) where
+module _ {S : Saving} (p : ℕ) (x : Call S) (a : Reply S) (by : Caller) where
   one-filing : (l : List ℕ) (w : UuidParse) → wanted l ≡ w → (fs : List (Filing S))
-      → otherSpelling w + otherFilings fs ≡ otherFilings (filedLine p x a l w ++ fs)
+      → otherSpelling w + otherFilings fs ≡ otherFilings (filedLine p x a (by .owner) l w ++ fs)
   unfolding otherFilings
   one-filing l Invalid e fs = omega arith
   one-filing l (Parsed g) e fs = ap (λ (w : UuidParse). otherSpelling w + otherFilings fs) (sym (wanted-uuid l g e))
 
-  walked-filings : (ls : List (List ℕ)) (hs : List Held) (c k : ℕ) → insertLines n m hs c ls .answer .count ≡ c + k
-      → otherSpellings (take k ls) ≡ otherFilings (filedLines p x a n m hs ls)
+  walked-filings : (ls : List (List ℕ)) (hs : List Held) (c k : ℕ) → insertLines by hs c ls .answer .count ≡ c + k
+      → otherSpellings (take k ls) ≡ otherFilings (filedLines p x a by hs ls)
   unfolding insertLines filedLines otherSpellings otherFilings
   walked-filings [] hs c zero e = refl
   walked-filings [] hs c (suc k) e = absurd (omega (arith, e))
-  walked-filings (l ∷ ls) hs c zero e = go (reach n m hs l) (λ (ks : List Held). count-least n m ls ks (suc c)) e
+  walked-filings (l ∷ ls) hs c zero e = go (reach by hs l) (λ (ks : List Held). count-least by ls ks (suc c)) e
     where
-      go : (r : Reached) → ((ks : List Held) → suc c ≤ insertLines n m ks (suc c) ls .answer .count)
-          → onReached r (λ b. insertTurn hs b c) (λ ks. insertLines n m ks (suc c) ls) .answer .count ≡ c + 0
-          → 0 ≡ otherFilings (onReached r (λ b. []) (λ ks. filedLine p x a l (wanted l) ++ filedLines p x a n m ks ls))
+      go : (r : Reached) → ((ks : List Held) → suc c ≤ insertLines by ks (suc c) ls .answer .count)
+          → onReached r (λ b. insertTurn hs b c) (λ ks. insertLines by ks (suc c) ls) .answer .count ≡ c + 0
+          → 0 ≡ otherFilings (onReached r (λ b. []) (λ ks. filedLine p x a (by .owner) l (wanted l) ++ filedLines p x a by ks ls))
       go (stopped b) ih q = refl
       go (after ks) ih q = absurd (omega (arith, q, ih ks))
   walked-filings (l ∷ ls) hs c (suc k) e =
-      go (reach n m hs l) (λ (ks : List Held) (q : insertLines n m ks (suc c) ls .answer .count ≡ suc c + k).
+      go (reach by hs l) (λ (ks : List Held) (q : insertLines by ks (suc c) ls .answer .count ≡ suc c + k).
       walked-filings ls ks (suc c) k q) e
     where
       z : suc c + k ≡ c + suc k
       z = omega arith
 
       go : (r : Reached)
-          → ((ks : List Held) → insertLines n m ks (suc c) ls .answer .count ≡ suc c + k
-          → otherSpellings (take k ls) ≡ otherFilings (filedLines p x a n m ks ls))
-          → onReached r (λ b. insertTurn hs b c) (λ ks. insertLines n m ks (suc c) ls) .answer .count ≡ c + suc k
+          → ((ks : List Held) → insertLines by ks (suc c) ls .answer .count ≡ suc c + k
+          → otherSpellings (take k ls) ≡ otherFilings (filedLines p x a by ks ls))
+          → onReached r (λ b. insertTurn hs b c) (λ ks. insertLines by ks (suc c) ls) .answer .count ≡ c + suc k
           → otherSpelling (wanted l) + otherSpellings (take k ls)
-          ≡ otherFilings (onReached r (λ b. []) (λ ks. filedLine p x a l (wanted l) ++ filedLines p x a n m ks ls))
+          ≡ otherFilings (onReached r (λ b. []) (λ ks. filedLine p x a (by .owner) l (wanted l) ++ filedLines p x a by ks ls))
       go (stopped b) ih q = absurd (omega (arith, q))
       go (after ks) ih q =
           ap (λ (j : ℕ). otherSpelling (wanted l) + j) (ih ks (q ∙ sym z))
-          ∙ one-filing l (wanted l) refl (filedLines p x a n m ks ls)
+          ∙ one-filing l (wanted l) refl (filedLines p x a by ks ls)
 
 pub counts-filings : CountsFilings
 unfolding bookInsert bookWalk otherSpellings otherFilings
-counts-filings p n m hs s = go (isUtf8 s)
+counts-filings p n m hs q o own s =
+    go (isUtf8 s)
+    ∙ sym (ap (λ (w : Owner). otherFilings (byOwner w []
+    (λ r. pick (isUtf8 s) (filedLines p (insert q s) a (caller n m r) hs (linesOf s)) []))) own)
   where
     a : Reply saving
-    a = bookTurn {S = saving} n m hs (insert s) .answer
+    a = bookTurn {S = saving} n m hs (insert q s) .answer
 
     go : (b : Bool)
         → otherSpellings (take
-        (pick b (insertLines n m hs 0 (linesOf s)) (insertTurn hs (A.NotUtf8 (validRun s)) 0) .answer .count) (linesOf s))
-        ≡ otherFilings (pick b (filedLines p (insert s) a n m hs (linesOf s)) [])
+        (pick b (insertLines (caller n m o) hs 0 (linesOf s)) (insertTurn hs (A.NotUtf8 (validRun s)) 0) .answer .count)
+        (linesOf s))
+        ≡ otherFilings (pick b (filedLines p (insert q s) a (caller n m o) hs (linesOf s)) [])
     go false = refl
     go true =
-        let z : insertLines n m hs 0 (linesOf s) .answer .count ≡ 0 + insertLines n m hs 0 (linesOf s) .answer .count
-        = omega arith in
-        walked-filings p (insert s) a n m (linesOf s) hs 0 (insertLines n m hs 0 (linesOf s) .answer .count) z
+        let walk : Turn Tally = insertLines (caller n m o) hs 0 (linesOf s) in
+        let z : walk .answer .count ≡ 0 + walk .answer .count = omega arith in
+        walked-filings p (insert q s) a (caller n m o) (linesOf s) hs 0 (walk .answer .count) z
 
 -- ---- found, whichever form
 
 pub found-any-form : (n m : ℕ) → n ≤ indexMax → m ≤ textMax → (xs : Calls) → FoundAnyForm n m xs
-unfolding lookUp insertLines
-found-any-form n m ln lm xs s passed l g hs valid cut reached e q room =
-    ap (lookedAt (g .id)) (leaves ∙ ap some held)
-    ∙ ap lookedIn (find-file (g .id) (under (g .id) l) hs
-    ∙ ap (λ (b : Bool). pick b (some l) (find (g .id) hs)) (same-refl (g .id)))
+unfolding lookUp lookBy insertLines
+found-any-form n m ln lm xs p o own s passed l g hs valid cut reached e q room =
+    ap (λ (w : Owner). byOwner w noOwner (λ r. lookedAt (keyBy r (g .id)) (decode i′ t′))) own
+    ∙ ap (lookedAt (keyBy o (g .id))) (leaves ∙ ap some held)
+    ∙ ap lookedIn (find-file (keyBy o (g .id)) its hs
+    ∙ ap (λ (b : Bool). pick b (some l) (find (keyBy o (g .id)) hs)) (same-refl (keyBy o (g .id))))
   where
+    its : Held
+    its = under o (g .id) l
+
+    i′ : List ℕ
+    i′ = next n m xs (insert p s) .index
+
+    t′ : List ℕ
+    t′ = next n m xs (insert p s) .text
+
     onward : List Held
-    onward = insertLines n m (file (under (g .id) l) hs) (suc (length passed)) [] .held
+    onward = insertLines (caller n m o) (file its hs) (suc (length passed)) [] .held
 
-    leaves : decode (next n m xs (insert s) .index) (next n m xs (insert s) .text)
-        ≡ some (pick (noRoom n m (under (g .id) l) hs) hs onward)
-    leaves = whole-guarantee n m ln lm xs .insert-room s passed l [] g hs valid cut reached e q .held
+    leaves : decode i′ t′ ≡ some (pick (noRoom (caller n m o) its hs) hs onward)
+    leaves = whole-guarantee n m ln lm xs .insert-room p o own s passed l [] g hs valid cut reached e q .held
 
-    held : pick (noRoom n m (under (g .id) l) hs) hs onward ≡ file (under (g .id) l) hs
+    held : pick (noRoom (caller n m o) its hs) hs onward ≡ file its hs
     held = ap (λ (b : Bool). pick b hs onward) room

@@ -25,11 +25,16 @@ use Rattle.store.proofs.LimitLaws.{built-fits}
 use Rattle.map.proofs.ContentLaws.{built-platform, built-uuid, built-utf8, built-lf}
 use Rattle.store.specs.declared.calls.SaveAnswer.the-variants as Sv
 use Rattle.store.specs.declared.calls.Saved.{Saved}
-use Rattle.store.specs.Held.{Key, Held, sameKey, file, find, indexMax, textMax}
+use Rattle.text.specs.declared.uuid.Uuid.{Uuid}
+use Rattle.store.specs.declared.owners.Owner.{Owner}
+use Rattle.store.specs.declared.owners.Owner.the-variants as O
+use Rattle.store.specs.declared.parties.Party.{Party}
+use Rattle.store.specs.Parties.{ownerOf, byOwner, Named}
+use Rattle.store.specs.Held.{Key, Held, keyBy, sameKey, file, find, indexMax, textMax}
 use Rattle.store.specs.Lines.{linesOf, wanted}
-use Rattle.store.specs.Book.{turn, noRoom, under, insertLines, Attempt, refused, files, Saving, bookAttempt}
-use Rattle.store.specs.Book.{Call, clear, insert, save, Reply, saved, bookTurn, runBook}
-use Rattle.store.specs.Store.{found, lookedIn, lookUp, lookedAt}
+use Rattle.store.specs.Book.{Caller, caller, turn, noRoom, under, insertLines, Attempt, refused, files, Saving}
+use Rattle.store.specs.Book.{bookAttempt, Call, clear, insert, save, Reply, saved, replied, bookTurn, runBook}
+use Rattle.store.specs.Store.{found, noOwner, lookedIn, lookedAt, lookBy, lookUp}
 use Rattle.store.specs.Saves.{SaveArgs, SaveCall, unsavedName, refusedSave, attemptAfter, attemptOf, Passes}
 use Rattle.store.specs.Saves.{ReadsBack, saving}
 use Rattle.store.specs.Filings.{Filing, filing, filedAttempt, filedBy, since, filings, lastFiled, lineFiled}
@@ -72,9 +77,9 @@ found-some (some x) l e = let w : x ≡ l = cc in ap some w
 
 -- filing a line that is held leaves every look-up
 find-again : (u k : Key) (l : List ℕ) (hs : List Held) (b : Bool) → find u hs ≡ some l
-    → find k (pick b hs (file (under u l) hs)) ≡ find k hs
+    → find k (pick b hs (file (record { key = u; line = l }) hs)) ≡ find k hs
 find-again u k l hs true e = refl
-find-again u k l hs false e = find-file k (under u l) hs ∙ go (sameKey k u) refl
+find-again u k l hs false e = find-file k (record { key = u; line = l }) hs ∙ go (sameKey k u) refl
   where
     go : (t : Bool) → sameKey k u ≡ t → pick t (some l) (find k hs) ≡ find k hs
     go true q = sym (ap (λ (x : Key). find x hs) (same-eq k u q) ∙ e)
@@ -114,28 +119,60 @@ module _ (c : SaveCall) (p : Passes (c .args)) where
     abbrev lines : List Held
     lines = booked n m xs .held
 
-    held-again : bookTurn {S = saving} n m lines (insert (savedLine a)) .held
-        ≡ pick (noRoom n m (under (a .uuid) (savedLine a)) lines) lines (file (under (a .uuid) (savedLine a)) lines)
-    held-again =
-        insert-holds n m saving (savedLine a) [] (savedLine a) [] (record { id = a .uuid; form = Fm.Simple }) lines lines
-        (built-utf8 (a .slots) (a .buttons) (a .axes) (a .name) (a .uuid) (p .build)) line-one
-        (unfold insertLines in refl) line-wanted
-        (built-fits (a .slots) (a .buttons) (a .axes) (a .name) (a .uuid) (p .build))
-        ∙ unfold insertLines in refl
+    module _ (by : Named) (o : ℕ) (own : ownerOf (by .party) ≡ O.Byte o) where
+      abbrev its : Held
+      its = under o (a .uuid) (savedLine a)
 
-    same-finds : lookUp (a .uuid) (stored n m xs .index) (stored n m xs .text) ≡ found (savedLine a) → (k : Key)
-        → lookUp k (next n m xs (insert (savedLine a)) .index) (next n m xs (insert (savedLine a)) .text)
-        ≡ lookUp k (stored n m xs .index) (stored n m xs .text)
+      held-again : bookTurn {S = saving} n m lines (insert by (savedLine a)) .held
+          ≡ pick (noRoom (caller n m o) its lines) lines (file its lines)
+      held-again =
+          insert-holds n m by o own saving (savedLine a) [] (savedLine a) [] (record { id = a .uuid; form = Fm.Simple })
+          lines lines (built-utf8 (a .slots) (a .buttons) (a .axes) (a .name) (a .uuid) (p .build)) line-one
+          (unfold insertLines in refl) line-wanted
+          (built-fits (a .slots) (a .buttons) (a .axes) (a .name) (a .uuid) (p .build))
+          ∙ unfold insertLines in refl
+
+      same-by : lookBy (keyBy o (a .uuid)) (stored n m xs .index) (stored n m xs .text) ≡ found (savedLine a) → (k : Key)
+          → lookBy k (next n m xs (insert by (savedLine a)) .index) (next n m xs (insert by (savedLine a)) .text)
+          ≡ lookBy k (stored n m xs .index) (stored n m xs .text)
+      unfolding lookBy
+      same-by e k =
+          let q : find (keyBy o (a .uuid)) lines ≡ some (savedLine a) =
+          found-some (find (keyBy o (a .uuid)) lines) (savedLine a)
+          (sym (whole-look-up n m ln lm saving builds xs (keyBy o (a .uuid))) ∙ e) in
+          ap (lookedAt k) (next-held n m ln lm saving builds xs (insert by (savedLine a)))
+          ∙ ap (λ (hs : List Held). lookedIn (find k hs)) held-again
+          ∙ ap lookedIn (find-again (keyBy o (a .uuid)) k (savedLine a) lines (noRoom (caller n m o) its lines) q)
+          ∙ sym (whole-look-up n m ln lm saving builds xs k)
+
+    same-finds : (by : Named)
+        → lookUp (by .party) (a .uuid) (stored n m xs .index) (stored n m xs .text) ≡ found (savedLine a)
+        → (q : Party) (u : Uuid)
+        → lookUp q u (next n m xs (insert by (savedLine a)) .index) (next n m xs (insert by (savedLine a)) .text)
+        ≡ lookUp q u (stored n m xs .index) (stored n m xs .text)
     unfolding lookUp
-    same-finds e k =
-        let q : find (a .uuid) lines ≡ some (savedLine a) =
-        found-some (find (a .uuid) lines) (savedLine a)
-        (sym (whole-look-up n m ln lm saving builds xs (a .uuid)) ∙ e) in
-        ap (lookedAt k) (next-held n m ln lm saving builds xs (insert (savedLine a)))
-        ∙ ap (λ (hs : List Held). lookedIn (find k hs)) held-again
-        ∙ ap lookedIn (find-again (a .uuid) k (savedLine a) lines
-        (noRoom n m (under (a .uuid) (savedLine a)) lines) q)
-        ∙ sym (whole-look-up n m ln lm saving builds xs k)
+    same-finds by e q u = go (ownerOf (by .party)) refl e
+      where
+        i′ : List ℕ
+        i′ = next n m xs (insert by (savedLine a)) .index
+
+        t′ : List ℕ
+        t′ = next n m xs (insert by (savedLine a)) .text
+
+        looks : (o : ℕ) → ownerOf (by .party) ≡ O.Byte o
+            → lookBy (keyBy o (a .uuid)) (stored n m xs .index) (stored n m xs .text) ≡ found (savedLine a)
+            → (w : Owner) → byOwner w noOwner (λ r. lookBy (keyBy r u) i′ t′)
+            ≡ byOwner w noOwner (λ r. lookBy (keyBy r u) (stored n m xs .index) (stored n m xs .text))
+        looks o own z O.Nobody = refl
+        looks o own z (O.Byte r) = same-by by o own z (keyBy r u)
+
+        go : (w : Owner) → ownerOf (by .party) ≡ w
+            → byOwner w noOwner (λ o. lookBy (keyBy o (a .uuid)) (stored n m xs .index) (stored n m xs .text))
+            ≡ found (savedLine a)
+            → byOwner (ownerOf q) noOwner (λ r. lookBy (keyBy r u) i′ t′)
+            ≡ byOwner (ownerOf q) noOwner (λ r. lookBy (keyBy r u) (stored n m xs .index) (stored n m xs .text))
+        go O.Nobody own z = let y : _≡_ {A = ℕ} 0 1 = cc in absurd (omega arith)
+        go (O.Byte o) own z = looks o own z (ownerOf q)
 
     pub saved-again : SavedAgain n m xs a
     saved-again = record { is-wanted = line-wanted; one-line = line-one; same = same-finds }
@@ -166,23 +203,23 @@ filings-kept : (n m : ℕ) (ys : Calls) (p : ℕ) (hs : List Held) (fs : List (F
 unfolding filings hasClear
 filings-kept n m [] p hs fs e = sym (append-nil fs)
 filings-kept n m (clear ∷ ys) p hs fs e = let z : _≡_ {A = ℕ} 0 1 = cc in absurd (omega arith)
-filings-kept n m (insert s ∷ ys) p hs fs e =
-    filings-kept n m ys (suc p) (bookTurn n m hs (insert s) .held) (fs ++ filedBy p n m hs (insert s)) e
-    ∙ append-assoc fs (filedBy p n m hs (insert s)) (filings (suc p) n m (bookTurn n m hs (insert s) .held) [] ys)
+filings-kept n m (insert q s ∷ ys) p hs fs e =
+    filings-kept n m ys (suc p) (bookTurn n m hs (insert q s) .held) (fs ++ filedBy p n m hs (insert q s)) e
+    ∙ append-assoc fs (filedBy p n m hs (insert q s)) (filings (suc p) n m (bookTurn n m hs (insert q s) .held) [] ys)
     ∙ ap (λ (gs : List (Filing saving)). fs ++ gs)
-    (sym (filings-kept n m ys (suc p) (bookTurn n m hs (insert s) .held) (filedBy p n m hs (insert s)) e))
-filings-kept n m (save c ∷ ys) p hs fs e =
-    filings-kept n m ys (suc p) (bookTurn n m hs (save c) .held) (fs ++ filedBy p n m hs (save c)) e
-    ∙ append-assoc fs (filedBy p n m hs (save c)) (filings (suc p) n m (bookTurn n m hs (save c) .held) [] ys)
+    (sym (filings-kept n m ys (suc p) (bookTurn n m hs (insert q s) .held) (filedBy p n m hs (insert q s)) e))
+filings-kept n m (save q c ∷ ys) p hs fs e =
+    filings-kept n m ys (suc p) (bookTurn n m hs (save q c) .held) (fs ++ filedBy p n m hs (save q c)) e
+    ∙ append-assoc fs (filedBy p n m hs (save q c)) (filings (suc p) n m (bookTurn n m hs (save q c) .held) [] ys)
     ∙ ap (λ (gs : List (Filing saving)). fs ++ gs)
-    (sym (filings-kept n m ys (suc p) (bookTurn n m hs (save c) .held) (filedBy p n m hs (save c)) e))
+    (sym (filings-kept n m ys (suc p) (bookTurn n m hs (save q c) .held) (filedBy p n m hs (save q c)) e))
 
 -- ---- a save that answers done
 
 -- it has passed its checks, there was room, and the answer is build's
-record Accepts (n m : ℕ) (hs : List Held) (c : SaveCall) (v : Saved) : Type 0 where
+record Accepts (n m : ℕ) (hs : List Held) (o : ℕ) (c : SaveCall) (v : Saved) : Type 0 where
   passed : Passes (c .args)
-  room : noRoom n m (builtHeld (c .args)) hs ≡ false
+  room : noRoom (caller n m o) (builtHeld o (c .args)) hs ≡ false
   value : v ≡ builtSave (c .args)
 
 same-saved : (x y : Saved) → _≡_ {A = Reply saving} (saved x) (saved y) → x ≡ y
@@ -197,65 +234,74 @@ unsaved-not-done e = let z : _≡_ {A = ℕ} 0 1 = cc in omega arith
 refused-not-done : (x : MappingError) → Sv.Refused x ≡ Sv.Done → ⊥
 refused-not-done x e = let z : _≡_ {A = ℕ} 0 1 = cc in omega arith
 
-abbrev Says : ℕ → ℕ → List Held → Saved → Attempt Saved → Type 0
-Says n m hs v x = _≡_ {A = Reply saving} (saved (bookAttempt (refusedSave Sv.NoRoom) n m hs x .answer)) (saved v)
+abbrev Says : Caller → List Held → Saved → Attempt Saved → Type 0
+Says b hs v x = _≡_ {A = Reply saving} (saved (bookAttempt (refusedSave Sv.NoRoom) b hs x .answer)) (saved v)
 
-accepts : (n m : ℕ) (hs : List Held) (c : SaveCall) (v : Saved)
-    → bookTurn {S = saving} n m hs (save c) .answer ≡ saved v → v .answer ≡ Sv.Done → Accepts n m hs c v
+accepts : (n m : ℕ) (hs : List Held) (p : Named) (o : ℕ) → ownerOf (p .party) ≡ O.Byte o → (c : SaveCall) (v : Saved)
+    → bookTurn {S = saving} n m hs (save p c) .answer ≡ saved v → v .answer ≡ Sv.Done → Accepts n m hs o c v
 unfolding bookTurn attemptOf
-accepts n m hs c v e d = checked (checksOf (a .slots) (a .buttons) (a .axes) (a .name)) refl e
+accepts n m hs p o own c v e d =
+    checked (checksOf (a .slots) (a .buttons) (a .axes) (a .name)) refl
+    (sym (ap (λ (w : Owner). byOwner w (turn (saved (refusedSave Sv.NoOwner)) hs)
+    (λ r. replied {S = saving} saved (bookAttempt (refusedSave Sv.NoRoom) (caller n m r) hs (attemptOf r a))) .answer) own)
+    ∙ e)
   where
     a : SaveArgs
     a = c .args
 
-    room? : (b : Bool) → noRoom n m (builtHeld a) hs ≡ b → Passes a
+    room? : (b : Bool) → noRoom (caller n m o) (builtHeld o a) hs ≡ b → Passes a
         → _≡_ {A = Reply saving}
-        (saved (pick b (turn (refusedSave Sv.NoRoom) hs) (turn (builtSave a) (file (builtHeld a) hs)) .answer))
+        (saved (pick b (turn (refusedSave Sv.NoRoom) hs) (turn (builtSave a) (file (builtHeld o a) hs)) .answer))
         (saved v)
-        → Accepts n m hs c v
-    room? true q p w =
+        → Accepts n m hs o c v
+    room? true q ok w =
         absurd (full-not-done (ap (λ (x : Saved). x .answer) (same-saved (refusedSave Sv.NoRoom) v w) ∙ d))
-    room? false q p w = record { passed = p; room = q; value = sym (same-saved (builtSave a) v w) }
+    room? false q ok w = record { passed = ok; room = q; value = sym (same-saved (builtSave a) v w) }
 
     named : (b : Bool) → unsavedName (a .name) ≡ b → checksOf (a .slots) (a .buttons) (a .axes) (a .name) ≡ Accepted
-        → Says n m hs v (pick b (refused (refusedSave Sv.UnsavedName)) (files (builtHeld a) (builtSave a)))
-        → Accepts n m hs c v
-    named true q p w =
+        → Says (caller n m o) hs v (pick b (refused (refusedSave Sv.UnsavedName)) (files (builtHeld o a) (builtSave a)))
+        → Accepts n m hs o c v
+    named true q ok w =
         absurd (unsaved-not-done (ap (λ (x : Saved). x .answer) (same-saved (refusedSave Sv.UnsavedName) v w) ∙ d))
-    named false q p w = room? (noRoom n m (builtHeld a) hs) refl (record { build = p; name = q }) w
+    named false q ok w = room? (noRoom (caller n m o) (builtHeld o a) hs) refl (record { build = ok; name = q }) w
 
     checked : (r : MappingAnswer) → checksOf (a .slots) (a .buttons) (a .axes) (a .name) ≡ r
-        → Says n m hs v (attemptAfter a r) → Accepts n m hs c v
-    checked Accepted p w = named (unsavedName (a .name)) refl p w
-    checked (Refused x) p w =
+        → Says (caller n m o) hs v (attemptAfter o a r) → Accepts n m hs o c v
+    checked Accepted ok w = named (unsavedName (a .name)) refl ok w
+    checked (Refused x) ok w =
         absurd (refused-not-done x (ap (λ (y : Saved). y .answer) (same-saved (refusedSave (Sv.Refused x)) v w) ∙ d))
 
 module _ (n m : ℕ) (ln : n ≤ indexMax) (lm : m ≤ textMax) where
-  module _ (xs : Calls) (c : SaveCall) (v : Saved) (ok : Accepts n m (booked n m xs .held) c v) where
+  module _ (xs : Calls) (p : Named) (o : ℕ) (mine : ownerOf (p .party) ≡ O.Byte o) (c : SaveCall) (v : Saved)
+      (ok : Accepts n m (booked n m xs .held) o c v) where
     abbrev before : List (Filing saving)
     before = filings 0 n m [] [] xs
 
     abbrev place : ℕ
     place = 0 + length xs
 
+    abbrev reply : Reply saving
+    reply = bookTurn {S = saving} n m (booked n m xs .held) (save p c) .answer
+
     abbrev own : Filing saving
-    own = filing place (save c) (bookTurn {S = saving} n m (booked n m xs .held) (save c) .answer) (builtHeld (c .args))
+    own = filing place (save p c) reply (builtHeld o (c .args))
 
     -- the save's filing comes last
-    then-own : filings 0 n m [] [] (xs ++ (save c ∷ [])) ≡ before ++ (own ∷ [])
+    then-own : filings 0 n m [] [] (xs ++ (save p c ∷ [])) ≡ before ++ (own ∷ [])
     then-own =
-        filings-append n m xs (save c ∷ []) 0 [] [] ∙ unfold filings in
-        (ap (λ (y : Attempt Saved). before ++ filedAttempt place (save c)
-        (bookTurn {S = saving} n m (booked n m xs .held) (save c) .answer) n m (booked n m xs .held) y)
-        (attempt-files (c .args) (ok .passed))
+        filings-append n m xs (save p c ∷ []) 0 [] [] ∙ unfold filings in
+        (ap (λ (w : Owner). before ++ byOwner w []
+        (λ r. filedAttempt place (save p c) reply (caller n m r) (booked n m xs .held) (attemptOf r (c .args)))) mine
+        ∙ ap (λ (y : Attempt Saved). before ++ filedAttempt place (save p c) reply (caller n m o) (booked n m xs .held) y)
+        (attempt-files o (c .args) (ok .passed))
         ∙ ap (λ (b : Bool). before ++ pick b [] (own ∷ [])) (ok .room))
 
     last-own : (ys : Calls) → hasClear ys ≡ false
-        → lastFiled (c .args .uuid) (filedAfter n m (xs ++ (save c ∷ [])) ys) ≡ none
-        → lastOf n m (around xs c ys) (c .args .uuid) ≡ some own
+        → lastFiled (keyBy o (c .args .uuid)) (filedAfter n m (xs ++ (save p c ∷ [])) ys) ≡ none
+        → lastOf n m (around xs p c ys) (keyBy o (c .args .uuid)) ≡ some own
     last-own ys keep free =
-        let k : Key = c .args .uuid in
-        let both : Calls = xs ++ (save c ∷ []) in
+        let k : Key = keyBy o (c .args .uuid) in
+        let both : Calls = xs ++ (save p c ∷ []) in
         let later : List (Filing saving) = filedAfter n m both ys in
         let z : 0 + length both ≡ length both = omega arith in
         let all : filings 0 n m [] [] (both ++ ys) ≡ (before ++ (own ∷ [])) ++ later
@@ -265,20 +311,24 @@ module _ (n m : ℕ) (ln : n ≤ indexMax) (lm : m ≤ textMax) where
         ∙ ap (λ (fs : List (Filing saving)). fs ++ later) then-own in
         ap (lastFiled k) all
         ∙ last-append k (before ++ (own ∷ [])) later
-        ∙ ap (λ (o : Option (Filing saving)). laterOr o (lastFiled k (before ++ (own ∷ [])))) free
+        ∙ ap (λ (w : Option (Filing saving)). laterOr w (lastFiled k (before ++ (own ∷ [])))) free
         ∙ last-append k before (own ∷ [])
         ∙ unfold lastFiled in
         (ap (λ (b : Bool). laterOr (laterOr none (pick b (some own) none)) (lastFiled k before)) (same-refl k))
 
   pub saved-is-found : SavedIsFound n m
-  saved-is-found xs c v ys answer done keep free =
-      let ok : Accepts n m (booked n m xs .held) c v =
-      accepts n m (booked n m xs .held) c v (sym (whole-next n m ln lm saving builds xs (save c)) ∙ answer) done in (
-        whole-guarantee n m ln lm (around xs c ys) .finds (c .args .uuid)
-            ∙ ap (λ (o : Option (Filing saving)). lookedIn (lineFiled o)) (last-own xs c v ok ys keep free),
+  saved-is-found xs p o mine c v ys answer done keep free =
+      let ok : Accepts n m (booked n m xs .held) o c v =
+      accepts n m (booked n m xs .held) p o mine c v (sym (whole-next n m ln lm saving builds xs (save p c)) ∙ answer)
+      done in (
+        whole-guarantee n m ln lm (around xs p c ys) .finds (p .party) (c .args .uuid)
+            ∙ ap (λ (w : Owner). byOwner w noOwner
+            (λ r. lookedIn (lineFiled (lastOf n m (around xs p c ys) (keyBy r (c .args .uuid)))))) mine
+            ∙ ap (λ (w : Option (Filing saving)). lookedIn (lineFiled w)) (last-own xs p o mine c v ok ys keep free),
         (
           ok .value,
           subst (λ (w : Saved). ReadsBack (c .args) (savedLine (c .args)) w) (sym (ok .value))
-              (builds .reads c (builtHeld (c .args)) (builtSave (c .args)) (attempt-files (c .args) (ok .passed))),
+              (builds .reads o c (builtHeld o (c .args)) (builtSave (c .args))
+              (attempt-files o (c .args) (ok .passed))),
         ),
       )

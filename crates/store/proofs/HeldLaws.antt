@@ -10,8 +10,9 @@ use lib.Dec.{eqb}
 use lib.ListN.{length, length-append, replicate}
 use borrow.Author.Tests.{eqb-true, eq-eqb, not-true, eqb-false, ne-eqb}
 use Rattle.text.specs.Bytes.{pick}
+use Rattle.text.specs.declared.uuid.Uuid.{Uuid}
 use Rattle.store.specs.Decode.{zeroes}
-use Rattle.store.specs.Held.{Key, Held, sameKey, holds, distinct, strike, file, find}
+use Rattle.store.specs.Held.{Key, Held, keyBy, sameKey, holds, distinct, strike, file, find}
 use Rattle.store.specs.Layout.{Shape, Shapes, texts}
 use Rattle.store.proofs.BoolLaws.{and-left, and-right, and-both, or-false, or-left, or-right}
 
@@ -25,18 +26,28 @@ eqb-sym x y = go (eqb x y) refl
 
 pub same-refl : (k : Key) → sameKey k k ≡ true
 unfolding sameKey
-same-refl k = and-both _ _ (eq-eqb (k .high) (k .high) refl) (eq-eqb (k .low) (k .low) refl)
+same-refl k =
+    and-both _ _ (eq-eqb (k .owner) (k .owner) refl)
+    (and-both _ _ (eq-eqb (k .uuid .high) (k .uuid .high) refl) (eq-eqb (k .uuid .low) (k .uuid .low) refl))
 
 pub same-eq : (a b : Key) → sameKey a b ≡ true → a ≡ b
 unfolding sameKey
 same-eq a b e =
-    ap₂ (λ (x y : ℕ). record { high = x; low = y })
-    (eqb-true (a .high) (b .high) (and-left (eqb (a .high) (b .high)) (eqb (a .low) (b .low)) e))
-    (eqb-true (a .low) (b .low) (and-right (eqb (a .high) (b .high)) (eqb (a .low) (b .low)) e))
+    let r : eqb (a .uuid .high) (b .uuid .high) && eqb (a .uuid .low) (b .uuid .low) ≡ true
+    = and-right (eqb (a .owner) (b .owner)) _ e in
+    let h : a .uuid .high ≡ b .uuid .high = eqb-true _ (b .uuid .high)
+    (and-left (eqb (a .uuid .high) (b .uuid .high)) (eqb (a .uuid .low) (b .uuid .low)) r) in
+    let l : a .uuid .low ≡ b .uuid .low = eqb-true _ (b .uuid .low)
+    (and-right (eqb (a .uuid .high) (b .uuid .high)) (eqb (a .uuid .low) (b .uuid .low)) r) in
+    ap₂ (λ (o : ℕ) (u : Uuid). keyBy o u)
+    (eqb-true (a .owner) (b .owner) (and-left (eqb (a .owner) (b .owner)) _ e))
+    (ap₂ (λ (x y : ℕ). record { high = x; low = y }) h l)
 
 pub same-sym : (a b : Key) → sameKey a b ≡ sameKey b a
 unfolding sameKey
-same-sym a b = ap₂ _&&_ (eqb-sym (a .high) (b .high)) (eqb-sym (a .low) (b .low))
+same-sym a b =
+    ap₂ _&&_ (eqb-sym (a .owner) (b .owner))
+    (ap₂ _&&_ (eqb-sym (a .uuid .high) (b .uuid .high)) (eqb-sym (a .uuid .low) (b .uuid .low)))
 
 pub zeroes-replicate : (n : ℕ) → zeroes (replicate n 0) ≡ true
 unfolding zeroes

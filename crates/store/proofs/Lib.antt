@@ -9,6 +9,7 @@ pub mod WriteLaws
 pub mod ChainLaws
 pub mod OrderLaws
 pub mod OnceLaws
+pub mod BodyLaws
 pub mod RecordLaws
 pub mod HeadLaws
 pub mod RowLaws
@@ -35,11 +36,13 @@ pub mod FileRowLaws
 pub mod InsertLaws
 pub mod BatchLaws
 pub mod OneLaws
+pub mod PartyLaws
 pub mod SaveLaws
 pub mod EncodesLaws
 pub mod OlderLaws
 pub mod StoreLaws
 pub mod FilingsLaws
+pub mod SaveFilingLaws
 pub mod NextLaws
 pub mod SaveCallLaws
 pub mod FrontLaws
@@ -48,7 +51,10 @@ pub mod Saves
 pub mod FoundLaws
 pub mod NearLaws
 pub mod FormLaws
+pub mod ToldLaws
+pub mod IsolationLaws
 mod Samples
 mod Worked
 mod History
 mod NearSamples
+mod PartySamples

@@ -136,7 +136,7 @@ module _ (i : List ℕ) (at : ℕ) (a : List ℕ) (heads next : List ℕ) (n use
 
       -- one line more
       module _ (m : head .size ≡ 0 → ⊥) (b : List ℕ) (eb : b ≡ rowPut a n (head .key) (head .off) (head .len))
-          (heads′ next′ : List ℕ) (ch : Chained (keyIn b) heads′ next′ (n + 1)) where
+          (byte : head .key .owner < 256) (heads′ next′ : List ℕ) (ch : Chained (keyIn b) heads′ next′ (n + 1)) where
         step : (hs : List Held) (x : Loaded i at a n used hs) → Onward i at head e (x .rest)
             → Loaded i (at + head .size) (rowPut a n (head .key) (head .off) (head .len)) (n + 1) (head .off + head .len)
             hs
@@ -201,7 +201,7 @@ module _ (i : List ℕ) (at : ℕ) (a : List ℕ) (heads next : List ℕ) (n use
 
             new : rowIn (rowPut a n (head .key) (head .off) (head .len)) n
                 ≡ record { key = head .key; start = head .off; len = head .len }
-            new = row-same a n (head .key) (head .off) (head .len) (w .long) load-less
+            new = row-same a n (head .key) (head .off) (head .len) (w .long) load-less byte
 
             front′ : List Held
             front′ = x .front ++ (h ∷ [])
@@ -247,7 +247,7 @@ module _ (i : List ℕ) (at : ℕ) (a : List ℕ) (heads next : List ℕ) (n use
             here : (t s z : List ℕ) (old : ℕ) → n < old → t ≡ texts hs ++ z
                 → lineAt t s (rowPut a n (head .key) (head .off) (head .len)) old n ≡ h ∷ []
             here t s z old p et =
-                gives-new t s a old n (head .key) (head .off) (head .len) (w .long) load-less
+                gives-new t s a old n (head .key) (head .off) (head .len) (w .long) load-less byte
                 (omega (arith, len-is, some))
                 ∙ ap (λ (c : Bool). record { key = head .key; line = take (head .len) (drop (head .off) (pick c t s)) }
                 ∷ [])
@@ -268,6 +268,6 @@ module _ (i : List ℕ) (at : ℕ) (a : List ℕ) (heads next : List ℕ) (n use
               small = w .small;
               long = put-long a n (head .key) (head .off) (head .len) (w .long);
               chained = subst (λ (v : List ℕ). Chained (keyIn v) heads′ next′ (n + 1)) eb ch;
-              listing = list-turn i at a n (w .listing) head e m load-less;
+              listing = list-turn i at a n (w .listing) head e m load-less byte;
               loaded = λ hs l. step hs (w .loaded hs l) (onward i at head e (w .loaded hs l .rest));
             })

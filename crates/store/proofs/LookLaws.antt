@@ -23,7 +23,7 @@ use Rattle.store.specs.Keys.{rowsMax, Chained, Sought}
 use Rattle.store.specs.Rows.{Row, rowIn, keyIn, startIn, lenIn, rowPut, Long}
 use Rattle.store.specs.Table.{living, heldAt, lineAt, InRows, Loads, lenBefore, Sees}
 use Rattle.store.specs.Sights.{Ready, Agree, Spot, nowhere, there}
-use Rattle.store.specs.Store.{Looked, nothing, unsound, lookedIn, lookedAt, lookUp, saysOf, lineOf}
+use Rattle.store.specs.Store.{Looked, nothing, unsound, lookedIn, lookedAt, lookBy, saysOf, lineOf}
 use Rattle.store.specs.Store as store
 use Rattle.store.proofs.ChainLaws.{unlike}
 use Rattle.store.proofs.DecodeLaws.{lines-of}
@@ -31,8 +31,8 @@ use Rattle.store.proofs.HeldLaws.{same-refl, same-eq}
 use Rattle.store.proofs.TableLaws.{chained-agree}
 use Rattle.store.proofs.WriteLaws.{put-long, row-same, row-other}
 
-look-unsound : (k : Key) (i t : List ℕ) → known (decode i t) ≡ false → lookUp k i t ≡ unsound
-unfolding lookUp
+look-unsound : (k : Key) (i t : List ℕ) → known (decode i t) ≡ false → lookBy k i t ≡ unsound
+unfolding lookBy
 look-unsound k i t e = go (decode i t) e
   where
     go : (o : Option (List Held)) → known o ≡ false → lookedAt k o ≡ unsound
@@ -188,7 +188,7 @@ module _ (k : Key) (i t a b heads next : List ℕ) (f : Fill) (hs : List Held)
 -- ---- a key written down under number n
 
 module _ (a heads next : List ℕ) (n : ℕ) (k : Key) (l : n < rowsMax) (p : Ready a heads next n) (b : List ℕ)
-    (eb : b ≡ rowPut a n k 0 0) where
+    (eb : b ≡ rowPut a n k 0 0) (byte : k .owner < 256) where
   pub put-agree : Agree a b n
   put-agree j m = sym (ap (λ (v : List ℕ). rowIn v j) eb ∙ row-other a n k 0 0 j (λ z. omega arith))
 
@@ -200,13 +200,13 @@ module _ (a heads next : List ℕ) (n : ℕ) (k : Key) (l : n < rowsMax) (p : Re
   }
 
   pub put-new : keyIn b n ≡ k
-  put-new = ap (λ (v : List ℕ). keyIn v n) eb ∙ ap (λ (v : Row). v .key) (row-same a n k 0 0 (p .long) l)
+  put-new = ap (λ (v : List ℕ). keyIn v n) eb ∙ ap (λ (v : Row). v .key) (row-same a n k 0 0 (p .long) l byte)
 
 -- ---- what a look-up says
 
 module _ (k : Key) (i t : List ℕ) where
   -- what is seen where a look-up comes to x
-  sees : (r : Seen) (x : Looked) → lookUp k i t ≡ x → r .how ≡ saysOf x
+  sees : (r : Seen) (x : Looked) → lookBy k i t ≡ x → r .how ≡ saysOf x
       → r .start + r .len ≤ length t → take (r .len) (drop (r .start) t) ≡ lineOf x → Sees i t k r
   sees r x e h l q = record { how = h ∙ ap saysOf (sym e); within = l; line = q ∙ ap lineOf (sym e) }
 
@@ -214,8 +214,8 @@ module _ (k : Key) (i t : List ℕ) where
   sees-unsound e = sees _ unsound (look-unsound k i t e) refl (omega arith) refl
 
   module _ (hs : List Held) (e : decode i t ≡ some hs) (r : Part) (s : Spot t (find k hs) r) where
-    looks : (o : Option (List ℕ)) → find k hs ≡ o → lookUp k i t ≡ lookedIn o
-    unfolding lookUp
+    looks : (o : Option (List ℕ)) → find k hs ≡ o → lookBy k i t ≡ lookedIn o
+    unfolding lookBy
     looks o q = ap (lookedAt k) e ∙ ap lookedIn q
 
     pub sees-none : r .len ≡ 0 → Sees i t k (record { how = L.Missing; start = 0; len = 0 })

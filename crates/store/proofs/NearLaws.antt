@@ -14,12 +14,17 @@ use Rattle.store.specs.declared.near.NearLook.the-variants as N
 use Rattle.store.specs.Decode.{decode}
 use Rattle.store.specs.Filings.{lineFiled}
 use Rattle.store.specs.Guarantee.{Calls, Guarantee, stored, lastOf}
-use Rattle.store.specs.Held.{Key, Held, find, indexMax, textMax}
+use Rattle.text.specs.declared.uuid.Uuid.{Uuid}
+use Rattle.store.specs.declared.owners.Owner.{Owner}
+use Rattle.store.specs.declared.owners.Owner.the-variants as O
+use Rattle.store.specs.declared.parties.Party.{Party}
+use Rattle.store.specs.Parties.{ownerOf, byOwner}
+use Rattle.store.specs.Held.{Key, Held, keyBy, find, indexMax, textMax}
 use Rattle.store.specs.Inner.{known}
-use Rattle.store.specs.Near.{Nearby, exact, near, neither, damaged, nearIn, nearAt, nearUp, nearSays, nearLine}
+use Rattle.store.specs.Near.{Nearby, exact, near, neither, damaged, nobody, nearIn, plainKey, nearAt, nearBy, nearUp}
 use Rattle.store.specs.Near.{Beside, BesideLookUp, NeverNear, NearAfter}
 use Rattle.store.specs.Sights.{Spot, nowhere, there, NearSees}
-use Rattle.store.specs.Store.{Looked, nothing, unsound, lookedIn, lookedAt, lookUp}
+use Rattle.store.specs.Store.{Looked, nothing, unsound, noOwner, lookedIn, lookedAt, lookBy, lookUp}
 use Rattle.store.specs.Store as store
 use Rattle.store.proofs.Saves.{whole-guarantee}
 
@@ -34,53 +39,89 @@ beside-in (some x) b = record {
   near-only = λ l. (λ e. clash cc, λ e. let q = e .0 in clash cc);
   neither-held = (λ e. clash cc, λ e. let q = e .0 in clash cc);
   not-sound = (λ e. clash cc, λ e. clash cc);
+  no-owner = (λ e. clash cc, λ e. clash cc);
 }
 beside-in none (some y) = record {
   exact-found = λ l. (λ e. clash cc, λ e. clash cc);
   near-only = λ l. (λ e. (refl, cc), λ e. let q = e .1 in cc);
   neither-held = (λ e. clash cc, λ e. let q = e .1 in clash cc);
   not-sound = (λ e. clash cc, λ e. clash cc);
+  no-owner = (λ e. clash cc, λ e. clash cc);
 }
 beside-in none none = record {
   exact-found = λ l. (λ e. clash cc, λ e. clash cc);
   near-only = λ l. (λ e. clash cc, λ e. let q = e .1 in clash cc);
   neither-held = (λ e. (refl, refl), λ e. refl);
   not-sound = (λ e. clash cc, λ e. clash cc);
+  no-owner = (λ e. clash cc, λ e. clash cc);
 }
 
 pub beside-look-up : BesideLookUp
-unfolding nearUp lookUp
-beside-look-up k i t = go (decode i t)
+unfolding nearUp nearBy lookUp lookBy
+beside-look-up p u i t = who (ownerOf p)
   where
-    go : (o : Option (List Held)) → Beside (nearAt k o) (lookedAt k o) (lookedAt (withoutChecksum k) o)
-    go (some hs) = beside-in (find k hs) (find (withoutChecksum k) hs)
-    go none = record {
+    go : (o : ℕ) (w : Option (List Held))
+        → Beside (nearAt (keyBy o u) w) (lookedAt (keyBy o u) w) (lookedAt (keyBy o (withoutChecksum u)) w)
+    go o (some hs) = beside-in (find (keyBy o u) hs) (find (keyBy o (withoutChecksum u)) hs)
+    go o none = record {
       exact-found = λ l. (λ e. clash cc, λ e. clash cc);
       near-only = λ l. (λ e. clash cc, λ e. let q = e .0 in clash cc);
       neither-held = (λ e. clash cc, λ e. let q = e .0 in clash cc);
       not-sound = (λ e. refl, λ e. refl);
+      no-owner = (λ e. clash cc, λ e. clash cc);
+    }
+
+    who : (w : Owner)
+        → Beside (byOwner w nobody (λ o. nearAt (keyBy o u) (decode i t)))
+        (byOwner w noOwner (λ o. lookedAt (keyBy o u) (decode i t)))
+        (byOwner w noOwner (λ o. lookedAt (keyBy o (withoutChecksum u)) (decode i t)))
+    who (O.Byte o) = go o (decode i t)
+    who O.Nobody = record {
+      exact-found = λ l. (λ e. clash cc, λ e. clash cc);
+      near-only = λ l. (λ e. clash cc, λ e. let q = e .0 in clash cc);
+      neither-held = (λ e. clash cc, λ e. let q = e .0 in clash cc);
+      not-sound = (λ e. clash cc, λ e. clash cc);
+      no-owner = (λ e. refl, λ e. refl);
     }
 
 pub never-near : NeverNear
-never-near k i t l e n =
-    let q = beside-look-up k i t .near-only l .0 n in
-    let same : lookUp k i t ≡ store.found l = ap (λ (x : Key). lookUp x i t) (sym e) ∙ q .1 in
+never-near p u i t l e n =
+    let q = beside-look-up p u i t .near-only l .0 n in
+    let same : lookUp p u i t ≡ store.found l = ap (λ (x : Uuid). lookUp p x i t) (sym e) ∙ q .1 in
     let none = q .0 in
     clash cc
 
 -- ---- after every list of calls
 
 -- what is found, by the two lines that are found
-near-found : (k : Key) (i t : List ℕ) (a b : Option (List ℕ)) → lookUp k i t ≡ lookedIn a
-    → lookUp (withoutChecksum k) i t ≡ lookedIn b → nearUp k i t ≡ nearIn a b
-near-found k i t (some x) b e f = beside-look-up k i t .exact-found x .1 e
-near-found k i t none (some y) e f = beside-look-up k i t .near-only y .1 (e, f)
-near-found k i t none none e f = beside-look-up k i t .neither-held .1 (e, f)
+near-found : (p : Party) (u : Uuid) (i t : List ℕ) (a b : Option (List ℕ)) → lookUp p u i t ≡ lookedIn a
+    → lookUp p (withoutChecksum u) i t ≡ lookedIn b → nearUp p u i t ≡ nearIn a b
+near-found p u i t (some x) b e f = beside-look-up p u i t .exact-found x .1 e
+near-found p u i t none (some y) e f = beside-look-up p u i t .near-only y .1 (e, f)
+near-found p u i t none none e f = beside-look-up p u i t .neither-held .1 (e, f)
 
 near-filed : (n m : ℕ) (xs : Calls) → Guarantee n m xs → NearAfter n m xs
-near-filed n m xs g k =
-    near-found k (stored n m xs .index) (stored n m xs .text) (lineFiled (lastOf n m xs k))
-    (lineFiled (lastOf n m xs (withoutChecksum k))) (g .finds k) (g .finds (withoutChecksum k))
+near-filed n m xs g p u = go (ownerOf p) refl
+  where
+    i : List ℕ
+    i = stored n m xs .index
+
+    t : List ℕ
+    t = stored n m xs .text
+
+    last : ℕ → Uuid → Option (List ℕ)
+    last o v = lineFiled (lastOf n m xs (keyBy o v))
+
+    looks : (v : Uuid) (w : Owner) → ownerOf p ≡ w
+        → lookUp p v i t ≡ byOwner w noOwner (λ o. lookedIn (last o v))
+    looks v w e = g .finds p v ∙ ap (λ (x : Owner). byOwner x noOwner (λ o. lookedIn (last o v))) e
+
+    go : (w : Owner) → ownerOf p ≡ w
+        → nearUp p u i t ≡ byOwner w nobody (λ o. nearIn (last o u) (last o (withoutChecksum u)))
+    go O.Nobody e = beside-look-up p u i t .no-owner .1 (looks u O.Nobody e)
+    go (O.Byte o) e =
+        near-found p u i t (last o u) (last o (withoutChecksum u)) (looks u (O.Byte o) e)
+        (looks (withoutChecksum u) (O.Byte o) e)
 
 pub near-after : (n m : ℕ) → n ≤ indexMax → m ≤ textMax → (xs : Calls) → NearAfter n m xs
 near-after n m ln lm xs = near-filed n m xs (whole-guarantee n m ln lm xs)
@@ -134,8 +175,8 @@ module _ (t : List ℕ) (a b : Option (List ℕ)) (whole : Part) (s : Spot t a w
 
 module _ (k : Key) (i t : List ℕ) where
   pub near-unsound : known (decode i t) ≡ false
-      → NearSees t (nearUp k i t) (record { how = N.Unsound; start = 0; len = 0 })
-  unfolding nearUp
+      → NearSees t (nearBy k i t) (record { how = N.Unsound; start = 0; len = 0 })
+  unfolding nearBy
   near-unsound e = go (decode i t) e
     where
       go : (o : Option (List Held)) → known o ≡ false
@@ -144,6 +185,6 @@ module _ (k : Key) (i t : List ℕ) where
       go (some hs) q = clash cc
 
   pub near-sound : (hs : List Held) → decode i t ≡ some hs → (r : NearSeen)
-      → NearSees t (nearIn (find k hs) (find (withoutChecksum k) hs)) r → NearSees t (nearUp k i t) r
-  unfolding nearUp
+      → NearSees t (nearIn (find k hs) (find (plainKey k) hs)) r → NearSees t (nearBy k i t) r
+  unfolding nearBy
   near-sound hs e r s = subst (λ (o : Option (List Held)). NearSees t (nearAt k o) r) (sym e) s

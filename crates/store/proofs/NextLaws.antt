@@ -13,72 +13,84 @@ use Rattle.text.specs.Utf8.{isUtf8, validRun}
 use Rattle.text.specs.declared.uuid.Spelled.{Spelled}
 use Rattle.text.specs.declared.uuid.UuidParse.the-variants.{Parsed}
 use Rattle.store.specs.declared.calls.Tally.{Tally}
-use Rattle.store.specs.Book.{turn, noRoom, Turn, under, Reached, after, stopped, reach, insertTurn}
-use Rattle.store.specs.Book.{onReached, insertLines, bookWalk, insertedOf, bookInsert, Attempt, files, Saving, bookAttempt}
+use Rattle.store.specs.declared.owners.Owner.{Owner}
+use Rattle.store.specs.declared.owners.Owner.the-variants as O
+use Rattle.store.specs.Parties.{ownerOf, byOwner, Named}
+use Rattle.store.specs.Book.{Caller, caller, turn, noRoom, Turn, under, Reached, after, stopped, reach}
+use Rattle.store.specs.Book.{insertTurn, onReached, insertLines, bookWalk, insertedOf, bookInsert, nobodyInserts}
+use Rattle.store.specs.Book.{Attempt, files, Saving, bookAttempt}
 use Rattle.store.specs.Book.{insert, save, Reply, inserted, saved, replied, bookTurn}
 use Rattle.store.specs.Held.{Held, file, lineMax}
 use Rattle.store.specs.Lines.{linesOf, wanted}
 use Rattle.store.specs.declared.calls.Answer.the-variants as A
 
-module _ (n m : ℕ) where
+module _ (b : Caller) where
   -- an insert that has passed some lines goes on behind them
   goes-on : (passed rest : List (List ℕ)) (hs ks : List Held) (c : ℕ)
-      → insertLines n m hs c passed ≡ insertTurn ks A.Done (c + length passed)
-      → insertLines n m hs c (passed ++ rest) ≡ insertLines n m ks (c + length passed) rest
+      → insertLines b hs c passed ≡ insertTurn ks A.Done (c + length passed)
+      → insertLines b hs c (passed ++ rest) ≡ insertLines b ks (c + length passed) rest
   unfolding insertLines
   goes-on [] rest hs ks c e =
       let z : c ≡ c + 0 = omega arith in
-      ap (λ (x : Turn Tally). insertLines n m (x .held) c rest) e ∙ ap (λ (k : ℕ). insertLines n m ks k rest) z
+      ap (λ (x : Turn Tally). insertLines b (x .held) c rest) e ∙ ap (λ (k : ℕ). insertLines b ks k rest) z
   goes-on (l ∷ passed) rest hs ks c e =
-      go (reach n m hs l) (λ (js : List Held). goes-on passed rest js ks (suc c)) e
+      go (reach b hs l) (λ (js : List Held). goes-on passed rest js ks (suc c)) e
     where
       next : suc c + length passed ≡ c + suc (length passed)
       next = omega arith
 
       go : (r : Reached)
-          → ((js : List Held) → insertLines n m js (suc c) passed ≡ insertTurn ks A.Done (suc c + length passed)
-          → insertLines n m js (suc c) (passed ++ rest) ≡ insertLines n m ks (suc c + length passed) rest)
-          → onReached r (λ a. insertTurn hs a c) (λ js. insertLines n m js (suc c) passed)
+          → ((js : List Held) → insertLines b js (suc c) passed ≡ insertTurn ks A.Done (suc c + length passed)
+          → insertLines b js (suc c) (passed ++ rest) ≡ insertLines b ks (suc c + length passed) rest)
+          → onReached r (λ a. insertTurn hs a c) (λ js. insertLines b js (suc c) passed)
           ≡ insertTurn ks A.Done (c + suc (length passed))
-          → onReached r (λ a. insertTurn hs a c) (λ js. insertLines n m js (suc c) (passed ++ rest))
-          ≡ insertLines n m ks (c + suc (length passed)) rest
+          → onReached r (λ a. insertTurn hs a c) (λ js. insertLines b js (suc c) (passed ++ rest))
+          ≡ insertLines b ks (c + suc (length passed)) rest
       go (stopped a) ih q = absurd (omega (arith, ap (λ (x : Turn Tally). x .answer .count) q))
       go (after js) ih q =
-          ih js (q ∙ ap (insertTurn ks A.Done) (sym next)) ∙ ap (λ (k : ℕ). insertLines n m ks k rest) next
+          ih js (q ∙ ap (insertTurn ks A.Done) (sym next)) ∙ ap (λ (k : ℕ). insertLines b ks k rest) next
 
   -- a wanted line within the limit is filed, or stops the insert for want of room
   at-line : (l : List ℕ) (rest : List (List ℕ)) (u : Spelled) (hs : List Held) (c : ℕ) → wanted l ≡ Parsed u
       → length l ≤ lineMax
-      → insertLines n m hs c (l ∷ rest)
-      ≡ pick (noRoom n m (under (u .id) l) hs) (insertTurn hs A.NoRoom c) (insertLines n m (file (under (u .id) l) hs) (suc c) rest)
+      → insertLines b hs c (l ∷ rest)
+      ≡ pick (noRoom b (under (b .owner) (u .id) l) hs) (insertTurn hs A.NoRoom c) (insertLines b (file (under (b .owner) (u .id) l) hs) (suc c) rest)
   unfolding insertLines reach
-  at-line l rest u hs c e q = rw (e, le-ltb lineMax (length l) q) (go (noRoom n m (under (u .id) l) hs))
+  at-line l rest u hs c e q = rw (e, le-ltb lineMax (length l) q) (go (noRoom b (under (b .owner) (u .id) l) hs))
     where
-      go : (b : Bool)
-          → onReached (pick b (stopped A.NoRoom) (after (file (under (u .id) l) hs))) (λ a. insertTurn hs a c)
-          (λ ks. insertLines n m ks (suc c) rest)
-          ≡ pick b (insertTurn hs A.NoRoom c) (insertLines n m (file (under (u .id) l) hs) (suc c) rest)
+      go : (x : Bool)
+          → onReached (pick x (stopped A.NoRoom) (after (file (under (b .owner) (u .id) l) hs))) (λ a. insertTurn hs a c)
+          (λ ks. insertLines b ks (suc c) rest)
+          ≡ pick x (insertTurn hs A.NoRoom c) (insertLines b (file (under (b .owner) (u .id) l) hs) (suc c) rest)
       go true = refl
       go false = refl
 
+-- a call of an owner in buffers of n and m bytes
+module _ (n m : ℕ) (p : Named) (o : ℕ) (own : ownerOf (p .party) ≡ O.Byte o) where
+  abbrev c : Caller
+  c = caller n m o
+
   -- a save that files, or is without room
-  module _ (S : Saving) (a : S .Args) (h : Held) (v : S .Value) (e : S .attempt a ≡ files h v) (hs : List Held) where
+  module _ (S : Saving) (a : S .Args) (h : Held) (v : S .Value) (e : S .attempt o a ≡ files h v) (hs : List Held) where
     abbrev filed : Bool → Turn (S .Value)
     filed b = pick b (turn (S .full) hs) (turn v (file h hs))
 
-    at-save : bookTurn {S = S} n m hs (save a) ≡ replied saved (filed (noRoom n m h hs))
+    at-save : bookTurn {S = S} n m hs (save p a) ≡ replied saved (filed (noRoom c h hs))
     unfolding bookTurn
-    at-save = ap (λ (y : Attempt (S .Value)). replied saved (bookAttempt (S .full) n m hs y)) e
+    at-save =
+        ap (λ (w : Owner). byOwner w (turn (saved (S .nobody)) hs)
+        (λ o. replied saved (bookAttempt (S .full) (caller n m o) hs (S .attempt o a)))) own
+        ∙ ap (λ (y : Attempt (S .Value)). replied saved (bookAttempt (S .full) c hs y)) e
 
-    pub save-answers : bookTurn {S = S} n m hs (save a) .answer ≡ pick (noRoom n m h hs) (saved (S .full)) (saved v)
-    save-answers = ap (λ (y : Turn (Reply S)). y .answer) at-save ∙ go (noRoom n m h hs)
+    pub save-answers : bookTurn {S = S} n m hs (save p a) .answer ≡ pick (noRoom c h hs) (saved (S .full)) (saved v)
+    save-answers = ap (λ (y : Turn (Reply S)). y .answer) at-save ∙ go (noRoom c h hs)
       where
         go : (b : Bool) → _≡_ {A = Reply S} (saved (filed b .answer)) (pick b (saved (S .full)) (saved v))
         go true = refl
         go false = refl
 
-    pub save-holds : bookTurn {S = S} n m hs (save a) .held ≡ pick (noRoom n m h hs) hs (file h hs)
-    save-holds = ap (λ (y : Turn (Reply S)). y .held) at-save ∙ go (noRoom n m h hs)
+    pub save-holds : bookTurn {S = S} n m hs (save p a) .held ≡ pick (noRoom c h hs) hs (file h hs)
+    save-holds = ap (λ (y : Turn (Reply S)). y .held) at-save ∙ go (noRoom c h hs)
       where
         go : (b : Bool) → filed b .held ≡ pick b hs (file h hs)
         go true = refl
@@ -87,33 +99,38 @@ module _ (n m : ℕ) where
   -- an insert that has passed some lines and reaches a wanted one
   module _ (S : Saving) (s : List ℕ) (passed : List (List ℕ)) (l : List ℕ) (rest : List (List ℕ)) (u : Spelled)
       (hs ks : List Held) (valid : isUtf8 s ≡ true) (cut : linesOf s ≡ passed ++ (l ∷ rest))
-      (reached : insertLines n m ks 0 passed ≡ insertTurn hs A.Done (length passed))
+      (reached : insertLines c ks 0 passed ≡ insertTurn hs A.Done (length passed))
       (e : wanted l ≡ Parsed u) (q : length l ≤ lineMax) where
+    abbrev its : Held
+    its = under o (u .id) l
+
     abbrev onward : Turn Tally
-    onward = insertLines n m (file (under (u .id) l) hs) (suc (length passed)) rest
+    onward = insertLines c (file its hs) (suc (length passed)) rest
 
     abbrev told : Turn Tally → Turn (Reply S)
     told x = turn (inserted (insertedOf s (x .answer))) (x .held)
 
-    at-insert : bookTurn {S = S} n m ks (insert s)
-        ≡ told (pick (noRoom n m (under (u .id) l) hs) (insertTurn hs A.NoRoom (length passed)) onward)
+    at-insert : bookTurn {S = S} n m ks (insert p s)
+        ≡ told (pick (noRoom c its hs) (insertTurn hs A.NoRoom (length passed)) onward)
     unfolding bookTurn bookInsert bookWalk
     at-insert =
-        ap (λ (b : Bool). told (pick b (insertLines n m ks 0 (linesOf s))
+        ap (λ (w : Owner). byOwner w (turn (inserted nobodyInserts) ks)
+        (λ o. replied {S = S} inserted (bookInsert (caller n m o) ks s))) own
+        ∙ ap (λ (b : Bool). told (pick b (insertLines c ks 0 (linesOf s))
         (insertTurn ks (A.NotUtf8 (validRun s)) 0))) valid
-        ∙ ap (λ (ls : List (List ℕ)). told (insertLines n m ks 0 ls)) cut
+        ∙ ap (λ (ls : List (List ℕ)). told (insertLines c ks 0 ls)) cut
         ∙ ap told
-        (goes-on passed (l ∷ rest) ks hs 0 (reached ∙ ap (insertTurn hs A.Done) (sym zero))
-        ∙ ap (λ (c : ℕ). insertLines n m hs c (l ∷ rest)) zero ∙ at-line l rest u hs (length passed) e q)
+        (goes-on c passed (l ∷ rest) ks hs 0 (reached ∙ ap (insertTurn hs A.Done) (sym zero))
+        ∙ ap (λ (k : ℕ). insertLines c hs k (l ∷ rest)) zero ∙ at-line c l rest u hs (length passed) e q)
       where
         zero : 0 + length passed ≡ length passed
         zero = omega arith
 
-    pub insert-answers : bookTurn {S = S} n m ks (insert s) .answer
-        ≡ pick (noRoom n m (under (u .id) l) hs)
+    pub insert-answers : bookTurn {S = S} n m ks (insert p s) .answer
+        ≡ pick (noRoom c its hs)
         (inserted (insertedOf s (record { answer = A.NoRoom; count = length passed })))
         (inserted (insertedOf s (onward .answer)))
-    insert-answers = ap (λ (y : Turn (Reply S)). y .answer) at-insert ∙ go (noRoom n m (under (u .id) l) hs)
+    insert-answers = ap (λ (y : Turn (Reply S)). y .answer) at-insert ∙ go (noRoom c its hs)
       where
         go : (b : Bool)
             → _≡_ {A = Reply S} (told (pick b (insertTurn hs A.NoRoom (length passed)) onward) .answer)
@@ -122,8 +139,8 @@ module _ (n m : ℕ) where
         go true = refl
         go false = refl
 
-    pub insert-holds : bookTurn {S = S} n m ks (insert s) .held ≡ pick (noRoom n m (under (u .id) l) hs) hs (onward .held)
-    insert-holds = ap (λ (y : Turn (Reply S)). y .held) at-insert ∙ go (noRoom n m (under (u .id) l) hs)
+    pub insert-holds : bookTurn {S = S} n m ks (insert p s) .held ≡ pick (noRoom c its hs) hs (onward .held)
+    insert-holds = ap (λ (y : Turn (Reply S)). y .held) at-insert ∙ go (noRoom c its hs)
       where
         go : (b : Bool) → pick b (insertTurn hs A.NoRoom (length passed)) onward .held ≡ pick b hs (onward .held)
         go true = refl

@@ -117,9 +117,9 @@ module _ (i : List ℕ) (at : ℕ) (a : List ℕ) (n : ℕ) (w : Listing i at a 
   abbrev K′ : ℕ → Key
   K′ k = keyIn (rowPut a n (head .key) (head .off) (head .len)) k
 
-  pub list-turn : (head .size ≡ 0 → ⊥) → n < rowsMax
+  pub list-turn : (head .size ≡ 0 → ⊥) → n < rowsMax → head .key .owner < 256
       → Listing i (at + head .size) (rowPut a n (head .key) (head .off) (head .len)) (n + 1)
-  list-turn z m = record {
+  list-turn z m byte = record {
     within = next-within i at head e (w .within);
     long = put-long a n (head .key) (head .off) (head .len) (w .long);
     lists = λ off hs l. go hs (w .lists off hs l) (onward i at head e (w .lists off hs l .rest));
@@ -129,7 +129,7 @@ module _ (i : List ℕ) (at : ℕ) (a : List ℕ) (n : ℕ) (w : Listing i at a 
       old k l = ap (λ (r : Row). r .key) (row-other a n (head .key) (head .off) (head .len) k (λ q. omega arith))
 
       new : K′ n ≡ head .key
-      new = ap (λ (r : Row). r .key) (row-same a n (head .key) (head .off) (head .len) (w .long) m)
+      new = ap (λ (r : Row). r .key) (row-same a n (head .key) (head .off) (head .len) (w .long) m byte)
 
       go : (hs : List Held) (x : Lists′ i at (keyIn a) n hs) → Onward i at head e (x .rest)
           → Lists′ i (at + head .size) (keyIn (rowPut a n (head .key) (head .off) (head .len))) (n + 1) hs

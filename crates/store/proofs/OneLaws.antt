@@ -10,7 +10,6 @@ use lib.ListN.{length, take, drop}
 use lib.Seq.{take-length}
 use Rattle.text.specs.Bytes.{pick}
 use Rattle.store.specs.declared.table.Fill.{Fill}
-use Rattle.store.specs.Book.{under}
 use Rattle.store.specs.Decode.{decode}
 use Rattle.store.specs.Held.{Key, Held, file, lineMax}
 use Rattle.store.specs.Layout.{Bytes}
@@ -44,20 +43,20 @@ module _ (i t s : List ℕ) (a : List ℕ) (heads next : List ℕ) (f : Fill) (l
   module _ (b : List ℕ) (heads′ next′ : List ℕ) (r : Fill)
       (g : FilesRow i t a heads next f k 0 (length s) b heads′ next′ r) where
     abbrev By : List Held → Type 0
-    By hs = Filed i t s b heads′ next′ (f .count) f (under k (take (length s) (drop 0 s))) hs r
+    By hs = Filed i t s b heads′ next′ (f .count) f (record { key = k; line = take (length s) (drop 0 s) }) hs r
 
     filed : (hs : List Held) → decode i t ≡ some hs → By hs
     filed hs d = g s (f .count) hs (ready hs d)
 
     -- without room
-    pub one-full : r .count ≡ f .count → Bytes i → Files i t (under k s) false i t
+    pub one-full : r .count ≡ f .count → Bytes i → Files i t (record { key = k; line = s }) false i t
     one-full e b hs d = go (filed hs d)
       where
-        go : By hs → (false ≡ room (length i) (length t) (under k s) hs) × (i ≡ encodeIndex (length i) hs)
+        go : By hs → (false ≡ room (length i) (length t) (record { key = k; line = s }) hs) × (i ≡ encodeIndex (length i) hs)
             × (t ≡ encodeText (length t) hs)
         go (fits q c y) = absurd (omega (arith, c, e))
         go (full q c y) = (
-          sym (ap (λ (l : List ℕ). room (length i) (length t) (under k l) hs) (sym whole) ∙ q),
+          sym (ap (λ (l : List ℕ). room (length i) (length t) (record { key = k; line = l }) hs) (sym whole) ∙ q),
           index-kept i t hs (laid i t hs b d),
           text-kept i t hs (laid i t hs b d),
         )
@@ -65,21 +64,21 @@ module _ (i t s : List ℕ) (a : List ℕ) (heads next : List ℕ) (f : Fill) (l
     -- with room
     module _ (n : r .count ≡ f .count → ⊥) where
       there : (hs : List Held) → By hs
-          → (room (length i) (length t) (under k s) hs ≡ true)
-          × Tabled i t s b (f .count) (r .count) (file (under k s) hs)
+          → (room (length i) (length t) (record { key = k; line = s }) hs ≡ true)
+          × Tabled i t s b (f .count) (r .count) (file (record { key = k; line = s }) hs)
       there hs (full q c y) = absurd (n c)
       there hs (fits q c y) = (
-        ap (λ (l : List ℕ). room (length i) (length t) (under k l) hs) (sym whole) ∙ q,
-        subst (λ (l : List ℕ). Tabled i t s b (f .count) (r .count) (file (under k l) hs)) whole
+        ap (λ (l : List ℕ). room (length i) (length t) (record { key = k; line = l }) hs) (sym whole) ∙ q,
+        subst (λ (l : List ℕ). Tabled i t s b (f .count) (r .count) (file (record { key = k; line = l }) hs)) whole
             (y .tabled),
       )
 
       pub one-settles : known (decode i t) ≡ true → Settles i t s b f (r .count)
       one-settles e =
           let q : (hs : List Held) × (decode i t ≡ some hs) = lines-of (decode i t) e in
-          (file (under k s) (q .0), there (q .0) (filed (q .0) (q .1)) .1)
+          (file (record { key = k; line = s }) (q .0), there (q .0) (filed (q .0) (q .1)) .1)
 
-      pub one-filed : (i′ t′ : List ℕ) → Settled i t s b f (r .count) i′ t′ → Files i t (under k s) true i′ t′
+      pub one-filed : (i′ t′ : List ℕ) → Settled i t s b f (r .count) i′ t′ → Files i t (record { key = k; line = s }) true i′ t′
       one-filed i′ t′ w hs d =
           let x = there hs (filed hs d) in
-          (sym (x .0), w (file (under k s) hs) (x .1) .0, w (file (under k s) hs) (x .1) .1)
+          (sym (x .0), w (file (record { key = k; line = s }) hs) (x .1) .0, w (file (record { key = k; line = s }) hs) (x .1) .1)

@@ -9,10 +9,14 @@ use Rattle.text.specs.Bytes.{firstOf}
 use Rattle.text.specs.Search.{lf}
 use Rattle.store.specs.declared.calls.Inserted.{Inserted}
 use Rattle.store.specs.declared.calls.Tally.{Tally}
-use Rattle.store.specs.Book.{otherSpelling, otherSpellings, insertedOf}
+use Rattle.store.specs.Book.{otherSpelling, otherSpellings, insertedOf, nobodyInserts}
 use Rattle.store.specs.Inner.{firstLine}
 use Rattle.store.specs.Lines.{linesOf, wanted}
-use Rattle.store.specs.Store.{Done, storeWalk, storeInsert}
+use Rattle.store.specs.Store.{Done, unchanged, storeWalk, ownInsert, storeInsert}
+use Rattle.store.specs.declared.owners.Owner.{Owner}
+use Rattle.store.specs.declared.owners.Owner.the-variants as O
+use Rattle.store.specs.declared.parties.Party.{Party}
+use Rattle.store.specs.Parties.{ownerOf, byOwner}
 use Rattle.store.proofs.LineLaws.{cut-at, lines-end, plus-minus}
 
 others-cons : (l : List ℕ) (ls : List (List ℕ)) → otherSpellings (l ∷ ls) ≡ otherSpelling (wanted l) + otherSpellings ls
@@ -80,19 +84,21 @@ pub other-part : (s : List ℕ) (at len v : ℕ) → v ≡ otherSpelling (wanted
     → v ≡ otherSpelling (wanted (take len (drop at s)))
 other-part s at len v e = e ∙ ap (λ (k : ℕ). otherSpelling (wanted (take k (drop at s)))) (plus-minus at len)
 
--- what a walk comes to, with that number
-pub insert-told : (i t s i′ t′ : List ℕ) (w : Tally) (k : ℕ) → record { answer = w; index = i′; text = t′ } ≡ storeWalk i t s
+-- what an owner's walk comes to, with that number
+pub insert-told : (p : Party) (o : ℕ) → ownerOf p ≡ O.Byte o → (i t s i′ t′ : List ℕ) (w : Tally) (k : ℕ)
+    → record { answer = w; index = i′; text = t′ } ≡ storeWalk i t o s
     → k ≡ otherSpellings (take (w .count) (linesOf s))
     → record {
       answer = record { answer = w .answer; count = w .count; «not_simple» = k };
       index = i′;
       text = t′;
-    } ≡ storeInsert i t s
-unfolding storeInsert
-insert-told i t s i′ t′ w k e q =
+    } ≡ storeInsert i t p s
+unfolding storeInsert ownInsert
+insert-told p o own i t s i′ t′ w k e q =
     ap (λ (j : ℕ). record {
       answer = record { answer = w .answer; count = w .count; «not_simple» = j };
       index = i′;
       text = t′;
     }) q
     ∙ ap (λ (d : Done Tally). record { answer = insertedOf s (d .answer); index = d .index; text = d .text }) e
+    ∙ sym (ap (λ (x : Owner). byOwner x (unchanged i t nobodyInserts) (λ v. ownInsert i t v s)) own)

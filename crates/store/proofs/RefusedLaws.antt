@@ -29,10 +29,16 @@ use Rattle.store.specs.Layout.{Bytes, encodeIndex, encodeText}
 use Rattle.store.specs.Decode.{decode}
 use Rattle.store.specs.Lines.{linesOf, wanted}
 use Rattle.store.specs.Refusals.{number, saveNumber}
-use Rattle.store.specs.Book.{turn, Turn, noRoom, under, Reached, after, stopped, reachWanted, reach, insertTurn}
-use Rattle.store.specs.Book.{onReached, insertLines, bookWalk, insertedOf, Attempt, refused, files, bookAttempt}
-use Rattle.store.specs.Store.{Done, unchanged, holding, onLines, fitting, storeClear, storeWalk, storeInsert}
-use Rattle.store.specs.Store.{storeAttempt}
+use Rattle.store.specs.declared.calls.Inserted.{Inserted}
+use Rattle.store.specs.declared.owners.Owner.{Owner}
+use Rattle.store.specs.declared.owners.Owner.the-variants as O
+use Rattle.store.specs.declared.parties.Party.{Party}
+use Rattle.store.specs.Parties.{ownerOf, byOwner}
+use Rattle.store.specs.Book.{Caller, caller, turn, Turn, noRoom, under, Reached, after, stopped, reachWanted}
+use Rattle.store.specs.Book.{reach, insertTurn, onReached, insertLines, bookWalk, insertedOf, nobodyInserts}
+use Rattle.store.specs.Book.{Attempt, refused, files, bookAttempt}
+use Rattle.store.specs.Store.{Done, unchanged, holding, onLines, fitting, storeClear, storeWalk, ownInsert}
+use Rattle.store.specs.Store.{storeInsert, storeAttempt}
 use Rattle.store.specs.Saves.{SaveArgs, unsavedName, refusedSave, attemptAfter, attemptOf, storeSave}
 use Rattle.store.specs.Guarantee.{builtHeld, builtSave}
 use Rattle.store.specs.Promises.{Untouched, LinesBefore, firstLines, RefusalsLeave, BuildLeaves}
@@ -41,104 +47,104 @@ use Rattle.store.proofs.FrontLaws.{front-lines, front-utf8}
 
 -- ---- the lines that an insert walks
 
-module _ (n m : ℕ) where
-  pub count-least : (ls : List (List ℕ)) (hs : List Held) (c : ℕ) → c ≤ insertLines n m hs c ls .answer .count
+module _ (by : Caller) where
+  pub count-least : (ls : List (List ℕ)) (hs : List Held) (c : ℕ) → c ≤ insertLines by hs c ls .answer .count
   unfolding insertLines
   count-least [] hs c = omega arith
-  count-least (l ∷ ls) hs c = go (reach n m hs l) (λ (ks : List Held). count-least ls ks (suc c))
+  count-least (l ∷ ls) hs c = go (reach by hs l) (λ (ks : List Held). count-least ls ks (suc c))
     where
-      go : (r : Reached) → ((ks : List Held) → suc c ≤ insertLines n m ks (suc c) ls .answer .count)
-          → c ≤ onReached r (λ a. insertTurn hs a c) (λ ks. insertLines n m ks (suc c) ls) .answer .count
+      go : (r : Reached) → ((ks : List Held) → suc c ≤ insertLines by ks (suc c) ls .answer .count)
+          → c ≤ onReached r (λ a. insertTurn hs a c) (λ ks. insertLines by ks (suc c) ls) .answer .count
       go (stopped a) ih = omega arith
       go (after ks) ih = omega (arith, ih ks)
 
   -- those that were walked, walked alone: done, and the same lines held
   lines-before : (ls : List (List ℕ)) (hs : List Held) (c k : ℕ)
-      → insertLines n m hs c ls .answer .count ≡ c + k
-      → insertLines n m hs c (take k ls) ≡ insertTurn (insertLines n m hs c ls .held) A.Done (c + k)
+      → insertLines by hs c ls .answer .count ≡ c + k
+      → insertLines by hs c (take k ls) ≡ insertTurn (insertLines by hs c ls .held) A.Done (c + k)
   unfolding insertLines
   lines-before [] hs c zero e = ap (λ (x : ℕ). insertTurn hs A.Done x) e
   lines-before [] hs c (suc k) e = absurd (omega (arith, e))
   lines-before (l ∷ ls) hs c zero e =
-      go (reach n m hs l) (λ (ks : List Held). count-least ls ks (suc c)) e
+      go (reach by hs l) (λ (ks : List Held). count-least ls ks (suc c)) e
     where
       z : c ≡ c + 0
       z = omega arith
 
-      go : (r : Reached) → ((ks : List Held) → suc c ≤ insertLines n m ks (suc c) ls .answer .count)
-          → onReached r (λ a. insertTurn hs a c) (λ ks. insertLines n m ks (suc c) ls) .answer .count ≡ c + 0
+      go : (r : Reached) → ((ks : List Held) → suc c ≤ insertLines by ks (suc c) ls .answer .count)
+          → onReached r (λ a. insertTurn hs a c) (λ ks. insertLines by ks (suc c) ls) .answer .count ≡ c + 0
           → insertTurn hs A.Done c
-          ≡ insertTurn (onReached r (λ a. insertTurn hs a c) (λ ks. insertLines n m ks (suc c) ls) .held) A.Done (c + 0)
+          ≡ insertTurn (onReached r (λ a. insertTurn hs a c) (λ ks. insertLines by ks (suc c) ls) .held) A.Done (c + 0)
       go (stopped a) ih q = ap (λ (x : ℕ). insertTurn hs A.Done x) z
       go (after ks) ih q = absurd (omega (arith, q, ih ks))
   lines-before (l ∷ ls) hs c (suc k) e =
-      go (reach n m hs l) (λ (ks : List Held) (q : insertLines n m ks (suc c) ls .answer .count ≡ suc c + k).
+      go (reach by hs l) (λ (ks : List Held) (q : insertLines by ks (suc c) ls .answer .count ≡ suc c + k).
       lines-before ls ks (suc c) k q) e
     where
       z : suc c + k ≡ c + suc k
       z = omega arith
 
       go : (r : Reached)
-          → ((ks : List Held) → insertLines n m ks (suc c) ls .answer .count ≡ suc c + k
-          → insertLines n m ks (suc c) (take k ls)
-          ≡ insertTurn (insertLines n m ks (suc c) ls .held) A.Done (suc c + k))
-          → onReached r (λ a. insertTurn hs a c) (λ ks. insertLines n m ks (suc c) ls) .answer .count ≡ c + suc k
-          → onReached r (λ a. insertTurn hs a c) (λ ks. insertLines n m ks (suc c) (take k ls))
-          ≡ insertTurn (onReached r (λ a. insertTurn hs a c) (λ ks. insertLines n m ks (suc c) ls) .held) A.Done
+          → ((ks : List Held) → insertLines by ks (suc c) ls .answer .count ≡ suc c + k
+          → insertLines by ks (suc c) (take k ls)
+          ≡ insertTurn (insertLines by ks (suc c) ls .held) A.Done (suc c + k))
+          → onReached r (λ a. insertTurn hs a c) (λ ks. insertLines by ks (suc c) ls) .answer .count ≡ c + suc k
+          → onReached r (λ a. insertTurn hs a c) (λ ks. insertLines by ks (suc c) (take k ls))
+          ≡ insertTurn (onReached r (λ a. insertTurn hs a c) (λ ks. insertLines by ks (suc c) ls) .held) A.Done
           (c + suc k)
       go (stopped a) ih q = absurd (omega (arith, q))
       go (after ks) ih q =
-          ih ks (q ∙ sym z) ∙ ap (λ (x : ℕ). insertTurn (insertLines n m ks (suc c) ls .held) A.Done x) z
+          ih ks (q ∙ sym z) ∙ ap (λ (x : ℕ). insertTurn (insertLines by ks (suc c) ls .held) A.Done x) z
 
   -- a walk over lines answers done, 20 or 21
   abbrev Walks : Answer → Type 0
-  Walks a = (number a ≡ 10 → ⊥) × (number a ≡ 19 → ⊥)
+  Walks a = (number a ≡ 10 → ⊥) × (number a ≡ 19 → ⊥) × (number a ≡ 24 → ⊥)
 
   abbrev Stops : Reached → Type 0
   Stops (after hs) = Unit {0}
   Stops (stopped a) = Walks a
 
-  stops : (hs : List Held) (l : List ℕ) → Stops (reach n m hs l)
+  stops : (hs : List Held) (l : List ℕ) → Stops (reach by hs l)
   unfolding reach
   stops hs l = go (wanted l)
     where
-      full : (u : Spelled) (b : Bool) → Stops (pick b (stopped A.NoRoom) (after (file (under (u .id) l) hs)))
-      full u true = (λ e. omega (arith, e), λ e. omega (arith, e))
+      full : (u : Spelled) (b : Bool) → Stops (pick b (stopped A.NoRoom) (after (file (under (by .owner) (u .id) l) hs)))
+      full u true = (λ e. omega (arith, e), λ e. omega (arith, e), λ e. omega (arith, e))
       full u false = tt
 
       long : (u : Spelled) (b : Bool) → Stops (pick b (stopped A.LineTooLong)
-          (pick (noRoom n m (under (u .id) l) hs) (stopped A.NoRoom) (after (file (under (u .id) l) hs))))
-      long u true = (λ e. omega (arith, e), λ e. omega (arith, e))
-      long u false = full u (noRoom n m (under (u .id) l) hs)
+          (pick (noRoom by (under (by .owner) (u .id) l) hs) (stopped A.NoRoom) (after (file (under (by .owner) (u .id) l) hs))))
+      long u true = (λ e. omega (arith, e), λ e. omega (arith, e), λ e. omega (arith, e))
+      long u false = full u (noRoom by (under (by .owner) (u .id) l) hs)
 
-      go : (p : UuidParse) → Stops (reachWanted n m hs l p)
+      go : (p : UuidParse) → Stops (reachWanted by hs l p)
       go Invalid = tt
       go (Parsed u) = long u (ltb lineMax (length l))
 
-  walks : (ls : List (List ℕ)) (hs : List Held) (c : ℕ) → Walks (insertLines n m hs c ls .answer .answer)
+  walks : (ls : List (List ℕ)) (hs : List Held) (c : ℕ) → Walks (insertLines by hs c ls .answer .answer)
   unfolding insertLines
-  walks [] hs c = (λ e. omega (arith, e), λ e. omega (arith, e))
-  walks (l ∷ ls) hs c = go (reach n m hs l) (stops hs l) (λ (ks : List Held). walks ls ks (suc c))
+  walks [] hs c = (λ e. omega (arith, e), λ e. omega (arith, e), λ e. omega (arith, e))
+  walks (l ∷ ls) hs c = go (reach by hs l) (stops hs l) (λ (ks : List Held). walks ls ks (suc c))
     where
-      go : (r : Reached) → Stops r → ((ks : List Held) → Walks (insertLines n m ks (suc c) ls .answer .answer))
-          → Walks (onReached r (λ a. insertTurn hs a c) (λ ks. insertLines n m ks (suc c) ls) .answer .answer)
+      go : (r : Reached) → Stops r → ((ks : List Held) → Walks (insertLines by ks (suc c) ls .answer .answer))
+          → Walks (onReached r (λ a. insertTurn hs a c) (λ ks. insertLines by ks (suc c) ls) .answer .answer)
       go (stopped a) w ih = w
       go (after ks) w ih = ih ks
 
 -- ---- the calls
 
 -- a save that files answers done
-files-done : (a : SaveArgs) (h : Held) (v : Saved) → attemptOf a ≡ files h v → saveNumber (v .answer) ≡ 0
+pub files-done : (o : ℕ) (a : SaveArgs) (h : Held) (v : Saved) → attemptOf o a ≡ files h v → saveNumber (v .answer) ≡ 0
 unfolding attemptOf
-files-done a h v e = go (checksOf (a .slots) (a .buttons) (a .axes) (a .name)) e
+files-done o a h v e = go (checksOf (a .slots) (a .buttons) (a .axes) (a .name)) e
   where
     name : (x : Bool)
-        → pick x (refused (refusedSave Sv.UnsavedName)) (files (builtHeld a) (builtSave a)) ≡ files h v
+        → pick x (refused (refusedSave Sv.UnsavedName)) (files (builtHeld o a) (builtSave a)) ≡ files h v
         → saveNumber (v .answer) ≡ 0
     name true q = let z : _≡_ {A = ℕ} 0 1 = cc in absurd (omega arith)
     name false q = let w : builtSave a ≡ v = cc in ap (λ (y : Saved). saveNumber (y .answer)) (sym w)
 
-    go : (r : MappingAnswer) → attemptAfter a r ≡ files h v → saveNumber (v .answer) ≡ 0
+    go : (r : MappingAnswer) → attemptAfter o a r ≡ files h v → saveNumber (v .answer) ≡ 0
     go Accepted q = name (unsavedName (a .name)) q
     go (Refused x) q = let z : _≡_ {A = ℕ} 0 1 = cc in absurd (omega arith)
 
@@ -162,50 +168,66 @@ module _ (i t : List ℕ) (b : Bytes i) where
       go true q = absurd (q refl)
       go false q = refl
 
-  module _ (h : Held) (v : Saved) where
+  module _ (o : ℕ) (h : Held) (v : Saved) where
+    abbrev c : Caller
+    c = caller (length i) (length t) o
+
     abbrev savedBy : Option (List Held) → Done Saved
-    savedBy o = onLines i t o (refusedSave Sv.Unsound)
-        (λ hs. bookAttempt (refusedSave Sv.NoRoom) (length i) (length t) hs (files h v))
+    savedBy w = onLines i t w (refusedSave Sv.Unsound) (λ hs. bookAttempt (refusedSave Sv.NoRoom) c hs (files h v))
 
     abbrev filedIf : List Held → Bool → Done Saved
     filedIf hs x = holding i t (pick x (turn (refusedSave Sv.NoRoom) hs) (turn v (file h hs)))
 
+  abbrev tries : ℕ → Attempt Saved → Done Saved
+  tries o x = storeAttempt (refusedSave Sv.Unsound) (refusedSave Sv.NoRoom) i t o x
+
   -- a save's attempt: 21 after one that files, and all before it
-  attempt-leaves : (x : Attempt Saved) → ((h : Held) (v : Saved) → x ≡ files h v → saveNumber (v .answer) ≡ 0)
-      → (saveNumber (storeAttempt (refusedSave Sv.Unsound) (refusedSave Sv.NoRoom) i t x .answer .answer) ≡ 0 → ⊥)
-      → Untouched i t (storeAttempt (refusedSave Sv.Unsound) (refusedSave Sv.NoRoom) i t x)
-  attempt-leaves (refused v) done n = refl
-  attempt-leaves (files h v) done n = go (decode i t) refl n
+  attempt-leaves : (o : ℕ) (x : Attempt Saved)
+      → ((h : Held) (v : Saved) → x ≡ files h v → saveNumber (v .answer) ≡ 0)
+      → (saveNumber (tries o x .answer .answer) ≡ 0 → ⊥) → Untouched i t (tries o x)
+  attempt-leaves o (refused v) done n = refl
+  attempt-leaves o (files h v) done n = go (decode i t) refl n
     where
       room? : (x : Bool) (hs : List Held) → decode i t ≡ some hs
-          → (saveNumber (filedIf h v hs x .answer .answer) ≡ 0 → ⊥) → Untouched i t (filedIf h v hs x)
+          → (saveNumber (filedIf o h v hs x .answer .answer) ≡ 0 → ⊥) → Untouched i t (filedIf o h v hs x)
       room? true hs p q = kept hs (refusedSave Sv.NoRoom) p
       room? false hs p q = absurd (q (done h v refl))
 
-      go : (o : Option (List Held)) → decode i t ≡ o → (saveNumber (savedBy h v o .answer .answer) ≡ 0 → ⊥)
-          → Untouched i t (savedBy h v o)
+      go : (w : Option (List Held)) → decode i t ≡ w → (saveNumber (savedBy o h v w .answer .answer) ≡ 0 → ⊥)
+          → Untouched i t (savedBy o h v w)
       go none p q = refl
-      go (some hs) p q = room? (noRoom (length i) (length t) h hs) hs p q
+      go (some hs) p q = room? (noRoom (caller (length i) (length t) o) h hs) hs p q
 
-  save-leaves : (a : SaveArgs) → (saveNumber (storeSave i t a .answer .answer) ≡ 0 → ⊥)
-      → Untouched i t (storeSave i t a)
+  save-leaves : (p : Party) (a : SaveArgs) → (saveNumber (storeSave i t p a .answer .answer) ≡ 0 → ⊥)
+      → Untouched i t (storeSave i t p a)
   unfolding storeSave
-  save-leaves a n = attempt-leaves (attemptOf a) (files-done a) n
+  save-leaves p a n = go (ownerOf p) n
+    where
+      saves : Owner → Done Saved
+      saves w = byOwner w (unchanged i t (refusedSave Sv.NoOwner)) (λ o. tries o (attemptOf o a))
 
-  module _ (s : List ℕ) where
+      go : (w : Owner) → (saveNumber (saves w .answer .answer) ≡ 0 → ⊥) → Untouched i t (saves w)
+      go O.Nobody q = refl
+      go (O.Byte o) q = attempt-leaves o (attemptOf o a) (files-done o a) q
+
+  -- an owner's insert
+  module _ (o : ℕ) (s : List ℕ) where
+    abbrev by : Caller
+    by = caller (length i) (length t) o
+
     abbrev inserts : Option (List Held) → Done Tally
-    inserts o = onLines i t o (record { answer = A.Unsound; count = 0 }) (λ hs. bookWalk (length i) (length t) hs s)
+    inserts w = onLines i t w (record { answer = A.Unsound; count = 0 }) (λ hs. bookWalk by hs s)
 
-    -- an insert's three ways: 19, 10, or a walk over the lines
+    -- its three ways: 19, 10, or a walk over the lines
     abbrev walked : List Held → Turn Tally
-    walked hs = insertLines (length i) (length t) hs 0 (linesOf s)
+    walked hs = insertLines by hs 0 (linesOf s)
 
     inserts-by : (P : Done Tally → Type 0)
         → (decode i t ≡ none → P (unchanged i t (record { answer = A.Unsound; count = 0 })))
         → ((hs : List Held) → decode i t ≡ some hs → isUtf8 s ≡ false
         → P (holding i t (insertTurn hs (A.NotUtf8 (validRun s)) 0)))
         → ((hs : List Held) → decode i t ≡ some hs → isUtf8 s ≡ true → P (holding i t (walked hs)))
-        → P (storeWalk i t s)
+        → P (storeWalk i t o s)
     unfolding storeWalk bookWalk
     inserts-by P f g h = go (decode i t) refl
       where
@@ -214,45 +236,73 @@ module _ (i t : List ℕ) (b : Bytes i) where
         valid true hs e p = h hs p e
         valid false hs e p = g hs p e
 
-        go : (o : Option (List Held)) → decode i t ≡ o → P (inserts o)
+        go : (w : Option (List Held)) → decode i t ≡ w → P (inserts w)
         go none p = f p
         go (some hs) p = valid (isUtf8 s) hs refl p
 
-    walk-leaves : (k : ℕ) → ((a : Answer) → Walks (length i) (length t) a → number a ≡ k → ⊥)
-        → number (storeWalk i t s .answer .answer) ≡ k → Untouched i t (storeWalk i t s)
+    walk-leaves : (k : ℕ) → ((a : Answer) → Walks by a → number a ≡ k → ⊥)
+        → number (storeWalk i t o s .answer .answer) ≡ k → Untouched i t (storeWalk i t o s)
     walk-leaves k never =
         inserts-by (λ d. number (d .answer .answer) ≡ k → Untouched i t d)
         (λ p e. refl)
         (λ hs p v e. kept hs (record { answer = A.NotUtf8 (validRun s); count = 0 }) p)
-        (λ hs p v e. absurd (never (walked hs .answer .answer) (walks (length i) (length t) (linesOf s) hs 0) e))
+        (λ hs p v e. absurd (never (walked hs .answer .answer) (walks by (linesOf s) hs 0) e))
 
-    insert-leaves : (k : ℕ) → ((a : Answer) → Walks (length i) (length t) a → number a ≡ k → ⊥)
-        → number (storeInsert i t s .answer .answer) ≡ k → Untouched i t (storeInsert i t s)
-    unfolding storeInsert
-    insert-leaves k never e =
+    own-leaves : (k : ℕ) → ((a : Answer) → Walks by a → number a ≡ k → ⊥)
+        → number (ownInsert i t o s .answer .answer) ≡ k → Untouched i t (ownInsert i t o s)
+    unfolding ownInsert
+    own-leaves k never e =
         ap (λ (d : Done Tally). record
-        { answer = insertedOf s (storeWalk i t s .answer); index = d .index; text = d .text })
+        { answer = insertedOf s (storeWalk i t o s .answer); index = d .index; text = d .text })
         (walk-leaves k never e)
 
-  before-leaves : (s before : List ℕ) → isUtf8 s ≡ true → isUtf8 before ≡ true
-      → linesOf before ≡ take (storeInsert i t s .answer .count) (linesOf s)
-      → (number (storeInsert i t s .answer .answer) ≡ 19 → ⊥)
-      → LinesBefore i t s before
-  unfolding storeInsert storeWalk bookWalk
-  before-leaves s before v w cut n = go (decode i t) refl
+  -- a party's insert is its owner's
+  owned : (p : Party) (o : ℕ) → ownerOf p ≡ O.Byte o → (s : List ℕ) → storeInsert i t p s ≡ ownInsert i t o s
+  unfolding storeInsert
+  owned p o e s = ap (λ (w : Owner). byOwner w (unchanged i t nobodyInserts) (λ o. ownInsert i t o s)) e
+
+  turned-away : (p : Party) → ownerOf p ≡ O.Nobody → (s : List ℕ) → storeInsert i t p s ≡ unchanged i t nobodyInserts
+  unfolding storeInsert
+  turned-away p e s = ap (λ (w : Owner). byOwner w (unchanged i t nobodyInserts) (λ o. ownInsert i t o s)) e
+
+  insert-leaves : (p : Party) (s : List ℕ) (k : ℕ)
+      → ((o : ℕ) (a : Answer) → Walks (caller (length i) (length t) o) a → number a ≡ k → ⊥)
+      → number (storeInsert i t p s .answer .answer) ≡ k → Untouched i t (storeInsert i t p s)
+  insert-leaves p s k never = go (ownerOf p) refl
     where
-      go : (o : Option (List Held)) → decode i t ≡ o → LinesBefore i t s before
+      Goal : Done Inserted → Type 0
+      Goal d = number (d .answer .answer) ≡ k → Untouched i t d
+
+      go : (w : Owner) → ownerOf p ≡ w → Goal (storeInsert i t p s)
+      go O.Nobody e = subst Goal (sym (turned-away p e s)) (λ q. refl)
+      go (O.Byte o) e = subst Goal (sym (owned p o e s)) (own-leaves o s k (never o))
+
+  -- an owner's insert of the lines that were walked
+  record OwnBefore (o : ℕ) (s before : List ℕ) : Type 0 where
+    answer : ownInsert i t o before .answer .answer ≡ A.Done
+    count : ownInsert i t o before .answer .count ≡ ownInsert i t o s .answer .count
+    index : ownInsert i t o before .index ≡ ownInsert i t o s .index
+    text : ownInsert i t o before .text ≡ ownInsert i t o s .text
+
+  own-before : (o : ℕ) (s before : List ℕ) → isUtf8 s ≡ true → isUtf8 before ≡ true
+      → linesOf before ≡ take (ownInsert i t o s .answer .count) (linesOf s)
+      → (number (ownInsert i t o s .answer .answer) ≡ 19 → ⊥)
+      → OwnBefore o s before
+  unfolding ownInsert storeWalk bookWalk
+  own-before o s before v w cut n = go (decode i t) refl
+    where
+      go : (q : Option (List Held)) → decode i t ≡ q → OwnBefore o s before
       go none p = absurd (n (rw p refl))
       go (some hs) p =
-          let x : Turn Tally = walked s hs in
-          let is : storeWalk i t s ≡ holding i t x = rw (p, v) refl in
-          let by : linesOf before ≡ take (x .answer .count) (linesOf s)
+          let x : Turn Tally = walked o s hs in
+          let is : storeWalk i t o s ≡ holding i t x = rw (p, v) refl in
+          let by-count : linesOf before ≡ take (x .answer .count) (linesOf s)
           = cut ∙ ap (λ (d : Done Tally). take (d .answer .count) (linesOf s)) is in
           let z : x .answer .count ≡ 0 + x .answer .count = omega arith in
-          let y : walked before hs ≡ insertTurn (x .held) A.Done (0 + x .answer .count)
-          = ap (insertLines (length i) (length t) hs 0) by
-          ∙ lines-before (length i) (length t) (linesOf s) hs 0 (x .answer .count) z in
-          let own : storeWalk i t before ≡ holding i t (insertTurn (x .held) A.Done (0 + x .answer .count))
+          let y : walked o before hs ≡ insertTurn (x .held) A.Done (0 + x .answer .count)
+          = ap (insertLines (caller (length i) (length t) o) hs 0) by-count
+          ∙ lines-before (caller (length i) (length t) o) (linesOf s) hs 0 (x .answer .count) z in
+          let own : storeWalk i t o before ≡ holding i t (insertTurn (x .held) A.Done (0 + x .answer .count))
           = rw (p, w) (ap (holding i t) y) in
           record {
             answer = ap (λ (d : Done Tally). d .answer .answer) own;
@@ -262,15 +312,41 @@ module _ (i t : List ℕ) (b : Bytes i) where
             text = ap (λ (d : Done Tally). d .text) own ∙ sym (ap (λ (d : Done Tally). d .text) is);
           }
 
+  before-leaves : (p : Party) (s before : List ℕ) → isUtf8 s ≡ true → isUtf8 before ≡ true
+      → linesOf before ≡ take (storeInsert i t p s .answer .count) (linesOf s)
+      → (number (storeInsert i t p s .answer .answer) ≡ 24 → ⊥)
+      → (number (storeInsert i t p s .answer .answer) ≡ 19 → ⊥)
+      → LinesBefore i t p s before
+  before-leaves p s before v w cut away n = go (ownerOf p) refl
+    where
+      go : (x : Owner) → ownerOf p ≡ x → LinesBefore i t p s before
+      go O.Nobody e = absurd (away (ap (λ (d : Done Inserted). number (d .answer .answer)) (turned-away p e s)))
+      go (O.Byte o) e =
+          let is : storeInsert i t p s ≡ ownInsert i t o s = owned p o e s in
+          let to : storeInsert i t p before ≡ ownInsert i t o before = owned p o e before in
+          let b : OwnBefore o s before
+          = own-before o s before v w (cut ∙ ap (λ (d : Done Inserted). take (d .answer .count) (linesOf s)) is)
+          (λ z. n (ap (λ (d : Done Inserted). number (d .answer .answer)) is ∙ z)) in
+          record {
+            answer = ap (λ (d : Done Inserted). d .answer .answer) to ∙ b .answer;
+            count = ap (λ (d : Done Inserted). d .answer .count) to ∙ b .count
+                ∙ sym (ap (λ (d : Done Inserted). d .answer .count) is);
+            index = ap (λ (d : Done Inserted). d .index) to ∙ b .index
+                ∙ sym (ap (λ (d : Done Inserted). d .index) is);
+            text = ap (λ (d : Done Inserted). d .text) to ∙ b .text ∙ sym (ap (λ (d : Done Inserted). d .text) is);
+          }
+
   pub refusals-leave : RefusalsLeave i t
   refusals-leave = record {
     clear-refused = clear-leaves;
     save-refused = save-leaves;
-    insert-19 = λ s. insert-leaves s 19 (λ a w. w .1);
-    insert-10 = λ s. insert-leaves s 10 (λ a w. w .0);
-    insert-front = λ s v n.
-        before-leaves s (firstLines (storeInsert i t s .answer .count) s) v
-        (front-utf8 (storeInsert i t s .answer .count) s v) (front-lines s (storeInsert i t s .answer .count)) n;
+    insert-24 = λ p s. insert-leaves p s 24 (λ o a w. w .2);
+    insert-19 = λ p s. insert-leaves p s 19 (λ o a w. w .1);
+    insert-10 = λ p s. insert-leaves p s 10 (λ o a w. w .0);
+    insert-front = λ p s v away n.
+        before-leaves p s (firstLines (storeInsert i t p s .answer .count) s) v
+        (front-utf8 (storeInsert i t p s .answer .count) s v) (front-lines s (storeInsert i t p s .answer .count))
+        away n;
     insert-stopped = before-leaves;
   }
 

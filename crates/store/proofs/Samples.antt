@@ -13,13 +13,14 @@ use Rattle.text.specs.declared.uuid.Form.the-variants as Fm
 use Rattle.text.specs.declared.uuid.Uuid.{Uuid}
 use Rattle.text.specs.declared.uuid.UuidParse.the-variants.{Parsed, Invalid}
 use Rattle.store.specs.declared.calls.Answer.the-variants as A
-use Rattle.store.specs.Held.{sameKey, strike, file, holds, distinct}
+use Rattle.store.specs.declared.parties.Party.the-variants as P
+use Rattle.store.specs.Held.{keyBy, sameKey, strike, file, holds, distinct}
 use Rattle.store.specs.Layout.{recordBytes, records, texts, padded, encodeIndex, encodeText}
-use Rattle.store.specs.Decode.{bodyAt, headAt, headFits, zeroes, walk, decode}
+use Rattle.store.specs.Decode.{bodyAt, ownerAt, headAt, headFits, zeroes, walk, decode}
 use Rattle.store.specs.Lines.{linesOf, forPlatform, wanted}
 use Rattle.text.specs.Search.{firstText}
-use Rattle.store.specs.Book.{under, lengths, noRoom, reach, insertLines, bookWalk, otherSpellings}
-use Rattle.store.specs.Store.{storeClear, storeWalk, storeInsert}
+use Rattle.store.specs.Book.{caller, under, recordSizes, lengths, noRoom, reach, insertLines, bookWalk, otherSpellings}
+use Rattle.store.specs.Store.{storeClear, storeWalk, ownInsert, storeInsert}
 
 -- UUIDs of zeros, and of zeros and a one
 nil : Uuid
@@ -117,157 +118,157 @@ module _ where
 -- ---- no room
 
 module _ where
-  index-of-20 : noRoom 20 1 (under nil (ascii "a")) [] ≡ true
-  unfolding noRoom strike lengths
+  index-of-20 : noRoom (caller 20 1 0) (under 0 nil (ascii "a")) [] ≡ true
+  unfolding noRoom recordSizes strike lengths
   index-of-20 = refl
 
-  fresh-fits : noRoom 21 1 (under nil (ascii "a")) [] ≡ false
-  unfolding noRoom strike lengths
+  fresh-fits : noRoom (caller 21 1 0) (under 0 nil (ascii "a")) [] ≡ false
+  unfolding noRoom recordSizes strike lengths
   fresh-fits = refl
 
-  own-line-left-out : noRoom 21 60 (under nil (replicate 60 97)) (under nil (replicate 60 98) ∷ []) ≡ false
-  unfolding noRoom strike lengths sameKey nil
+  own-line-left-out : noRoom (caller 21 60 0) (under 0 nil (replicate 60 97)) (under 0 nil (replicate 60 98) ∷ []) ≡ false
+  unfolding noRoom recordSizes strike lengths sameKey nil
   own-line-left-out = refl
 
-  other-line-counts : noRoom 41 3 (under nil (ascii "a")) (under one (ascii "b") ∷ []) ≡ true
-  unfolding noRoom strike lengths sameKey nil one
+  other-line-counts : noRoom (caller 41 3 0) (under 0 nil (ascii "a")) (under 0 one (ascii "b") ∷ []) ≡ true
+  unfolding noRoom recordSizes strike lengths sameKey nil one
   other-line-counts = refl
 
-  text-of-one : noRoom 42 1 (under nil (ascii "a")) (under one (ascii "b") ∷ []) ≡ true
-  unfolding noRoom strike lengths sameKey nil one
+  text-of-one : noRoom (caller 42 1 0) (under 0 nil (ascii "a")) (under 0 one (ascii "b") ∷ []) ≡ true
+  unfolding noRoom recordSizes strike lengths sameKey nil one
   text-of-one = refl
 
 -- ---- soundness
 
 -- the record of a UUID at an offset, with a length
 rec : Uuid → ℕ → ℕ → List ℕ
-rec k off len = recordBytes k off len
+rec k off len = recordBytes (keyBy 0 k) off len
 
 module _ where
   fresh-store : decode (replicate 22 0) (replicate 3 0) ≡ some []
-  unfolding decode walk headAt zeroes distinct
+  unfolding decode walk headAt ownerAt zeroes distinct
   fresh-store = refl
 
   one-line : decode (rec one 0 5 ++ replicate 2 0) (ascii "hello" ++ replicate 2 0)
-      ≡ some (under one (ascii "hello") ∷ [])
-  unfolding decode walk headAt headFits bodyAt zeroes distinct holds recordBytes bigEndian rec one
+      ≡ some (under 0 one (ascii "hello") ∷ [])
+  unfolding decode walk headAt ownerAt headFits bodyAt zeroes distinct holds recordBytes bigEndian rec one
   one-line = refl
 
   two-lines : decode (rec one 0 2 ++ rec nil 2 1) (ascii "abc")
-      ≡ some (under one (ascii "ab") ∷ under nil (ascii "c") ∷ [])
-  unfolding decode walk headAt headFits bodyAt zeroes distinct holds sameKey recordBytes bigEndian rec one nil
+      ≡ some (under 0 one (ascii "ab") ∷ under 0 nil (ascii "c") ∷ [])
+  unfolding decode walk headAt ownerAt headFits bodyAt zeroes distinct holds sameKey recordBytes bigEndian rec one nil
   two-lines = refl
 
   -- a line may end with zero bytes
-  zero-byte : decode (rec one 0 2) (97 ∷ 0 ∷ []) ≡ some (under one (97 ∷ 0 ∷ []) ∷ [])
-  unfolding decode walk headAt headFits bodyAt zeroes distinct holds recordBytes bigEndian rec one
+  zero-byte : decode (rec one 0 2) (97 ∷ 0 ∷ []) ≡ some (under 0 one (97 ∷ 0 ∷ []) ∷ [])
+  unfolding decode walk headAt ownerAt headFits bodyAt zeroes distinct holds recordBytes bigEndian rec one
   zero-byte = refl
 
   -- document 01: "index byte 9 first"
   kind-nine : decode (9 ∷ replicate 20 0) [] ≡ none
-  unfolding decode walk headAt zeroes
+  unfolding decode walk headAt ownerAt zeroes
   kind-nine = refl
 
   kind-zero-first : decode (0 ∷ rec one 0 1) (ascii "a") ≡ none
-  unfolding decode walk headAt zeroes recordBytes bigEndian rec one
+  unfolding decode walk headAt ownerAt zeroes recordBytes bigEndian rec one
   kind-zero-first = refl
 
   truncated : decode (1 ∷ replicate 19 0) [] ≡ none
-  unfolding decode walk headAt zeroes
+  unfolding decode walk headAt ownerAt zeroes
   truncated = refl
 
   gap : decode (rec one 1 1) (ascii "ab") ≡ none
-  unfolding decode walk headAt headFits bodyAt zeroes distinct recordBytes bigEndian rec one
+  unfolding decode walk headAt ownerAt headFits bodyAt zeroes distinct recordBytes bigEndian rec one
   gap = refl
 
   overlap : decode (rec one 0 2 ++ rec nil 1 1) (ascii "ab") ≡ none
-  unfolding decode walk headAt headFits bodyAt zeroes distinct holds sameKey recordBytes bigEndian rec one nil
+  unfolding decode walk headAt ownerAt headFits bodyAt zeroes distinct holds sameKey recordBytes bigEndian rec one nil
   overlap = refl
 
   swapped : decode (rec one 1 1 ++ rec nil 0 1) (ascii "ab") ≡ none
-  unfolding decode walk headAt headFits bodyAt zeroes distinct holds sameKey recordBytes bigEndian rec one nil
+  unfolding decode walk headAt ownerAt headFits bodyAt zeroes distinct holds sameKey recordBytes bigEndian rec one nil
   swapped = refl
 
   past-the-text : decode (rec one 0 2) (ascii "a") ≡ none
-  unfolding decode walk headAt headFits bodyAt zeroes distinct recordBytes bigEndian rec one
+  unfolding decode walk headAt ownerAt headFits bodyAt zeroes distinct recordBytes bigEndian rec one
   past-the-text = refl
 
   index-tail : decode (rec one 0 1 ++ (0 ∷ 7 ∷ [])) (ascii "a") ≡ none
-  unfolding decode walk headAt headFits bodyAt zeroes distinct recordBytes bigEndian rec one
+  unfolding decode walk headAt ownerAt headFits bodyAt zeroes distinct recordBytes bigEndian rec one
   index-tail = refl
 
   text-tail : decode (rec one 0 1) (ascii "ab") ≡ none
-  unfolding decode walk headAt headFits bodyAt zeroes distinct recordBytes bigEndian rec one
+  unfolding decode walk headAt ownerAt headFits bodyAt zeroes distinct recordBytes bigEndian rec one
   text-tail = refl
 
   same-uuid-twice : decode (rec one 0 1 ++ rec one 1 1) (ascii "ab") ≡ none
-  unfolding decode walk headAt headFits bodyAt zeroes distinct holds sameKey recordBytes bigEndian rec one
+  unfolding decode walk headAt ownerAt headFits bodyAt zeroes distinct holds sameKey recordBytes bigEndian rec one
   same-uuid-twice = refl
 
   length-zero : decode (rec one 0 0) (ascii "") ≡ none
-  unfolding decode walk headAt headFits bodyAt zeroes distinct recordBytes bigEndian rec one
+  unfolding decode walk headAt ownerAt headFits bodyAt zeroes distinct recordBytes bigEndian rec one
   length-zero = refl
 
   length-16385 : decode (rec one 0 16385) (replicate 16385 97) ≡ none
-  unfolding decode walk headAt headFits bodyAt zeroes distinct recordBytes bigEndian rec one
+  unfolding decode walk headAt ownerAt headFits bodyAt zeroes distinct recordBytes bigEndian rec one
   length-16385 = refl
 
   -- one byte more than the first hub took
-  length-4097 : decode (rec one 0 4097) (replicate 4097 97) ≡ some (under one (replicate 4097 97) ∷ [])
-  unfolding decode walk headAt headFits bodyAt zeroes distinct holds recordBytes bigEndian rec one
+  length-4097 : decode (rec one 0 4097) (replicate 4097 97) ≡ some (under 0 one (replicate 4097 97) ∷ [])
+  unfolding decode walk headAt ownerAt headFits bodyAt zeroes distinct holds recordBytes bigEndian rec one
   length-4097 = refl
 
 -- ---- inserts
 
 module _ where
   -- 19 comes before 10
-  unsound-first : storeInsert (9 ∷ []) [] (255 ∷ [])
+  unsound-first : storeInsert (9 ∷ []) [] P.Hall (255 ∷ [])
       ≡ record { answer = record { answer = A.Unsound; count = 0; «not_simple» = 0 }; index = 9 ∷ []; text = [] }
-  unfolding storeInsert storeWalk otherSpellings decode walk headAt zeroes linesOf
+  unfolding storeInsert ownInsert storeWalk otherSpellings decode walk headAt ownerAt zeroes linesOf
   unsound-first = refl
 
   -- 10 at the length of the valid run, and nothing filed
-  not-utf8 : storeInsert (0 ∷ []) [] (65 ∷ 195 ∷ [])
+  not-utf8 : storeInsert (0 ∷ []) [] P.Hall (65 ∷ 195 ∷ [])
       ≡ record { answer = record { answer = A.NotUtf8 1; count = 0; «not_simple» = 0 }; index = 0 ∷ []; text = [] }
-  unfolding storeInsert storeWalk otherSpellings decode walk headAt zeroes distinct bookWalk isUtf8 validRun runOf charLength firstLength
+  unfolding storeInsert ownInsert storeWalk otherSpellings decode walk headAt ownerAt zeroes distinct bookWalk isUtf8 validRun runOf charLength firstLength
       begins encodeIndex encodeText records texts padded
   not-utf8 = refl
 
   -- an unwanted line is counted, a wanted one filed without its CR
-  filed : storeInsert (replicate 22 0) (replicate 33 0) (ascii "x\n" ++ (u ++ ascii "\r\n"))
+  filed : storeInsert (replicate 22 0) (replicate 33 0) P.Hall (ascii "x\n" ++ (u ++ ascii "\r\n"))
       ≡ record {
         answer = record { answer = A.Done; count = 2; «not_simple» = 0 };
         index = rec nil 0 32 ++ (0 ∷ []);
         text =
             u ++ (0 ∷ []);
       }
-  unfolding storeInsert storeWalk otherSpellings decode walk headAt zeroes distinct bookWalk isUtf8 validRun runOf charLength firstLength
+  unfolding storeInsert ownInsert storeWalk otherSpellings decode walk headAt ownerAt zeroes distinct bookWalk isUtf8 validRun runOf charLength firstLength
       begins encodeIndex encodeText records texts padded linesOf insertLines reach wanted forPlatform firstText uuidOf
-      readHex hexDigit firstOf same noRoom strike lengths file recordBytes bigEndian rec u nil
+      readHex hexDigit firstOf same noRoom recordSizes strike lengths file recordBytes bigEndian rec u nil
   filed = refl
 
   -- "index of 20 bytes": 21, after one line
-  full : storeInsert (replicate 20 0) (replicate 33 0) (ascii "x\n" ++ u)
+  full : storeInsert (replicate 20 0) (replicate 33 0) P.Hall (ascii "x\n" ++ u)
       ≡ record {
         answer = record { answer = A.NoRoom; count = 1; «not_simple» = 0 };
         index = replicate 20 0;
         text = replicate 33 0;
       }
-  unfolding storeInsert storeWalk otherSpellings decode walk headAt zeroes distinct bookWalk isUtf8 validRun runOf charLength firstLength
+  unfolding storeInsert ownInsert storeWalk otherSpellings decode walk headAt ownerAt zeroes distinct bookWalk isUtf8 validRun runOf charLength firstLength
       begins encodeIndex encodeText records texts padded linesOf insertLines reach wanted forPlatform firstText uuidOf
-      readHex hexDigit firstOf same noRoom strike lengths u nil
+      readHex hexDigit firstOf same noRoom recordSizes strike lengths u nil
   full = refl
 
   -- request P11: of the lines that are filed those in another form than 32 digits; one is replaced, one is not wanted,
   -- and the last has no room
-  forms : storeInsert (replicate 21 0) (replicate 99 0)
+  forms : storeInsert (replicate 21 0) (replicate 99 0) P.Hall
       (h ++ (ascii "\n{" ++ (h ++ (ascii "},T\n" ++ (u ++ (ascii "\nxinput,T\n" ++ (h ++ (ascii ",platform:Mac\n"
       ++ ascii "00000000-0000-0000-0000-000000000001"))))))))
       .answer
       ≡ record { answer = A.NoRoom; count = 5; «not_simple» = 2 }
-  unfolding storeInsert storeWalk otherSpellings decode walk headAt zeroes distinct bookWalk isUtf8 validRun runOf
+  unfolding storeInsert ownInsert storeWalk otherSpellings decode walk headAt ownerAt zeroes distinct bookWalk isUtf8 validRun runOf
       charLength firstLength begins linesOf insertLines reach wanted forPlatform firstText uuidOf hyphenated readHex
-      hexDigit firstOf same noRoom strike lengths file sameKey h u nil
+      hexDigit firstOf same noRoom recordSizes strike lengths file sameKey h u nil
   forms = refl
 
   cleared : storeClear (9 ∷ []) (1 ∷ 2 ∷ []) ≡ record { answer = A.Done; index = 0 ∷ []; text = 0 ∷ 0 ∷ [] }

@@ -26,7 +26,11 @@ use Rattle.store.specs.declared.calls.Saved.{Saved}
 use Rattle.store.specs.Held.{lineMax}
 use Rattle.text.specs.Search.{lf, firstText, platformKey}
 use Rattle.store.specs.Book.{under, refused, files}
-use Rattle.store.specs.Store.{Done, storeAttempt}
+use Rattle.store.specs.declared.owners.Owner.{Owner}
+use Rattle.store.specs.declared.owners.Owner.the-variants as O
+use Rattle.store.specs.declared.parties.Party.{Party}
+use Rattle.store.specs.Parties.{ownerOf, byOwner}
+use Rattle.store.specs.Store.{Done, unchanged, storeAttempt}
 use Rattle.store.specs.Inner.{storeFile, saidBy}
 use Rattle.store.specs.Saves.{SaveArgs, unsavedName, refusedSave, acceptedSave, attemptAfter, attemptOf}
 use Rattle.store.specs.Saves.{storeSave}
@@ -46,8 +50,8 @@ module _ (name : List ℕ) (r : ℕ) (e : r ≡ firstOf lf name) where
       rw (le-ltb (firstOf lf name) (length name) (subst (λ (k : ℕ). length name ≤ k) e h))
       (ap (λ (k : ℕ). ltb k (length name)) f)
 
--- what a save attempts, by its checks
-module _ (a : SaveArgs) where
+-- what a party's save attempts, by its checks
+module _ (p : Party) (o : ℕ) (own : ownerOf p ≡ O.Byte o) (a : SaveArgs) where
   abbrev checks : MappingAnswer
   checks = checksOf (a .slots) (a .buttons) (a .axes) (a .name)
 
@@ -55,29 +59,32 @@ module _ (a : SaveArgs) where
   line = builtLine (a .slots) (a .buttons) (a .axes) (a .name) (a .uuid)
 
   attempted : (r : MappingAnswer) → checks ≡ r → (i t : List ℕ)
-      → storeSave i t a ≡ storeAttempt (refusedSave Sv.Unsound) (refusedSave Sv.NoRoom) i t (attemptAfter a r)
+      → storeSave i t p a ≡ storeAttempt (refusedSave Sv.Unsound) (refusedSave Sv.NoRoom) i t o (attemptAfter o a r)
   unfolding storeSave attemptOf
-  attempted r e i t = ap (λ (x : MappingAnswer). storeAttempt (refusedSave Sv.Unsound) (refusedSave Sv.NoRoom) i t
-      (attemptAfter a x)) e
+  attempted r e i t =
+      ap (λ (w : Owner). byOwner w (unchanged i t (refusedSave Sv.NoOwner))
+      (λ v. storeAttempt (refusedSave Sv.Unsound) (refusedSave Sv.NoRoom) i t v (attemptOf v a))) own
+      ∙ ap (λ (x : MappingAnswer). storeAttempt (refusedSave Sv.Unsound) (refusedSave Sv.NoRoom) i t o
+      (attemptAfter o a x)) e
 
   module _ (out : List ℕ) (r : Built) (after : List ℕ) (long : lineMax ≤ length out)
       (built : build.Builds (a .slots) (a .buttons) (a .axes) (a .name) (a .uuid) out r after) where
     pub save-refused : (e : MappingError) → r .answer ≡ Refused e → (i t : List ℕ)
-        → record { answer = refusedSave (Sv.Refused e); index = i; text = t } ≡ storeSave i t a
+        → record { answer = refusedSave (Sv.Refused e); index = i; text = t } ≡ storeSave i t p a
     save-refused e q i t = go checks refl
       where
         go : (x : MappingAnswer) → checks ≡ x
-            → record { answer = refusedSave (Sv.Refused e); index = i; text = t } ≡ storeSave i t a
-        go (Refused f) p =
-            let b = refused-build (a .slots) (a .buttons) (a .axes) (a .name) (a .uuid) out checks refl f p in
+            → record { answer = refusedSave (Sv.Refused e); index = i; text = t } ≡ storeSave i t p a
+        go (Refused f) ok =
+            let b = refused-build (a .slots) (a .buttons) (a .axes) (a .name) (a .uuid) out checks refl f ok in
             let w : Refused f ≡ Refused e = ap (λ (x : Built). x .answer) (b .0 ∙ sym (built .0)) ∙ q in
             let z : f ≡ e = cc in
             ap (λ (y : MappingError). record { answer = refusedSave (Sv.Refused y); index = i; text = t }) (sym z)
-            ∙ sym (attempted (Refused f) p i t)
-        go Accepted p =
-            let b = whole-build (a .slots) (a .buttons) (a .axes) (a .name) (a .uuid) out checks refl p (length line)
+            ∙ sym (attempted (Refused f) ok i t)
+        go Accepted ok =
+            let b = whole-build (a .slots) (a .buttons) (a .axes) (a .name) (a .uuid) out checks refl ok (length line)
             (line-length (a .slots) (a .buttons) (a .axes) (a .name) (a .uuid))
-            (omega (arith, built-fits (a .slots) (a .buttons) (a .axes) (a .name) (a .uuid) p)) in
+            (omega (arith, built-fits (a .slots) (a .buttons) (a .axes) (a .name) (a .uuid) ok)) in
             let w : Accepted ≡ Refused e = ap (λ (x : Built). x .answer) (b .0 ∙ sym (built .0)) ∙ q in
             let z : _≡_ {A = ℕ} 0 1 = cc in absurd (omega arith)
 
@@ -118,36 +125,37 @@ module _ (a : SaveArgs) where
 
     module _ (m : Made) (i t : List ℕ) where
       named : (b : Bool) → unsavedName (a .name) ≡ b
-          → storeSave i t a ≡ storeAttempt (refusedSave Sv.Unsound) (refusedSave Sv.NoRoom) i t
+          → storeSave i t p a ≡ storeAttempt (refusedSave Sv.Unsound) (refusedSave Sv.NoRoom) i t o
           (pick b (refused (refusedSave Sv.UnsavedName))
-          (files (under (a .uuid) line) (acceptedSave (builtMap (a .slots) (a .name)))))
+          (files (under o (a .uuid) line) (acceptedSave (builtMap (a .slots) (a .name)))))
       named b e =
           attempted Accepted (m .passed) i t
-          ∙ ap (λ (x : Bool). storeAttempt (refusedSave Sv.Unsound) (refusedSave Sv.NoRoom) i t
+          ∙ ap (λ (x : Bool). storeAttempt (refusedSave Sv.Unsound) (refusedSave Sv.NoRoom) i t o
           (pick x (refused (refusedSave Sv.UnsavedName))
-          (files (under (a .uuid) line) (acceptedSave (builtMap (a .slots) (a .name)))))) e
+          (files (under o (a .uuid) line) (acceptedSave (builtMap (a .slots) (a .name)))))) e
 
       pub save-unsaved : unsavedName (a .name) ≡ true
-          → record { answer = refusedSave Sv.UnsavedName; index = i; text = t } ≡ storeSave i t a
+          → record { answer = refusedSave Sv.UnsavedName; index = i; text = t } ≡ storeSave i t p a
       save-unsaved e = sym (named true e)
 
       said : (w : Mapping) (x : Answer)
-          → saidBy w x ≡ valueOf i t (under (a .uuid) line) (refusedSave Sv.Unsound) (refusedSave Sv.NoRoom)
+          → saidBy w x ≡ valueOf i t (under o (a .uuid) line) (refusedSave Sv.Unsound) (refusedSave Sv.NoRoom)
           (acceptedSave w) x
       said w A.Done = refl
-      said w (A.NotUtf8 p) = refl
+      said w (A.NotUtf8 place) = refl
       said w A.Unsound = refl
       said w A.LineTooLong = refl
       said w A.NoRoom = refl
       said w A.BufferTooLarge = refl
+      said w A.NoOwner = refl
 
       pub save-filed : unsavedName (a .name) ≡ false → (d : Done Answer)
-          → d ≡ storeFile i t (under (a .uuid) (take (r .len - 0) (drop 0 after)))
-          → record { answer = saidBy (r .map) (d .answer); index = d .index; text = d .text } ≡ storeSave i t a
+          → d ≡ storeFile i t (under o (a .uuid) (take (r .len - 0) (drop 0 after)))
+          → record { answer = saidBy (r .map) (d .answer); index = d .index; text = d .text } ≡ storeSave i t p a
       save-filed e d q =
           ap (λ (x : Saved). record { answer = x; index = d .index; text = d .text })
           (ap (λ (w : Mapping). saidBy w (d .answer)) (m .map) ∙ said (builtMap (a .slots) (a .name)) (d .answer))
-          ∙ attempt-files i t (under (a .uuid) line) (refusedSave Sv.Unsound) (refusedSave Sv.NoRoom)
+          ∙ attempt-files i t (under o (a .uuid) line) (refusedSave Sv.Unsound) (refusedSave Sv.NoRoom)
           (acceptedSave (builtMap (a .slots) (a .name))) d
-          (q ∙ ap (λ (l : List ℕ). storeFile i t (under (a .uuid) l)) (m .bytes))
+          (q ∙ ap (λ (l : List ℕ). storeFile i t (under o (a .uuid) l)) (m .bytes))
           ∙ sym (named false e)

@@ -9,7 +9,7 @@ use native.Mathlib.Omega.{arith}
 use lib.ListN.{length}
 use Rattle.text.specs.Bytes.{pick}
 use Rattle.store.specs.declared.calls.Answer.{Answer}
-use Rattle.store.specs.Book.{turn, noRoom, bookAttempt, files}
+use Rattle.store.specs.Book.{caller, turn, noRoom, bookAttempt, files}
 use Rattle.store.specs.Inner.{room, bookFile, known, storeFile}
 use Rattle.store.specs.Decode.{decode}
 use Rattle.store.specs.Held.{Held, file}
@@ -39,7 +39,7 @@ module _ (i t : List ℕ) (h : Held) where
     filed : (n m : ℕ) (hs : List Held) (b : Bool) → b ≡ room n m h hs
         → bookFile n m hs h ≡ turn (said b) (pick b (file h hs) hs)
     unfolding bookFile
-    filed n m hs b e = go (noRoom n m h hs) ∙ ap (λ (y : Bool). turn (said y) (pick y (file h hs) hs)) (sym e)
+    filed n m hs b e = go (noRoom (caller n m (h .key .owner)) h hs) ∙ ap (λ (y : Bool). turn (said y) (pick y (file h hs) hs)) (sym e)
       where
         go : (x : Bool) → pick x (turn A.NoRoom hs) (turn A.Done (file h hs))
             ≡ turn (said (not x)) (pick (not x) (file h hs) hs)
@@ -73,10 +73,11 @@ module _ (i t : List ℕ) (h : Held) where
     valueOf A.LineTooLong = unsound
     valueOf A.NoRoom = full
     valueOf A.BufferTooLarge = unsound
+    valueOf A.NoOwner = unsound
 
     pub attempt-files : (d : Done Answer) → d ≡ storeFile i t h
         → record { answer = valueOf (d .answer); index = d .index; text = d .text }
-        ≡ storeAttempt unsound full i t (files h v)
+        ≡ storeAttempt unsound full i t (h .key .owner) (files h v)
     unfolding storeFile bookFile
     attempt-files d e = ap said-by e ∙ go (decode i t)
       where
@@ -91,7 +92,8 @@ module _ (i t : List ℕ) (h : Held) where
 
         go : (o : Option (List Held))
             → said-by (onLines i t o A.Unsound
-            (λ hs. pick (noRoom (length i) (length t) h hs) (turn A.NoRoom hs) (turn A.Done (file h hs))))
-            ≡ onLines i t o unsound (λ hs. bookAttempt full (length i) (length t) hs (files h v))
+            (λ hs. pick (noRoom (caller (length i) (length t) (h .key .owner)) h hs)
+            (turn A.NoRoom hs) (turn A.Done (file h hs))))
+            ≡ onLines i t o unsound (λ hs. bookAttempt full (caller (length i) (length t) (h .key .owner)) hs (files h v))
         go none = refl
-        go (some hs) = room? (noRoom (length i) (length t) h hs) hs
+        go (some hs) = room? (noRoom (caller (length i) (length t) (h .key .owner)) h hs) hs

@@ -7,15 +7,19 @@ use Prim.Native.Nat.{ℕ, _≤_}
 use native.Mathlib.Nat.{sub-zero}
 use lib.ListN.{length}
 use borrow.Author.Tests.{le-leb}
-use Rattle.store.specs.Book.{Turn, bookClear, bookWalk, insertedOf, bookInsert, bookAttempt, Attempt, refused, files, Saving, Call}
-use Rattle.store.specs.Book.{clear, insert, save, Reply, inserted, saved, Run, bookTurn, runBook}
+use Rattle.store.specs.declared.owners.Owner.{Owner}
+use Rattle.store.specs.declared.owners.Owner.the-variants as O
+use Rattle.store.specs.Parties.{ownerOf, byOwner}
+use Rattle.store.specs.Book.{Caller, caller, Turn, turn, bookClear, bookWalk, insertedOf, bookInsert}
+use Rattle.store.specs.Book.{nobodyInserts, bookAttempt, Attempt, refused, files, Saving, Call, clear, insert}
+use Rattle.store.specs.Book.{save, Reply, inserted, saved, Run, replied, bookTurn, runBook}
 use Rattle.store.specs.Decode.{decode}
 use Rattle.store.specs.Guarantee.{fresh}
 use Rattle.store.specs.Inner.{Good, Builds}
 use Rattle.store.specs.Held.{Key, Held, find, indexMax, textMax}
 use Rattle.store.specs.Layout.{records, texts, padded, encodeIndex, encodeText}
-use Rattle.store.specs.Store.{Done, onLines, storeClear, storeWalk, storeInsert, storeAttempt, answered, storeCall, Runs}
-use Rattle.store.specs.Store.{andRuns, runStore, lookUp, lookedAt, lookedIn}
+use Rattle.store.specs.Store.{Done, unchanged, onLines, storeClear, storeWalk, ownInsert, storeInsert}
+use Rattle.store.specs.Store.{storeAttempt, answered, storeCall, Runs, andRuns, runStore, lookBy, lookedAt, lookedIn}
 use Rattle.store.proofs.BookLaws.{keeps-none, keeps-turn, keeps-run}
 use Rattle.store.proofs.BoolLaws.{and-both}
 use Rattle.store.proofs.DecodeLaws.{length-index, length-text, decode-encoded}
@@ -57,27 +61,48 @@ module _ (n m : ℕ) where
             ← fresh-text,
           )
 
-      walks : (s : List ℕ) → storeWalk (encodeIndex n hs) (encodeText m hs) s ≡ done (bookWalk n m hs s)
+      walks : (o : ℕ) (s : List ℕ)
+          → storeWalk (encodeIndex n hs) (encodeText m hs) o s ≡ done (bookWalk (caller n m o) hs s)
       unfolding storeWalk
-      walks s = on-lines (record { answer = A.Unsound; count = 0 }) (λ a b ks. bookWalk a b ks s)
+      walks o s = on-lines (record { answer = A.Unsound; count = 0 }) (λ a b ks. bookWalk (caller a b o) ks s)
 
-      inserts : (s : List ℕ) → storeInsert (encodeIndex n hs) (encodeText m hs) s ≡ done (bookInsert n m hs s)
-      unfolding storeInsert bookInsert
-      inserts s =
+      inserts : (o : ℕ) (s : List ℕ)
+          → ownInsert (encodeIndex n hs) (encodeText m hs) o s ≡ done (bookInsert (caller n m o) hs s)
+      unfolding ownInsert bookInsert
+      inserts o s =
           ap (λ (d : Done Tally). record { answer = insertedOf s (d .answer); index = d .index; text = d .text })
-          (walks s)
+          (walks o s)
 
-      saves : {B : Type 0} (unsound full : B) (x : Attempt B)
-          → storeAttempt unsound full (encodeIndex n hs) (encodeText m hs) x ≡ done (bookAttempt full n m hs x)
-      saves unsound full (refused v) = refl
-      saves unsound full (files h v) = on-lines unsound (λ a b ks. bookAttempt full a b ks (files h v))
+      saves : {B : Type 0} (unsound full : B) (o : ℕ) (x : Attempt B)
+          → storeAttempt unsound full (encodeIndex n hs) (encodeText m hs) o x
+          ≡ done (bookAttempt full (caller n m o) hs x)
+      saves unsound full o (refused v) = refl
+      saves unsound full o (files h v) =
+          on-lines unsound (λ a b ks. bookAttempt full (caller a b o) ks (files h v))
 
       pub one-call : {S : Saving} (x : Call S)
           → storeCall (encodeIndex n hs) (encodeText m hs) x ≡ done (bookTurn n m hs x)
-      unfolding storeCall bookTurn
+      unfolding storeCall storeInsert bookTurn
       one-call clear = ap (answered Reply.cleared) clears
-      one-call (insert s) = ap (answered inserted) (inserts s)
-      one-call {S} (save a) = ap (answered saved) (saves (S .unsound) (S .full) (S .attempt a))
+      one-call {S} (insert p s) = go (ownerOf (p .party))
+        where
+          go : (w : Owner)
+              → answered {S = S} inserted (byOwner w
+              (unchanged (encodeIndex n hs) (encodeText m hs) nobodyInserts)
+              (λ o. ownInsert (encodeIndex n hs) (encodeText m hs) o s))
+              ≡ done (byOwner w (turn (inserted nobodyInserts) hs)
+              (λ o. replied inserted (bookInsert (caller n m o) hs s)))
+          go O.Nobody = refl
+          go (O.Byte o) = ap (answered inserted) (inserts o s)
+      one-call {S} (save p a) = go (ownerOf (p .party))
+        where
+          go : (w : Owner)
+              → answered {S = S} saved (byOwner w (unchanged (encodeIndex n hs) (encodeText m hs) (S .nobody))
+              (λ o. storeAttempt (S .unsound) (S .full) (encodeIndex n hs) (encodeText m hs) o (S .attempt o a)))
+              ≡ done (byOwner w (turn (saved (S .nobody)) hs)
+              (λ o. replied saved (bookAttempt (S .full) (caller n m o) hs (S .attempt o a))))
+          go O.Nobody = refl
+          go (O.Byte o) = ap (answered saved) (saves (S .unsound) (S .full) o (S .attempt o a))
 
     module _ (S : Saving) (owed : Builds S) where
       from : (xs : List (Call S)) (hs : List Held) → Good n m hs
@@ -104,9 +129,9 @@ module _ (n m : ℕ) where
 
       -- a look-up afterwards finds the book's line, and none exactly when the book has none
       pub whole-look-up : (xs : List (Call S)) (k : Key)
-          → lookUp k (runStore (fresh n) (fresh m) xs .index) (runStore (fresh n) (fresh m) xs .text)
+          → lookBy k (runStore (fresh n) (fresh m) xs .index) (runStore (fresh n) (fresh m) xs .text)
           ≡ lookedIn (find k (runBook n m [] xs .held))
-      unfolding lookUp
+      unfolding lookBy
       whole-look-up xs k = ap (lookedAt k) (whole-held xs)
 
       -- the next call answers as the book's, and the lines that are held after it are the book's

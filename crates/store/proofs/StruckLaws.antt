@@ -46,7 +46,7 @@ strike-gone u h true e = refl
 strike-gone u h false e = ap (λ (c : Bool). pick c [] (h ∷ [])) e
 
 module _ {i t s a heads next : List ℕ} {old : ℕ} {f : Fill} {hs : List Held} (x : InRows i t s a heads next old f hs)
-    (u : Key) (start len : ℕ) (cl : f .count < rowsMax)
+    (u : Key) (start len : ℕ) (cl : f .count < rowsMax) (byte : u .owner < 256)
   where
     abbrev a′ : List ℕ
     a′ = rowPut a (f .count) u start len
@@ -64,7 +64,7 @@ module _ {i t s a heads next : List ℕ} {old : ℕ} {f : Fill} {hs : List Held}
     row-before k l = row-other a (f .count) u start len k (λ z. omega arith)
 
     pub row-new : rowIn (rowPut a (f .count) u start len) (f .count) ≡ record { key = u; start = start; len = len }
-    row-new = row-same a (f .count) u start len (x .tabled .long) cl
+    row-new = row-same a (f .count) u start len (x .tabled .long) cl byte
 
     pub key-before : (k : ℕ) → k < f .count → keyIn (rowPut a (f .count) u start len) k ≡ keyIn a k
     key-before k l = ap (λ (r : Row). r .key) (row-before k l)

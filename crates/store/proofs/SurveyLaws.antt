@@ -23,7 +23,7 @@ use Rattle.store.proofs.ChainLaws.{says-turn, says-agree}
 use Rattle.store.proofs.DecodeLaws.{laid, lines-of}
 use Rattle.store.proofs.LoadLaws.{Loading, load-first, load-less, load-end, load-turn}
 use Rattle.store.proofs.OnceLaws.{list-end}
-use Rattle.store.proofs.RecordLaws.{Fits, fits-of}
+use Rattle.store.proofs.RecordLaws.{Fits, fits-of, size-least}
 use Rattle.store.proofs.SoundLaws.{Walking, walking, walking-end, walking-bad, walking-turn, sound-walk}
 use Rattle.store.proofs.WriteLaws.{row-other}
 
@@ -59,10 +59,10 @@ module _ (i t : List ℕ) (at : ℕ) (a : List ℕ) (heads next : List ℕ) (n u
     loads = λ z. load-end i at a heads next n used (w .loading) noHead e refl y;
   }
 
-  module _ (head : Head) (e : head ≡ headAt (drop at i)) (s : head .size ≡ recordSize) (b : Bool)
+  module _ (head : Head) (e : head ≡ headAt (drop at i)) (s : head .size ≡ recordSize (head .key .owner)) (b : Bool)
       (fit : b ≡ headFits used head (length t - used)) where
     some-size : head .size ≡ 0 → ⊥
-    some-size z = omega (arith, s)
+    some-size z = omega (arith, s, size-least (head .key .owner) .0)
 
     pub survey-bad : b ≡ false
         → Surveys i t a heads next
@@ -80,16 +80,16 @@ module _ (i t : List ℕ) (at : ℕ) (a : List ℕ) (heads next : List ℕ) (n u
     survey-on q = walking-turn i t _ at used (w .walks) head e some-size b fit q
 
     pub survey-turn : b ≡ true → (c : List ℕ) → c ≡ rowPut a n (head .key) (head .off) (head .len)
-        → (heads′ next′ : List ℕ) → Chained (keyIn c) heads′ next′ (n + 1)
+        → head .key .owner < 256 → (heads′ next′ : List ℕ) → Chained (keyIn c) heads′ next′ (n + 1)
         → (r : ℕ) → Sought (keyIn c) n r → (u : Verdict) → u ≡ toldOf v n r
         → Surveying i t (at + head .size) c heads′ next′ (n + 1) (used + head .len) u
-    survey-turn q c ec heads′ next′ ch r so u eu =
+    survey-turn q c ec byte heads′ next′ ch r so u eu =
         let fits : Fits used head (length t - used) = fits-of used head (length t - used) (sym fit ∙ q) in
         record {
           walks = survey-on q;
           loading = subst (λ (x : ℕ). Loading i (at + head .size) c heads′ next′ (n + 1) (x + head .len))
               (fits .offset)
-              (load-turn i at a heads next n used (w .loading) head e some-size c ec heads′ next′ ch);
+              (load-turn i at a heads next n used (w .loading) head e some-size c ec byte heads′ next′ ch);
           says = subst (λ (x : Verdict). Says (keyIn c) (n + 1) x) (sym eu)
               (says-turn (keyIn c) n r v
               (says-agree (keyIn a) (keyIn c) n v same (w .says)) so);

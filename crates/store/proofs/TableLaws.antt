@@ -126,11 +126,11 @@ module _ (t s a : List ℕ) (old n : ℕ) (u : Key) (start len : ℕ) where
   pub gives-other : (k : ℕ) → (k ≡ n → ⊥) → lineAt t s (rowPut a n u start len) old k ≡ lineAt t s a old k
   gives-other k e = gives-same t s a (rowPut a n u start len) old k (row-other a n u start len k e)
 
-  pub gives-new : Long a → n < rowsMax → 1 ≤ len
+  pub gives-new : Long a → n < rowsMax → u .owner < 256 → 1 ≤ len
       → lineAt t s (rowPut a n u start len) old n
       ≡ record { key = u; line = take len (drop start (sourceOf t s old n)) } ∷ []
   unfolding lineAt
-  gives-new l m p =
-      ap (λ (r : Row). givenBy (sourceOf t s old n) r) (row-same a n u start len l m)
-      ∙ ap (λ (b : Bool). pick b [] (record { key = u; line = take len (drop start (sourceOf t s old n)) } ∷ []))
+  gives-new l m b p =
+      ap (λ (r : Row). givenBy (sourceOf t s old n) r) (row-same a n u start len l m b)
+      ∙ ap (λ (x : Bool). pick x [] (record { key = u; line = take len (drop start (sourceOf t s old n)) } ∷ []))
       (ne-eqb len 0 (λ z. omega arith))

@@ -4,8 +4,8 @@ use mathlib.Core.Bool.{Bool, true, false, _&&_}
 use mathlib.Core.Option.{none}
 use mathlib.Core.List.{List, [], _∷_, _++_}
 use Prim.Native.Nat.{ℕ, suc}
-use lib.Dec.{leb, eqb}
-use lib.ListN.{length, getD, drop, replicate}
+use lib.Dec.{leb}
+use lib.ListN.{length, replicate}
 use Rattle.text.specs.Bytes.{pick, byte, ascii, same, firstOf}
 use Rattle.text.specs.Decimal.{readDigits, unsigned, indexNumber}
 use Rattle.text.specs.Utf8.{begins, firstLength, charLength, runOf, validRun, isUtf8}
@@ -35,10 +35,11 @@ use Rattle.map.specs.Build.{filledFrom, missingOf, axisChecks, slotChecks, chec
 use Rattle.map.specs.Build.{builtLine, builtMap}
 use Rattle.text.specs.Search.{firstText}
 use Rattle.store.specs.declared.calls.Look.the-variants as L
-use Rattle.store.specs.Held.{Key, strike, distinct, indexMax, textMax, recordSize}
-use Rattle.store.specs.Decode.{bodyAt, noHead, headWith, headAt, zeroes, walk, guarded, decode}
-use Rattle.store.specs.Book.{lengths, noRoom}
-use Rattle.store.specs.Store.{Looked, unsound, lookUp, saysOf, lineOf}
+use Rattle.store.specs.declared.parties.Party.the-variants as P
+use Rattle.store.specs.Held.{strike, distinct, indexMax, textMax}
+use Rattle.store.specs.Decode.{noHead, ownerAt, headAt, zeroes, walk, guarded, decode}
+use Rattle.store.specs.Book.{recordSizes, lengths, noRoom}
+use Rattle.store.specs.Store.{Looked, unsound, lookBy, lookUp, saysOf, lineOf}
 use Rattle.store.specs.Refusals.{saveNumber}
 use Rattle.store.specs.Saves.{SaveArgs, saveArgs, attemptOf, storeSave}
 
@@ -96,33 +97,29 @@ emptySave : SaveArgs
 emptySave = saveArgs noSlots [] [] (ascii "T") nil
 
 -- an index of 20 bytes; a text of 34; both as large as they have to be
-index-short : saveNumber (storeSave (replicate 20 0) (replicate 35 0) emptySave .answer .answer) ≡ 21
+index-short : saveNumber (storeSave (replicate 20 0) (replicate 35 0) P.Hall emptySave .answer .answer) ≡ 21
 unfolding storeSave attemptOf checksOf slotChecks axisChecks missingOf filledFrom buttonOf axisOf builtLine builtMap
-    ended pairTexts hexText firstText firstOf begins firstLength charLength runOf validRun isUtf8 decode walk headAt
-    zeroes distinct noRoom strike lengths emptySave nil same
+    ended pairTexts hexText firstText firstOf begins firstLength charLength runOf validRun isUtf8 decode walk headAt ownerAt
+    zeroes distinct noRoom recordSizes strike lengths emptySave nil same
 index-short = refl
 
-text-short : saveNumber (storeSave (replicate 21 0) (replicate 34 0) emptySave .answer .answer) ≡ 21
+text-short : saveNumber (storeSave (replicate 21 0) (replicate 34 0) P.Hall emptySave .answer .answer) ≡ 21
 unfolding storeSave attemptOf checksOf slotChecks axisChecks missingOf filledFrom buttonOf axisOf builtLine builtMap
-    ended pairTexts hexText firstText firstOf begins firstLength charLength runOf validRun isUtf8 decode walk headAt
-    zeroes distinct noRoom strike lengths emptySave nil same
+    ended pairTexts hexText firstText firstOf begins firstLength charLength runOf validRun isUtf8 decode walk headAt ownerAt
+    zeroes distinct noRoom recordSizes strike lengths emptySave nil same
 text-short = refl
 
-just-fits : saveNumber (storeSave (replicate 21 0) (replicate 35 0) emptySave .answer .answer) ≡ 0
+just-fits : saveNumber (storeSave (replicate 21 0) (replicate 35 0) P.Hall emptySave .answer .answer) ≡ 0
 unfolding storeSave attemptOf checksOf slotChecks axisChecks missingOf filledFrom buttonOf axisOf builtLine builtMap
-    ended pairTexts hexText firstText firstOf begins firstLength charLength runOf validRun isUtf8 decode walk headAt
-    zeroes distinct noRoom strike lengths emptySave nil same
+    ended pairTexts hexText firstText firstOf begins firstLength charLength runOf validRun isUtf8 decode walk headAt ownerAt
+    zeroes distinct noRoom recordSizes strike lengths emptySave nil same
 just-fits = refl
 
 -- ---- 4. a look-up in a store whose index starts with byte 9, whatever follows
 
 head-nine : (i : List ℕ) → headAt (9 ∷ i) ≡ noHead
-unfolding headAt
-head-nine i = by (leb recordSize (length (9 ∷ i)))
-  where
-    by : (b : Bool) → pick (b && eqb (getD (9 ∷ i) 0 0) 1) (headWith (bodyAt (drop 1 (9 ∷ i)))) noHead ≡ noHead
-    by true = refl
-    by false = refl
+unfolding headAt ownerAt
+head-nine i = refl
 
 walk-nine : (f off : ℕ) (i t : List ℕ) → walk (suc f) off (9 ∷ i) t ≡ none
 unfolding walk zeroes
@@ -137,12 +134,12 @@ decode-nine i t =
     by true = refl
     by false = refl
 
-byte-nine : (k : Key) (i t : List ℕ) → lookUp k (9 ∷ i) t ≡ unsound
-unfolding lookUp
+byte-nine : (k : Uuid) (i t : List ℕ) → lookUp P.Hall k (9 ∷ i) t ≡ unsound
+unfolding lookUp lookBy
 byte-nine k i t = rw (decode-nine i t) refl
 
-nine-says : (k : Key) (i t : List ℕ) → saysOf (lookUp k (9 ∷ i) t) ≡ L.Unsound
+nine-says : (k : Uuid) (i t : List ℕ) → saysOf (lookUp P.Hall k (9 ∷ i) t) ≡ L.Unsound
 nine-says k i t = ap (λ (x : Looked). saysOf x) (byte-nine k i t)
 
-nine-line : (k : Key) (i t : List ℕ) → lineOf (lookUp k (9 ∷ i) t) ≡ []
+nine-line : (k : Uuid) (i t : List ℕ) → lineOf (lookUp P.Hall k (9 ∷ i) t) ≡ []
 nine-line k i t = ap (λ (x : Looked). lineOf x) (byte-nine k i t)

@@ -1,9 +1,9 @@
 -- Document 01's book: "fed the lengths of index and text and each call's arguments, never an answer or a byte of the
--- store".
+-- store". Document 02, P9: it "is told each call's party, checks 24 first, and keeps its lines by party and UUID".
 -- Public contracts rest on these definitions; they assume nothing.
 use mathlib.Core.Bool.{Bool, _||_}
 use mathlib.Core.List.{List, [], _∷_}
-use Prim.Native.Nat.{ℕ, suc, _+_, _*_}
+use Prim.Native.Nat.{ℕ, suc, _+_}
 use lib.Dec.{ltb}
 use lib.ListN.{length, take}
 use Rattle.text.specs.Bytes.{pick}
@@ -17,23 +17,38 @@ use Rattle.store.specs.declared.calls.Answer.{Answer}
 use Rattle.store.specs.declared.calls.Answer.the-variants as A
 use Rattle.store.specs.declared.calls.Inserted.{Inserted}
 use Rattle.store.specs.declared.calls.Tally.{Tally}
-use Rattle.store.specs.Held.{Held, strike, file, recordSize, lineMax}
+use Rattle.store.specs.Held.{Held, keyBy, strike, file, recordSize, lineMax}
+use Rattle.store.specs.Parties.{ownerOf, byOwner, Named}
 use Rattle.store.specs.Lines.{linesOf, wanted}
 use Rattle.store.specs.Refusals.{number}
 
+-- who calls, in buffers of which lengths
+pub record Caller : Type 0 where
+  pub index : ℕ
+  pub text : ℕ
+  pub owner : ℕ
+
+abbrev pub caller : ℕ → ℕ → ℕ → Caller
+caller n m o = record { index = n; text = m; owner = o }
+
 -- ---- no room
+
+-- P9: "a record being 21 bytes for the hall and 22 for an organiser": the records of the lines, added up
+unfoldable pub recordSizes : List Held → ℕ
+recordSizes [] = 0
+recordSizes (h ∷ hs) = recordSize (h .key .owner) + recordSizes hs
 
 -- the lengths of the lines, added up
 unfoldable pub lengths : List Held → ℕ
 lengths [] = 0
 lengths (h ∷ hs) = length (h .line) + lengths hs
 
--- "H being the lines held under other UUIDs, 21 × (number of H + 1) exceeds the index or the lengths of H plus the
--- line exceed the text"
-unfoldable pub noRoom : ℕ → ℕ → Held → List Held → Bool
-noRoom n m h hs =
-    ltb n (recordSize * (length (strike (h .key) hs) + 1))
-    || ltb m (lengths (strike (h .key) hs) + length (h .line))
+-- P9: "'No room' uses document 01's sum over every line held but the caller's own of that UUID": that of their records
+-- and the line's "exceeds the index or the lengths of H plus the line exceed the text"
+unfoldable pub noRoom : Caller → Held → List Held → Bool
+noRoom c h hs =
+    ltb (c .index) (recordSizes (strike (h .key) hs) + recordSize (h .key .owner))
+    || ltb (c .text) (lengths (strike (h .key) hs) + length (h .line))
 
 -- ---- one call's turn: its answer, and the lines held after it
 
@@ -53,21 +68,21 @@ pub data Reached : Type 0 where
   after : List Held → Reached
   stopped : Answer → Reached
 
-abbrev pub under : Uuid → List ℕ → Held
-under u l = record { key = u; line = l }
+abbrev pub under : ℕ → Uuid → List ℕ → Held
+under o u l = record { key = keyBy o u; line = l }
 
 -- "a wanted one over the limit (20), else without room (21, H being the book's), stops the call with that number; any
 -- other is filed"
-abbrev pub reachWanted : ℕ → ℕ → List Held → List ℕ → UuidParse → Reached
-reachWanted n m hs l Invalid = after hs
-reachWanted n m hs l (Parsed g) =
+abbrev pub reachWanted : Caller → List Held → List ℕ → UuidParse → Reached
+reachWanted c hs l Invalid = after hs
+reachWanted c hs l (Parsed g) =
     pick (ltb lineMax (length l)) (stopped A.LineTooLong)
-    (pick (noRoom n m (under (g .id) l) hs) (stopped A.NoRoom)
-    (after (file (under (g .id) l) hs)))
+    (pick (noRoom c (under (c .owner) (g .id) l) hs) (stopped A.NoRoom)
+    (after (file (under (c .owner) (g .id) l) hs)))
 
 -- a line that an insert reaches
-unfoldable pub reach : ℕ → ℕ → List Held → List ℕ → Reached
-reach n m hs l = reachWanted n m hs l (wanted l)
+unfoldable pub reach : Caller → List Held → List ℕ → Reached
+reach c hs l = reachWanted c hs l (wanted l)
 
 abbrev pub insertTurn : List Held → Answer → ℕ → Turn Tally
 insertTurn hs a count = turn (record { answer = a; count = count }) hs
@@ -77,16 +92,16 @@ onReached (after hs) stop on = on hs
 onReached (stopped a) stop on = stop a
 
 -- "reaches the lines of the text it is given in order: an unwanted one is counted; [..] any other is filed and counted"
-unfoldable pub insertLines : ℕ → ℕ → List Held → ℕ → List (List ℕ) → Turn Tally
-insertLines n m hs count [] = insertTurn hs A.Done count
-insertLines n m hs count (l ∷ ls) =
-    onReached (reach n m hs l) (λ a. insertTurn hs a count) (λ hs′. insertLines n m hs′ (suc count) ls)
+unfoldable pub insertLines : Caller → List Held → ℕ → List (List ℕ) → Turn Tally
+insertLines c hs count [] = insertTurn hs A.Done count
+insertLines c hs count (l ∷ ls) =
+    onReached (reach c hs l) (λ a. insertTurn hs a count) (λ hs′. insertLines c hs′ (suc count) ls)
 
 -- "Insert answers 10 and counts 0 where 10 applies, and else reaches the lines of the text";
 -- the place of 10 is the length of the valid run
-unfoldable pub bookWalk : ℕ → ℕ → List Held → List ℕ → Turn Tally
-bookWalk n m hs s =
-    pick (isUtf8 s) (insertLines n m hs 0 (linesOf s)) (insertTurn hs (A.NotUtf8 (validRun s)) 0)
+unfoldable pub bookWalk : Caller → List Held → List ℕ → Turn Tally
+bookWalk c hs s =
+    pick (isUtf8 s) (insertLines c hs 0 (linesOf s)) (insertTurn hs (A.NotUtf8 (validRun s)) 0)
 
 -- request P11: "Insert's result gains the number of lines it filed whose form isn't 32 digits.": a line that is walked
 -- was filed where it is wanted
@@ -113,13 +128,17 @@ insertedOf s r = record {
   «not_simple» = otherSpellings (take (r .count) (linesOf s));
 }
 
-unfoldable pub bookInsert : ℕ → ℕ → List Held → List ℕ → Turn Inserted
-bookInsert n m hs s = turn (insertedOf s (bookWalk n m hs s .answer)) (bookWalk n m hs s .held)
+unfoldable pub bookInsert : Caller → List Held → List ℕ → Turn Inserted
+bookInsert c hs s = turn (insertedOf s (bookWalk c hs s .answer)) (bookWalk c hs s .held)
+
+-- "24, an organiser's call with owner 0, before every other check; an insert then counts 0 lines"
+abbrev pub nobodyInserts : Inserted
+nobodyInserts = record { answer = A.NoOwner; count = 0; «not_simple» = 0 }
 
 -- ---- saves
 
--- what a save's own checks come to, "19 left out" and before 21: the answer of the first that applies;
--- or else build's line under its UUID, and the answer once that line is filed
+-- what a save's own checks come to, "19 left out", after 24 and before 21: the answer of the first that applies;
+-- or else build's line under its party and UUID, and the answer once that line is filed
 pub data Attempt (B : Type 0) : Type 0 where
   refused : B → Attempt B
   files : Held → B → Attempt B
@@ -129,9 +148,10 @@ pub record Saving : Type 1 where
   -- a save's arguments, and its answer with the map
   pub Args : Type 0
   pub Value : Type 0
-  -- what its own checks come to
-  pub attempt : Args → Attempt Value
-  -- the answers of 19 and 21, "with the empty map"
+  -- what its own checks come to, for its owner
+  pub attempt : ℕ → Args → Attempt Value
+  -- the answers of 24, 19 and 21, "with the empty map"
+  pub nobody : Value
   pub unsound : Value
   pub full : Value
   -- document 01's number of an answer, 0 where nothing is refused
@@ -141,16 +161,17 @@ pub record Saving : Type 1 where
 
 -- "Save makes its checks in order [..]; the first that applies (21 as before) is its number, with the empty map and
 -- nothing filed. Else build's line is filed and build's map returned."
-abbrev pub bookAttempt : {B : Type 0} → B → ℕ → ℕ → List Held → Attempt B → Turn B
-bookAttempt full n m hs (refused v) = turn v hs
-bookAttempt full n m hs (files h v) = pick (noRoom n m h hs) (turn full hs) (turn v (file h hs))
+abbrev pub bookAttempt : {B : Type 0} → B → Caller → List Held → Attempt B → Turn B
+bookAttempt full c hs (refused v) = turn v hs
+bookAttempt full c hs (files h v) = pick (noRoom c h hs) (turn full hs) (turn v (file h hs))
 
 -- ---- lists of calls
 
+-- P9: "Insert, save and look-up name their party; clear is the hall's and empties everything."
 pub data Call (S : Saving) : Type 0 where
   clear : Call S
-  insert : List ℕ → Call S
-  save : S .Args → Call S
+  insert : Named → List ℕ → Call S
+  save : Named → S .Args → Call S
 
 pub data Reply (S : Saving) : Type 0 where
   cleared : Answer → Reply S
@@ -166,10 +187,15 @@ numberOf {S} (saved v) = S .number v
 abbrev pub replied : {S : Saving} {A : Type 0} → (A → Reply S) → Turn A → Turn (Reply S)
 replied f r = turn (f (r .answer)) (r .held)
 
+-- "the book is told each call's party, checks 24 first"
 unfoldable pub bookTurn : {S : Saving} → ℕ → ℕ → List Held → Call S → Turn (Reply S)
 bookTurn n m hs clear = replied cleared bookClear
-bookTurn n m hs (insert s) = replied inserted (bookInsert n m hs s)
-bookTurn {S} n m hs (save a) = replied saved (bookAttempt (S .full) n m hs (S .attempt a))
+bookTurn n m hs (insert p s) =
+    byOwner (ownerOf (p .party)) (turn (inserted nobodyInserts) hs)
+    (λ o. replied inserted (bookInsert (caller n m o) hs s))
+bookTurn {S} n m hs (save p a) =
+    byOwner (ownerOf (p .party)) (turn (saved (S .nobody)) hs)
+    (λ o. replied saved (bookAttempt (S .full) (caller n m o) hs (S .attempt o a)))
 
 -- the answers to a list of calls, and the lines held at its end
 pub record Run (S : Saving) : Type 0 where
@@ -179,7 +205,7 @@ pub record Run (S : Saving) : Type 0 where
 abbrev pub andRun : {S : Saving} → Reply S → Run S → Run S
 andRun a r = record { answers = a ∷ r .answers; held = r .held }
 
--- "It holds a list of lines, each under its UUID, at first empty.": the calls from a list of lines on
+-- "It holds a list of lines, each under its" party and "UUID, at first empty.": the calls from a list of lines on
 unfoldable pub runBook : {S : Saving} → ℕ → ℕ → List Held → List (Call S) → Run S
 runBook n m hs [] = record { answers = []; held = hs }
 runBook n m hs (x ∷ xs) = andRun (bookTurn n m hs x .answer) (runBook n m (bookTurn n m hs x .held) xs)

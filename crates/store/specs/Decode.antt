@@ -10,7 +10,8 @@ use lib.ListN.{length, getD, take, drop}
 use Rattle.text.specs.Bytes.{pick}
 use Rattle.store.specs.declared.records.Head.{Head}
 use Rattle.store.specs.declared.records.Body.{Body}
-use Rattle.store.specs.Held.{Held, distinct, indexMax, textMax, recordSize, lineMax}
+use Rattle.store.specs.Held.{Held, keyBy, distinct, indexMax, textMax, recordSize, lineMax}
+use Rattle.store.specs.Layout.{kindBytes}
 
 -- the numbers in the two, four and eight bytes at k, high byte first
 abbrev pub word : List ℕ → ℕ → ℕ
@@ -26,15 +27,27 @@ word8 s k = 4294967296 * word4 s k + word4 s (k + 4)
 unfoldable pub bodyAt : List ℕ → Body
 bodyAt s = record { uuid = record { high = word8 s 0; low = word8 s 8 }; off = word s 16; len = word s 18 }
 
--- what the record at an index's front says; size 0 where no whole record of kind 1 stands there
-abbrev pub noHead : Head
-noHead = record { size = 0; key = record { high = 0; low = 0 }; off = 0; len = 0 }
+-- whose the record at an index's front is, P9: "kind 3 has an owner byte from 1 to 255, [..] kind 1 is the hall's";
+-- none where neither kind stands there
+unfoldable pub ownerAt : List ℕ → Option ℕ
+ownerAt i =
+    pick (eqb (getD i 0 0) 1) (some 0)
+    (pick (eqb (getD i 0 0) 3 && leb 1 (getD i 1 0)) (some (getD i 1 0)) none)
 
-abbrev pub headWith : Body → Head
-headWith b = record { size = recordSize; key = b .uuid; off = b .off; len = b .len }
+-- what the record at an index's front says; size 0 where no whole record stands there
+abbrev pub noHead : Head
+noHead = record { size = 0; key = keyBy 0 (record { high = 0; low = 0 }); off = 0; len = 0 }
+
+abbrev pub headWith : ℕ → Body → Head
+headWith o b = record { size = recordSize o; key = keyBy o (b .uuid); off = b .off; len = b .len }
+
+abbrev pub headBy : List ℕ → Option ℕ → Head
+headBy i none = noHead
+headBy i (some o) =
+    pick (leb (recordSize o) (length i)) (headWith o (bodyAt (drop (length (kindBytes o)) i))) noHead
 
 unfoldable pub headAt : List ℕ → Head
-headAt i = pick (leb recordSize (length i) && eqb (getD i 0 0) 1) (headWith (bodyAt (drop 1 i))) noHead
+headAt i = headBy i (ownerAt i)
 
 -- a record is of a line at that offset, whose length is allowed and which fits in n bytes of text
 unfoldable pub headFits : ℕ → Head → ℕ → Bool
@@ -64,7 +77,7 @@ walk (suc f) off i t =
     (consTo (headFits off (headAt i) (length t)) (heldOf i t)
     (walk f (off + headAt i .len) (drop (headAt i .size) i) (drop (headAt i .len) t)))
 
--- "no UUID twice"
+-- "No party has a UUID twice."
 abbrev pub guarded : Option (List Held) → Option (List Held)
 guarded none = none
 guarded (some hs) = pick (distinct hs) (some hs) none

@@ -1,4 +1,5 @@
--- What a list of calls has filed in the book since the last clear, by which call, and the line last filed under a UUID.
+-- What a list of calls has filed in the book since the last clear, by which call, and the line last filed under a key:
+-- by a party, under a UUID.
 -- "In demand 3, filed means filed in the book."
 -- The guarantee rests on these definitions; they assume nothing.
 use mathlib.Core.Option.{Option, none, some}
@@ -10,8 +11,9 @@ use Rattle.text.specs.declared.uuid.UuidParse.{UuidParse}
 use Rattle.text.specs.declared.uuid.UuidParse.the-variants.{Parsed, Invalid}
 use Rattle.store.specs.Held.{Key, Held, sameKey}
 use Rattle.store.specs.Lines.{linesOf, wanted}
-use Rattle.store.specs.Book.{noRoom, under, reach, onReached, Attempt, refused, files, Saving, Call, clear}
-use Rattle.store.specs.Book.{insert, save, Reply, bookTurn}
+use Rattle.store.specs.Parties.{ownerOf, byOwner}
+use Rattle.store.specs.Book.{Caller, caller, noRoom, under, reach, onReached, Attempt, refused, files, Saving}
+use Rattle.store.specs.Book.{Call, clear, insert, save, Reply, bookTurn}
 
 -- a line that was filed, the call that filed it, with its place in the list, counted from 0, and what it answered
 pub record Filing (S : Saving) : Type 0 where
@@ -24,25 +26,32 @@ abbrev pub filing : {S : Saving} → ℕ → Call S → Reply S → Held → Fil
 filing p x a h = record { held = h; at = p; by = x; answer = a }
 
 -- an insert files the wanted lines that it reaches, up to the one that stops it
-abbrev pub filedLine : {S : Saving} → ℕ → Call S → Reply S → List ℕ → UuidParse → List (Filing S)
-filedLine p x a l (Parsed g) = filing p x a (under (g .id) l) ∷ []
-filedLine p x a l Invalid = []
+abbrev pub filedLine : {S : Saving} → ℕ → Call S → Reply S → ℕ → List ℕ → UuidParse → List (Filing S)
+filedLine p x a o l (Parsed g) = filing p x a (under o (g .id) l) ∷ []
+filedLine p x a o l Invalid = []
 
-unfoldable pub filedLines : {S : Saving} → ℕ → Call S → Reply S → ℕ → ℕ → List Held → List (List ℕ) → List (Filing S)
-filedLines p x a n m hs [] = []
-filedLines p x a n m hs (l ∷ ls) =
-    onReached (reach n m hs l) (λ e. []) (λ hs′. filedLine p x a l (wanted l) ++ filedLines p x a n m hs′ ls)
+unfoldable pub filedLines : {S : Saving} → ℕ → Call S → Reply S → Caller → List Held → List (List ℕ)
+    → List (Filing S)
+filedLines p x a c hs [] = []
+filedLines p x a c hs (l ∷ ls) =
+    onReached (reach c hs l) (λ e. [])
+    (λ hs′. filedLine p x a (c .owner) l (wanted l) ++ filedLines p x a c hs′ ls)
 
 -- a save files build's line, unless it is refused
-abbrev pub filedAttempt : {S : Saving} {B : Type 0} → ℕ → Call S → Reply S → ℕ → ℕ → List Held → Attempt B
+abbrev pub filedAttempt : {S : Saving} {B : Type 0} → ℕ → Call S → Reply S → Caller → List Held → Attempt B
     → List (Filing S)
-filedAttempt p x a n m hs (refused v) = []
-filedAttempt p x a n m hs (files h v) = pick (noRoom n m h hs) [] (filing p x a h ∷ [])
+filedAttempt p x a c hs (refused v) = []
+filedAttempt p x a c hs (files h v) = pick (noRoom c h hs) [] (filing p x a h ∷ [])
 
+-- an insert or a save files for its owner, and nothing on 24
 abbrev pub filedAs : {S : Saving} → ℕ → Reply S → ℕ → ℕ → List Held → Call S → List (Filing S)
 filedAs p a n m hs clear = []
-filedAs p a n m hs (insert s) = pick (isUtf8 s) (filedLines p (insert s) a n m hs (linesOf s)) []
-filedAs {S} p a n m hs (save x) = filedAttempt p (save x) a n m hs (S .attempt x)
+filedAs p a n m hs (insert q s) =
+    byOwner (ownerOf (q .party)) []
+    (λ o. pick (isUtf8 s) (filedLines p (insert q s) a (caller n m o) hs (linesOf s)) [])
+filedAs {S} p a n m hs (save q x) =
+    byOwner (ownerOf (q .party)) []
+    (λ o. filedAttempt p (save q x) a (caller n m o) hs (S .attempt o x))
 
 -- what one call, at that place of the list, files in a book that holds hs
 abbrev pub filedBy : {S : Saving} → ℕ → ℕ → ℕ → List Held → Call S → List (Filing S)
@@ -51,8 +60,8 @@ filedBy p n m hs x = filedAs p (bookTurn n m hs x .answer) n m hs x
 -- what is filed since the last clear: a clear forgets, any other call adds what it files
 abbrev pub since : {S : Saving} → Call S → List (Filing S) → List (Filing S) → List (Filing S)
 since clear fs gs = []
-since (insert s) fs gs = fs ++ gs
-since (save a) fs gs = fs ++ gs
+since (insert q s) fs gs = fs ++ gs
+since (save q a) fs gs = fs ++ gs
 
 -- the calls from place p of the list on, in a book that holds hs, fs being filed before
 unfoldable pub filings : {S : Saving} → ℕ → ℕ → ℕ → List Held → List (Filing S) → List (Call S) → List (Filing S)
@@ -60,7 +69,7 @@ filings p n m hs fs [] = fs
 filings p n m hs fs (x ∷ xs) =
     filings (suc p) n m (bookTurn n m hs x .held) (since x fs (filedBy p n m hs x)) xs
 
--- the last of the filings under a UUID, if there is one
+-- the last of the filings under a key, if there is one
 abbrev pub laterOr : {A : Type 0} → Option A → Option A → Option A
 laterOr (some a) o = some a
 laterOr none o = o

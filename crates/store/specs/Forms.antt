@@ -12,9 +12,12 @@ use Rattle.text.specs.declared.uuid.Spelled.{Spelled}
 use Rattle.text.specs.declared.uuid.UuidParse.the-variants.{Parsed}
 use Rattle.line.specs.Fields.{firstField}
 use Rattle.store.specs.declared.calls.Answer.the-variants as A
+use Rattle.store.specs.declared.owners.Owner.the-variants as O
+use Rattle.store.specs.Parties.{ownerOf, Named}
 use Rattle.store.specs.Held.{Held, lineMax}
 use Rattle.store.specs.Lines.{linesOf, wanted}
-use Rattle.store.specs.Book.{noRoom, under, insertTurn, insertLines, otherSpelling, bookInsert, Saving, insert}
+use Rattle.store.specs.Book.{caller, noRoom, under, insertTurn, insertLines, otherSpelling, bookInsert, Saving}
+use Rattle.store.specs.Book.{insert}
 use Rattle.store.specs.Store.{lookUp, found}
 use Rattle.store.specs.Filings.{Filing, filedBy}
 use Rattle.store.specs.Saves.{saving}
@@ -28,15 +31,17 @@ otherFilings (f ∷ fs) = otherSpelling (uuidOf (firstField (f .held .line))) + 
 -- the theorem `counts-filings`: the number that an insert tells is that of the book's filings by it
 abbrev pub CountsFilings : Type 0
 CountsFilings =
-    (p n m : ℕ) (hs : List Held) (s : List ℕ)
-    → bookInsert n m hs s .answer .«not_simple» ≡ otherFilings (filedBy {S = saving} p n m hs (insert s))
+    (p n m : ℕ) (hs : List Held) (q : Named) (o : ℕ) → ownerOf (q .party) ≡ O.Byte o → (s : List ℕ)
+    → bookInsert (caller n m o) hs s .answer .«not_simple»
+    ≡ otherFilings (filedBy {S = saving} p n m hs (insert q s))
 
 -- the theorem `found-any-form`: "Whether a filed line is found doesn't depend on the form." After every list of calls
 -- an insert whose last line is wanted and has room: it is found, whichever form g has
 abbrev pub FoundAnyForm : ℕ → ℕ → Calls → Type 0
 FoundAnyForm n m xs =
-    (s : List ℕ) (passed : List (List ℕ)) (l : List ℕ) (g : Spelled) (hs : List Held)
+    (p : Named) (o : ℕ) → ownerOf (p .party) ≡ O.Byte o
+    → (s : List ℕ) (passed : List (List ℕ)) (l : List ℕ) (g : Spelled) (hs : List Held)
     → isUtf8 s ≡ true → linesOf s ≡ passed ++ (l ∷ [])
-    → insertLines n m (booked n m xs .held) 0 passed ≡ insertTurn hs A.Done (length passed)
-    → wanted l ≡ Parsed g → length l ≤ lineMax → noRoom n m (under (g .id) l) hs ≡ false
-    → lookUp (g .id) (next n m xs (insert s) .index) (next n m xs (insert s) .text) ≡ found l
+    → insertLines (caller n m o) (booked n m xs .held) 0 passed ≡ insertTurn hs A.Done (length passed)
+    → wanted l ≡ Parsed g → length l ≤ lineMax → noRoom (caller n m o) (under o (g .id) l) hs ≡ false
+    → lookUp (p .party) (g .id) (next n m xs (insert p s) .index) (next n m xs (insert p s) .text) ≡ found l

@@ -1,5 +1,5 @@
 -- Demand 3, proved as `whole-guarantee` in ../proofs/Saves.antt: one statement about every list of calls from a fresh
--- store of n and m bytes, with document 01's own save.
+-- store of n and m bytes, with document 01's own save. Each call names its party (document 02, P9).
 -- The guarantee rests on these definitions; they assume nothing.
 use mathlib.Core.Path.{_≡_}
 use mathlib.Core.Bool.{true}
@@ -11,16 +11,20 @@ use Rattle.text.specs.Bytes.{pick}
 use Rattle.text.specs.Utf8.{isUtf8}
 use Rattle.text.specs.declared.uuid.Spelled.{Spelled}
 use Rattle.text.specs.declared.uuid.UuidParse.the-variants.{Parsed}
-use Rattle.store.specs.Held.{lineMax, Key, Held, file}
+use Rattle.text.specs.declared.uuid.Uuid.{Uuid}
+use Rattle.store.specs.declared.parties.Party.{Party}
+use Rattle.store.specs.declared.owners.Owner.the-variants as O
+use Rattle.store.specs.Parties.{ownerOf, byOwner, Named}
+use Rattle.store.specs.Held.{lineMax, Key, Held, keyBy, file}
 use Rattle.map.specs.Build.{builtLine, builtMap}
 use Rattle.store.specs.declared.calls.Answer.the-variants as A
 use Rattle.store.specs.declared.calls.SaveAnswer.the-variants as Sv
 use Rattle.store.specs.declared.calls.Saved.{Saved}
 use Rattle.store.specs.Lines.{linesOf, wanted}
 use Rattle.store.specs.Decode.{decode}
-use Rattle.store.specs.Book.{noRoom, under, insertTurn, insertLines, insertedOf, Call, insert, save, Reply}
-use Rattle.store.specs.Book.{inserted, saved, numberOf, Run, runBook}
-use Rattle.store.specs.Store.{Done, Runs, runStore, storeCall, lookUp, lookedIn}
+use Rattle.store.specs.Book.{caller, noRoom, under, insertTurn, insertLines, insertedOf, Call, insert, save}
+use Rattle.store.specs.Book.{Reply, inserted, saved, numberOf, Run, runBook}
+use Rattle.store.specs.Store.{Done, Runs, runStore, storeCall, Looked, noOwner, lookedIn, lookUp}
 use Rattle.store.specs.Filings.{Filing, filings, lastFiled, lineFiled, nth}
 use Rattle.store.specs.Saves.{SaveArgs, SaveCall, saving, Passes, ReadsBack, refusedSave, acceptedSave}
 
@@ -42,29 +46,34 @@ booked n m xs = runBook n m [] xs
 abbrev pub lastOf : ℕ → ℕ → Calls → Key → Option (Filing saving)
 lastOf n m xs k = lastFiled k (filings 0 n m [] [] xs)
 
+-- P9: "'Last filed' in the guarantee means by the party that looks up": what it finds then, and else none; 24 for nobody
+abbrev pub lookedFor : ℕ → ℕ → Calls → Party → Uuid → Looked
+lookedFor n m xs p u = byOwner (ownerOf p) noOwner (λ o. lookedIn (lineFiled (lastOf n m xs (keyBy o u))))
+
 -- the next call after such a list
 abbrev pub next : ℕ → ℕ → Calls → Call saving → Done (Reply saving)
 next n m xs x = storeCall (stored n m xs .index) (stored n m xs .text) x
 
--- document 01's build from a save's arguments: the line under its UUID, and the map
-abbrev pub builtHeld : SaveArgs → Held
-builtHeld a = under (a .uuid) (builtLine (a .slots) (a .buttons) (a .axes) (a .name) (a .uuid))
+-- document 01's build from a save's arguments: the line under its owner and UUID, and the map
+abbrev pub builtHeld : ℕ → SaveArgs → Held
+builtHeld o a = under o (a .uuid) (builtLine (a .slots) (a .buttons) (a .axes) (a .name) (a .uuid))
 
 abbrev pub builtSave : SaveArgs → Saved
 builtSave a = acceptedSave (builtMap (a .slots) (a .name))
 
--- that save filed the line which was last filed under k
-pub record FromSave (n m : ℕ) (xs : Calls) (k : Key) (f : Filing saving) (c : SaveCall) : Type 0 where
+-- that save of that party filed the line which was last filed under k
+pub record FromSave (n m : ℕ) (xs : Calls) (k : Key) (f : Filing saving) (p : Named) (c : SaveCall) : Type 0 where
   -- "that the save returned": it stands at that place of the list, and the store's own reply there is this
   pub returned : Saved
-  pub stands : nth xs (f .at) ≡ some (save c)
+  pub stands : nth xs (f .at) ≡ some (save p c)
   pub replied : nth (stored n m xs .answers) (f .at) ≡ some (saved returned)
   pub done : returned .answer ≡ Sv.Done
   -- "line and map being those of document 01's build from that save's arguments"
   pub line : f .held .line
       ≡ builtLine (c .args .slots) (c .args .buttons) (c .args .axes) (c .args .name) (c .args .uuid)
   pub map : returned .map ≡ builtMap (c .args .slots) (c .args .name)
-  pub under : c .args .uuid ≡ k
+  pub by : ownerOf (p .party) ≡ O.Byte (k .owner)
+  pub under : c .args .uuid ≡ k .uuid
   -- "reading it with that save's button and axis lists gives the map, name, default flag (off) and hat flags (zero)
   -- that the save returned"
   pub reads : ReadsBack (c .args) (f .held .line) returned
@@ -82,29 +91,31 @@ pub record Guarantee (n m : ℕ) (xs : Calls) : Type 0 where
   -- the lines that are held are the book's
   pub held : decode (stored n m xs .index) (stored n m xs .text) ≡ some (booked n m xs .held)
   -- "looking up any UUID finds the line last filed under it since the last clear, and finds none exactly when
-  -- there is no such line"
-  pub finds : (k : Key) → lookUp k (stored n m xs .index) (stored n m xs .text) ≡ lookedIn (lineFiled (lastOf n m xs k))
+  -- there is no such line", for every party
+  pub finds : (p : Party) (u : Uuid)
+      → lookUp p u (stored n m xs .index) (stored n m xs .text) ≡ lookedFor n m xs p u
   -- "If a save filed that line, .."
-  pub saves : (k : Key) (f : Filing saving) (c : SaveCall) → lastOf n m xs k ≡ some f → f .by ≡ save c
-      → FromSave n m xs k f c
-  -- "A save [..] that passes the earlier checks gets 'no room' exactly when document 01's sum doesn't fit, and
-  -- else is filed."
-  pub save-room : (c : SaveCall) → Passes (c .args)
-      → Leaves (next n m xs (save c))
-      (pick (noRoom n m (builtHeld (c .args)) (booked n m xs .held))
+  pub saves : (k : Key) (f : Filing saving) (p : Named) (c : SaveCall) → lastOf n m xs k ≡ some f → f .by ≡ save p c
+      → FromSave n m xs k f p c
+  -- "A save [..] that passes the earlier checks", of which 24 is one, "gets 'no room' exactly when document 01's sum
+  -- doesn't fit, and else is filed."
+  pub save-room : (p : Named) (o : ℕ) → ownerOf (p .party) ≡ O.Byte o → (c : SaveCall) → Passes (c .args)
+      → Leaves (next n m xs (save p c))
+      (pick (noRoom (caller n m o) (builtHeld o (c .args)) (booked n m xs .held))
       (saved (refusedSave Sv.NoRoom)) (saved (builtSave (c .args))))
-      (pick (noRoom n m (builtHeld (c .args)) (booked n m xs .held))
-      (booked n m xs .held) (file (builtHeld (c .args)) (booked n m xs .held)))
+      (pick (noRoom (caller n m o) (builtHeld o (c .args)) (booked n m xs .held))
+      (booked n m xs .held) (file (builtHeld o (c .args)) (booked n m xs .held)))
   -- "or a wanted line that its insert reaches": the lines before it are passed, and hs is held when it is reached;
   -- where it is filed, the insert goes on with the rest
-  pub insert-room : (s : List ℕ) (passed : List (List ℕ)) (l : List ℕ) (rest : List (List ℕ)) (u : Spelled)
-      (hs : List Held)
+  pub insert-room : (p : Named) (o : ℕ) → ownerOf (p .party) ≡ O.Byte o
+      → (s : List ℕ) (passed : List (List ℕ)) (l : List ℕ) (rest : List (List ℕ)) (u : Spelled) (hs : List Held)
       → isUtf8 s ≡ true → linesOf s ≡ passed ++ (l ∷ rest)
-      → insertLines n m (booked n m xs .held) 0 passed ≡ insertTurn hs A.Done (length passed)
+      → insertLines (caller n m o) (booked n m xs .held) 0 passed ≡ insertTurn hs A.Done (length passed)
       → wanted l ≡ Parsed u → length l ≤ lineMax
-      → Leaves (next n m xs (insert s))
-      (pick (noRoom n m (under (u .id) l) hs)
+      → Leaves (next n m xs (insert p s))
+      (pick (noRoom (caller n m o) (under o (u .id) l) hs)
       (inserted (insertedOf s (record { answer = A.NoRoom; count = length passed })))
-      (inserted (insertedOf s (insertLines n m (file (under (u .id) l) hs) (suc (length passed)) rest .answer))))
-      (pick (noRoom n m (under (u .id) l) hs) hs
-      (insertLines n m (file (under (u .id) l) hs) (suc (length passed)) rest .held))
+      (inserted (insertedOf s
+      (insertLines (caller n m o) (file (under o (u .id) l) hs) (suc (length passed)) rest .answer))))
+      (pick (noRoom (caller n m o) (under o (u .id) l) hs) hs
+      (insertLines (caller n m o) (file (under o (u .id) l) hs) (suc (length passed)) rest .held))

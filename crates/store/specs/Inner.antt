@@ -4,7 +4,7 @@ use mathlib.Core.Path.{_≡_}
 use mathlib.Core.Bool.{Bool, true, false, not}
 use mathlib.Core.Option.{Option, none, some}
 use mathlib.Core.List.{List, [], _∷_, _++_}
-use Prim.Native.Nat.{ℕ, _+_, _/_, _%_, _≤_}
+use Prim.Native.Nat.{ℕ, _+_, _/_, _%_, _≤_, _<_}
 use lib.Dec.{eqb, ltb}
 use lib.ListN.{length, drop, take, replicate, getD, set}
 use Rattle.text.specs.Bytes.{pick, firstOf}
@@ -15,13 +15,13 @@ use Rattle.store.specs.declared.calls.Answer.{Answer}
 use Rattle.store.specs.declared.calls.Answer.the-variants as A
 use Rattle.store.specs.declared.calls.SaveAnswer.the-variants as Sv
 use Rattle.store.specs.declared.calls.Saved.{Saved}
-use Rattle.store.specs.Held.{Key, Held, sameKey, strike, file, holds, distinct, textMax, recordSize}
+use Rattle.store.specs.Held.{Key, Held, file, distinct, textMax, recordSize}
 use Rattle.store.specs.Layout.{Shape, Shapes, recordBytes, recordOf, records, texts, padded, encodeIndex}
 use Rattle.store.specs.Layout.{encodeText}
-use Rattle.store.specs.Decode.{headAt, decode}
+use Rattle.store.specs.Decode.{ownerAt, decode}
 use Rattle.store.specs.Lines.{cr}
 use Rattle.text.specs.Search.{lf}
-use Rattle.store.specs.Book.{noRoom, Turn, turn, files, Saving}
+use Rattle.store.specs.Book.{caller, noRoom, Turn, turn, files, Saving}
 use Rattle.store.specs.Store.{Done, onLines}
 use Rattle.store.specs.Saves.{refusedSave, acceptedSave}
 
@@ -48,7 +48,7 @@ be4 x = be2 (x / 65536) ++ be2 x
 abbrev pub be8 : ℕ → List ℕ
 be8 x = be4 (x / 4294967296) ++ be4 x
 
--- a record without its kind
+-- a record without its kind and owner
 abbrev pub bodySize : ℕ
 bodySize = 20
 
@@ -72,7 +72,7 @@ Sized k r = (off len : ℕ) → r ≡ length (recordBytes k off len)
 
 -- `stands`: a whole record stands at the front
 abbrev pub HasRecord : List ℕ → Type 0
-HasRecord i = (recordSize ≤ length i) × (getD i 0 0 ≡ 1)
+HasRecord i = (o : ℕ) × ((ownerAt i ≡ some o) × (recordSize o ≤ length i))
 
 -- ---- lines that lie in an index
 
@@ -108,7 +108,7 @@ Once i r = (off : ℕ) (hs : List Held) → Lies off hs i → r ≡ distinct hs
 
 -- there is room for the line
 abbrev pub room : ℕ → ℕ → Held → List Held → Bool
-room n m h hs = not (noRoom n m h hs)
+room n m h hs = not (noRoom (caller n m (h .key .owner)) h hs)
 
 -- `file_line`: r says whether there was room for the line
 abbrev pub Files : List ℕ → List ℕ → Held → Bool → List ℕ → List ℕ → Type 0
@@ -122,7 +122,8 @@ Files i t h r i′ t′ =
 
 -- `file_built`: the end of a save, in the book and in the store
 unfoldable pub bookFile : ℕ → ℕ → List Held → Held → Turn Answer
-bookFile n m hs h = pick (noRoom n m h hs) (turn A.NoRoom hs) (turn A.Done (file h hs))
+bookFile n m hs h =
+    pick (noRoom (caller n m (h .key .owner)) h hs) (turn A.NoRoom hs) (turn A.Done (file h hs))
 
 unfoldable pub storeFile : List ℕ → List ℕ → Held → Done Answer
 storeFile i t h = onLines i t (decode i t) A.Unsound (λ hs. bookFile (length i) (length t) hs h)
@@ -135,11 +136,13 @@ saidBy m A.Unsound = refusedSave Sv.Unsound
 saidBy m A.LineTooLong = refusedSave Sv.Unsound
 saidBy m A.NoRoom = refusedSave Sv.NoRoom
 saidBy m A.BufferTooLarge = refusedSave Sv.Unsound
+saidBy m A.NoOwner = refusedSave Sv.Unsound
 
--- what the layer that builds owes: a line that is attempted has from 1 to `lineMax` bytes, and reads back
+-- what the layer that builds owes: a line that is attempted is its owner's, has from 1 to `lineMax` bytes, and reads back
 pub record Builds (S : Saving) : Type 0 where
-  pub shape : (a : S .Args) (h : Held) (v : S .Value) → S .attempt a ≡ files h v → Shape h
-  pub reads : (a : S .Args) (h : Held) (v : S .Value) → S .attempt a ≡ files h v → S .Reads a (h .line) v
+  pub owner : (o : ℕ) (a : S .Args) (h : Held) (v : S .Value) → S .attempt o a ≡ files h v → h .key .owner ≡ o
+  pub shape : (o : ℕ) → o < 256 → (a : S .Args) (h : Held) (v : S .Value) → S .attempt o a ≡ files h v → Shape h
+  pub reads : (o : ℕ) (a : S .Args) (h : Held) (v : S .Value) → S .attempt o a ≡ files h v → S .Reads a (h .line) v
 
 -- ---- inserting
 

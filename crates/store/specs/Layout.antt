@@ -1,4 +1,4 @@
--- How a list of lines lies in the two buffers of a store (document 01, 'Records').
+-- How a list of lines lies in the two buffers of a store (document 01, 'Records'; document 02, P9).
 -- A record's form stands in `recordBytes`, the number of its bytes in Held's `recordSize`; `length-record` in
 -- proofs/RecordLaws.antt says that they agree.
 -- Public contracts rest on these definitions; they assume nothing.
@@ -6,7 +6,9 @@ use mathlib.Core.Path.{_≡_}
 use mathlib.Core.Bool.{true}
 use mathlib.Core.List.{List, [], _∷_, _++_}
 use Prim.Native.Nat.{ℕ, _+_, _-_, _≤_, _<_}
+use lib.Dec.{eqb}
 use lib.ListN.{length, replicate, getD}
+use Rattle.text.specs.Bytes.{pick}
 use Rattle.text.specs.Uuid.{bigEndian, uuidBytes, Small}
 use Rattle.store.specs.Held.{Key, Held, distinct, lineMax, Limits, current}
 
@@ -14,10 +16,14 @@ use Rattle.store.specs.Held.{Key, Held, distinct, lineMax, Limits, curre
 abbrev pub Bytes : List ℕ → Type 0
 Bytes s = (k : ℕ) → getD s k 0 < 256
 
+-- P9: "Record kind 3 has an owner byte from 1 to 255, then the body of kind 1; kind 1 is the hall's."
+abbrev pub kindBytes : ℕ → List ℕ
+kindBytes o = pick (eqb o 0) (1 ∷ []) (3 ∷ o ∷ [])
+
 -- "Per line the index has a kind byte 1, then 20 bytes: UUID (16), offset in the text (2), length (2), high byte
 -- first."
 unfoldable pub recordBytes : Key → ℕ → ℕ → List ℕ
-recordBytes k off len = 1 ∷ (uuidBytes k ++ (bigEndian 2 off ++ bigEndian 2 len))
+recordBytes k off len = kindBytes (k .owner) ++ (uuidBytes (k .uuid) ++ (bigEndian 2 off ++ bigEndian 2 len))
 
 abbrev pub recordOf : ℕ → Held → List ℕ
 recordOf off h = recordBytes (h .key) off (length (h .line))
@@ -43,9 +49,14 @@ encodeIndex n hs = padded n (records 0 hs)
 unfoldable pub encodeText : ℕ → List Held → List ℕ
 encodeText m hs = padded m (texts hs)
 
--- "each length from 1 to" the limit of a line, and a UUID of 128 bits
+-- an owner byte, and a UUID of 128 bits
+pub record Proper (k : Key) : Type 0 where
+  pub owner : k .owner < 256
+  pub uuid : Small (k .uuid)
+
+-- "each length from 1 to" the limit of a line
 pub record ShapeWithin (limit : ℕ) (h : Held) : Type 0 where
-  pub key : Small (h .key)
+  pub key : Proper (h .key)
   pub some : 1 ≤ length (h .line)
   pub most : length (h .line) ≤ limit
 
@@ -53,8 +64,8 @@ abbrev pub ShapesWithin : ℕ → List Held → Type 0
 ShapesWithin limit [] = Unit {0}
 ShapesWithin limit (h ∷ hs) = ShapeWithin limit h × ShapesWithin limit hs
 
--- "A store is sound exactly when it encodes some list with no UUID twice and each length from 1 to" the limit, "index
--- and text, each of at most" so many bytes: within these limits it encodes this list
+-- "A store is sound exactly when it encodes some list with no UUID twice" for any party "and each length from 1 to"
+-- the limit, "index and text, each of at most" so many bytes: within these limits it encodes this list
 pub record EncodesWithin (w : Limits) (i t : List ℕ) (hs : List Held) : Type 0 where
   pub index : i ≡ encodeIndex (length i) hs
   pub text : t ≡ encodeText (length t) hs

@@ -1,5 +1,6 @@
 -- The definitions of the store layer, in reading order. Decode computes what Layout says; Inner, Keys, Rows,
 -- Table and Sights serve private functions only.
+pub mod Parties
 pub mod Held
 pub mod Layout
 pub mod Decode
@@ -13,6 +14,7 @@ pub mod Guarantee
 pub mod Promises
 pub mod Older
 pub mod Near
+pub mod Isolation
 pub mod Forms
 -- what private functions and proofs need
 pub mod Inner

@@ -1,5 +1,5 @@
 -- Stores of a hub before request P6, whose line limit was 4096, proved as `older-sound` and `longer-damaged` in
--- ../proofs/OlderLaws.antt.
+-- ../proofs/OlderLaws.antt. All lines of such a store are the hall's; both hold whoever's they are.
 -- The theorems rest on these definitions; they assume nothing.
 use mathlib.Core.Path.{_≡_}
 use mathlib.Core.Bool.{Bool, true, false, _||_}

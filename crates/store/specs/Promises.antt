@@ -22,7 +22,10 @@ use Rattle.store.specs.declared.calls.Answer.the-variants as A
 use Rattle.store.specs.declared.calls.SaveAnswer.the-variants as Sv
 use Rattle.store.specs.declared.calls.Inserted.{Inserted}
 use Rattle.store.specs.declared.calls.Saved.{Saved}
-use Rattle.store.specs.Held.{Key}
+use Rattle.store.specs.declared.parties.Party.{Party}
+use Rattle.store.specs.declared.owners.Owner.the-variants as O
+use Rattle.store.specs.Parties.{ownerOf, Named}
+use Rattle.store.specs.Held.{keyBy}
 use Rattle.store.specs.Lines.{linesOf, wanted}
 use Rattle.store.specs.Refusals.{number, saveNumber}
 use Rattle.store.specs.Book.{Call, clear, insert, save, saved}
@@ -38,12 +41,13 @@ use Rattle.store.specs.Guarantee.{Calls, stored, booked, next, builtSave
 abbrev pub Untouched : {A : Type 0} → List ℕ → List ℕ → Done A → Type 0
 Untouched i t d = d ≡ unchanged i t (d .answer)
 
--- an insert of the text s leaves what one of those lines of s leaves that it counts, and that one answers done
-pub record LinesBefore (i t s before : List ℕ) : Type 0 where
-  pub answer : storeInsert i t before .answer .answer ≡ A.Done
-  pub count : storeInsert i t before .answer .count ≡ storeInsert i t s .answer .count
-  pub index : storeInsert i t before .index ≡ storeInsert i t s .index
-  pub text : storeInsert i t before .text ≡ storeInsert i t s .text
+-- a party's insert of the text s leaves what its insert of those lines of s leaves that it counts, and that one answers
+-- done
+pub record LinesBefore (i t : List ℕ) (p : Party) (s before : List ℕ) : Type 0 where
+  pub answer : storeInsert i t p before .answer .answer ≡ A.Done
+  pub count : storeInsert i t p before .answer .count ≡ storeInsert i t p s .answer .count
+  pub index : storeInsert i t p before .index ≡ storeInsert i t p s .index
+  pub text : storeInsert i t p before .text ≡ storeInsert i t p s .text
 
 -- the text of the first k lines of a text, each with its end
 unfoldable pub firstLines : ℕ → List ℕ → List ℕ
@@ -51,20 +55,27 @@ firstLines zero s = []
 firstLines (suc k) [] = []
 firstLines (suc k) (b ∷ s) = b ∷ pick (eqb b lf) (firstLines k s) (firstLines (suc k) s)
 
--- every refusal, whatever the two buffers hold
+-- every refusal, whatever the two buffers hold and whoever calls
 pub record RefusalsLeave (i t : List ℕ) : Type 0 where
   pub clear-refused : (number (storeClear i t .answer) ≡ 0 → ⊥) → Untouched i t (storeClear i t)
-  pub save-refused : (a : SaveArgs) → (saveNumber (storeSave i t a .answer .answer) ≡ 0 → ⊥)
-      → Untouched i t (storeSave i t a)
-  pub insert-19 : (s : List ℕ) → number (storeInsert i t s .answer .answer) ≡ 19 → Untouched i t (storeInsert i t s)
-  pub insert-10 : (s : List ℕ) → number (storeInsert i t s .answer .answer) ≡ 10 → Untouched i t (storeInsert i t s)
+  pub save-refused : (p : Party) (a : SaveArgs) → (saveNumber (storeSave i t p a .answer .answer) ≡ 0 → ⊥)
+      → Untouched i t (storeSave i t p a)
+  pub insert-24 : (p : Party) (s : List ℕ) → number (storeInsert i t p s .answer .answer) ≡ 24
+      → Untouched i t (storeInsert i t p s)
+  pub insert-19 : (p : Party) (s : List ℕ) → number (storeInsert i t p s .answer .answer) ≡ 19
+      → Untouched i t (storeInsert i t p s)
+  pub insert-10 : (p : Party) (s : List ℕ) → number (storeInsert i t p s .answer .answer) ≡ 10
+      → Untouched i t (storeInsert i t p s)
   -- stopped at a line, or at none: the text of the lines that were walked, and any text that has those lines
-  pub insert-front : (s : List ℕ) → isUtf8 s ≡ true → (number (storeInsert i t s .answer .answer) ≡ 19 → ⊥)
-      → LinesBefore i t s (firstLines (storeInsert i t s .answer .count) s)
-  pub insert-stopped : (s before : List ℕ) → isUtf8 s ≡ true → isUtf8 before ≡ true
-      → linesOf before ≡ take (storeInsert i t s .answer .count) (linesOf s)
-      → (number (storeInsert i t s .answer .answer) ≡ 19 → ⊥)
-      → LinesBefore i t s before
+  pub insert-front : (p : Party) (s : List ℕ) → isUtf8 s ≡ true
+      → (number (storeInsert i t p s .answer .answer) ≡ 24 → ⊥)
+      → (number (storeInsert i t p s .answer .answer) ≡ 19 → ⊥)
+      → LinesBefore i t p s (firstLines (storeInsert i t p s .answer .count) s)
+  pub insert-stopped : (p : Party) (s before : List ℕ) → isUtf8 s ≡ true → isUtf8 before ≡ true
+      → linesOf before ≡ take (storeInsert i t p s .answer .count) (linesOf s)
+      → (number (storeInsert i t p s .answer .answer) ≡ 24 → ⊥)
+      → (number (storeInsert i t p s .answer .answer) ≡ 19 → ⊥)
+      → LinesBefore i t p s before
 
 -- a refused build leaves the output as it was
 abbrev pub BuildLeaves : Type 0
@@ -78,14 +89,15 @@ BuildLeaves =
 abbrev pub savedLine : SaveArgs → List ℕ
 savedLine a = builtLine (a .slots) (a .buttons) (a .axes) (a .name) (a .uuid)
 
--- an insert of that line alone wants it under the save's UUID; where it is held, every look-up stays as it was
+-- an insert of that line alone wants it under the save's UUID; where the party that inserts it holds it, every look-up of
+-- every party stays as it was
 pub record SavedAgain (n m : ℕ) (xs : Calls) (a : SaveArgs) : Type 0 where
   pub is-wanted : wanted (savedLine a) ≡ Parsed (record { id = a .uuid; form = Fm.Simple })
   pub one-line : linesOf (savedLine a) ≡ savedLine a ∷ []
-  pub same : lookUp (a .uuid) (stored n m xs .index) (stored n m xs .text) ≡ found (savedLine a)
-      → (k : Key)
-      → lookUp k (next n m xs (insert (savedLine a)) .index) (next n m xs (insert (savedLine a)) .text)
-      ≡ lookUp k (stored n m xs .index) (stored n m xs .text)
+  pub same : (p : Named) → lookUp (p .party) (a .uuid) (stored n m xs .index) (stored n m xs .text) ≡ found (savedLine a)
+      → (q : Party) (u : Uuid)
+      → lookUp q u (next n m xs (insert p (savedLine a)) .index) (next n m xs (insert p (savedLine a)) .text)
+      ≡ lookUp q u (stored n m xs .index) (stored n m xs .text)
 
 -- ---- the price list: "every saved mapping is found again and reads back the same"
 
@@ -93,24 +105,24 @@ pub record SavedAgain (n m : ℕ) (xs : Calls) (a : SaveArgs) : Type 0 where
 unfoldable pub hasClear : Calls → Bool
 hasClear [] = false
 hasClear (clear ∷ xs) = true
-hasClear (insert s ∷ xs) = hasClear xs
-hasClear (save c ∷ xs) = hasClear xs
+hasClear (insert p s ∷ xs) = hasClear xs
+hasClear (save p c ∷ xs) = hasClear xs
 
 -- what the calls ys file after the calls xs
 abbrev pub filedAfter : ℕ → ℕ → Calls → Calls → List (Filing saving)
 filedAfter n m xs ys = filings (length xs) n m (booked n m xs .held) [] ys
 
 -- the calls xs, a save, and the calls ys
-abbrev pub around : Calls → SaveCall → Calls → Calls
-around xs c ys = (xs ++ (save c ∷ [])) ++ ys
+abbrev pub around : Calls → Named → SaveCall → Calls → Calls
+around xs p c ys = (xs ++ (save p c ∷ [])) ++ ys
 
--- after any list of calls, a save that answers done, and then any list in which nothing is cleared and nothing is filed
--- under its UUID: the look-up hands back build's line, and it reads back what the save returned
+-- after any list of calls, a party's save that answers done, and then any list in which nothing is cleared and that
+-- party files nothing under its UUID: its look-up hands back build's line, and it reads back what the save returned
 abbrev pub SavedIsFound : ℕ → ℕ → Type 0
 SavedIsFound n m =
-    (xs : Calls) (c : SaveCall) (v : Saved) (ys : Calls)
-    → next n m xs (save c) .answer ≡ saved v → v .answer ≡ Sv.Done
-    → hasClear ys ≡ false → lastFiled (c .args .uuid) (filedAfter n m (xs ++ (save c ∷ [])) ys) ≡ none
-    → (lookUp (c .args .uuid) (stored n m (around xs c ys) .index) (stored n m (around xs c ys) .text)
+    (xs : Calls) (p : Named) (o : ℕ) → ownerOf (p .party) ≡ O.Byte o → (c : SaveCall) (v : Saved) (ys : Calls)
+    → next n m xs (save p c) .answer ≡ saved v → v .answer ≡ Sv.Done
+    → hasClear ys ≡ false → lastFiled (keyBy o (c .args .uuid)) (filedAfter n m (xs ++ (save p c ∷ [])) ys) ≡ none
+    → (lookUp (p .party) (c .args .uuid) (stored n m (around xs p c ys) .index) (stored n m (around xs p c ys) .text)
     ≡ found (savedLine (c .args)))
     × ((v ≡ builtSave (c .args)) × ReadsBack (c .args) (savedLine (c .args)) v)

@@ -25,20 +25,23 @@ storeOutcome A.Unsound = Refuses (refusal 19)
 storeOutcome A.LineTooLong = Refuses (refusal 20)
 storeOutcome A.NoRoom = Refuses (refusal 21)
 storeOutcome A.BufferTooLarge = Refuses (refusal 23)
+storeOutcome A.NoOwner = Refuses (refusal 24)
 
--- save: build's refusals, with the place of 10 and the code of 15, "then 22, 19, 21"
+-- save: 24, build's refusals, with the place of 10 and the code of 15, "then 22, 19, 21"
 abbrev pub saveOutcome : SaveAnswer → Outcome
 saveOutcome Sv.Done = Passes
 saveOutcome (Sv.Refused e) = Refuses (mappingRefusal e)
 saveOutcome Sv.UnsavedName = Refuses (refusal 22)
 saveOutcome Sv.Unsound = Refuses (refusal 19)
 saveOutcome Sv.NoRoom = Refuses (refusal 21)
+saveOutcome Sv.NoOwner = Refuses (refusal 24)
 
--- a look-up: "one says found, none or 19"
+-- a look-up: "one says found, none or 19", and before these 24
 abbrev pub lookOutcome : Look → LookOutcome
 lookOutcome L.Found = Lo.Finds
 lookOutcome L.Missing = Lo.FindsNone
 lookOutcome L.Unsound = Lo.CannotLook (refusal 19)
+lookOutcome L.NoOwner = Lo.CannotLook (refusal 24)
 
 -- document 01's number of an outcome, 0 where nothing is refused
 abbrev pub outcomeNumber : Outcome → ℕ

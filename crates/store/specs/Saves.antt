@@ -1,4 +1,5 @@
 -- A save (document 01, 'Store', and the order of its refusals): what its own checks come to, by the map layer's build.
+-- It names its party (document 02, P9).
 -- Public contracts rest on these definitions; they assume nothing.
 use mathlib.Core.Path.{_≡_}
 use mathlib.Core.Bool.{Bool, false, _||_}
@@ -21,10 +22,12 @@ use Rattle.store.specs.declared.calls.SaveAnswer.{SaveAnswer}
 use Rattle.store.specs.declared.calls.SaveAnswer.the-variants as Sv
 use Rattle.store.specs.declared.calls.Saved.{Saved}
 use Rattle.text.specs.Search.{lf, firstText, platformKey}
+use Rattle.store.specs.declared.parties.Party.{Party}
+use Rattle.store.specs.Parties.{ownerOf, byOwner}
 use Rattle.store.specs.Book.{under, Attempt, refused, files, Saving}
-use Rattle.store.specs.Store.{Done, storeAttempt}
+use Rattle.store.specs.Store.{Done, unchanged, storeAttempt}
 
--- the arguments of a save
+-- the arguments of a save but for its party
 pub record SaveArgs : Type 0 where
   pub slots : MappingData
   pub buttons : List ℕ
@@ -32,7 +35,7 @@ pub record SaveArgs : Type 0 where
   pub name : List ℕ
   pub uuid : Uuid
 
--- the arguments of a save, in their order
+-- the same, in their order
 abbrev pub saveArgs : MappingData → List ℕ → List ℕ → List ℕ → Uuid → SaveArgs
 saveArgs d buttons axes name u = record { slots = d; buttons = buttons; axes = axes; name = name; uuid = u }
 
@@ -48,25 +51,27 @@ refusedSave a = record { answer = a; map = emptyMap }
 abbrev pub acceptedSave : Mapping → Saved
 acceptedSave m = record { answer = Sv.Done; map = m }
 
--- "Save: as build without 18, then 22", and then 19, 21
-abbrev pub attemptAfter : SaveArgs → MappingAnswer → Attempt Saved
-attemptAfter a (Refused e) = refused (refusedSave (Sv.Refused e))
-attemptAfter a Accepted =
+-- "Save: as build without 18, then 22", and then 19, 21: an owner's save
+abbrev pub attemptAfter : ℕ → SaveArgs → MappingAnswer → Attempt Saved
+attemptAfter o a (Refused e) = refused (refusedSave (Sv.Refused e))
+attemptAfter o a Accepted =
     pick (unsavedName (a .name)) (refused (refusedSave Sv.UnsavedName))
-    (files (under (a .uuid) (builtLine (a .slots) (a .buttons) (a .axes) (a .name) (a .uuid)))
+    (files (under o (a .uuid) (builtLine (a .slots) (a .buttons) (a .axes) (a .name) (a .uuid)))
     (acceptedSave (builtMap (a .slots) (a .name))))
 
-unfoldable pub attemptOf : SaveArgs → Attempt Saved
-attemptOf a = attemptAfter a (checksOf (a .slots) (a .buttons) (a .axes) (a .name))
+unfoldable pub attemptOf : ℕ → SaveArgs → Attempt Saved
+attemptOf o a = attemptAfter o a (checksOf (a .slots) (a .buttons) (a .axes) (a .name))
 
 -- a save that passes build's checks and 22: what comes then are 19 and 21
 pub record Passes (a : SaveArgs) : Type 0 where
   pub build : checksOf (a .slots) (a .buttons) (a .axes) (a .name) ≡ Accepted
   pub name : unsavedName (a .name) ≡ false
 
--- "Save builds a line and files it": "as build without 18, then 22, 19, 21"
-unfoldable pub storeSave : List ℕ → List ℕ → SaveArgs → Done Saved
-storeSave i t a = storeAttempt (refusedSave Sv.Unsound) (refusedSave Sv.NoRoom) i t (attemptOf a)
+-- "Save builds a line and files it": 24, then "as build without 18, then 22, 19, 21"
+unfoldable pub storeSave : List ℕ → List ℕ → Party → SaveArgs → Done Saved
+storeSave i t p a =
+    byOwner (ownerOf p) (unchanged i t (refusedSave Sv.NoOwner))
+    (λ o. storeAttempt (refusedSave Sv.Unsound) (refusedSave Sv.NoRoom) i t o (attemptOf o a))
 
 -- "reading it with that save's button and axis lists gives the map, name, default flag (off) and hat flags (zero) that
 -- the save returned"; the name is the bytes of the line at the map's name start and length
@@ -86,7 +91,8 @@ abbrev pub saving : Saving
 saving = record {
   Args = SaveCall;
   Value = Saved;
-  attempt = λ c. attemptOf (c .args);
+  attempt = λ o c. attemptOf o (c .args);
+  nobody = refusedSave Sv.NoOwner;
   unsound = refusedSave Sv.Unsound;
   full = refusedSave Sv.NoRoom;
   number = λ v. saveNumber (v .answer);

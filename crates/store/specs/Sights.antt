@@ -5,7 +5,6 @@ use mathlib.Core.Option.{Option, none, some}
 use mathlib.Core.List.{List, []}
 use Prim.Native.Nat.{ℕ, _+_, _≤_, _<_}
 use lib.ListN.{length, take, drop}
-use Rattle.text.specs.Uuid.{withoutChecksum}
 use Rattle.store.specs.declared.table.Fill.{Fill}
 use Rattle.store.specs.declared.look.Part.{Part}
 use Rattle.store.specs.declared.near.NearSeen.{NearSeen}
@@ -13,7 +12,7 @@ use Rattle.store.specs.Held.{Key, Held, find}
 use Rattle.store.specs.Keys.{Chained}
 use Rattle.store.specs.Rows.{rowIn, keyIn, Long}
 use Rattle.store.specs.Table.{InRows}
-use Rattle.store.specs.Near.{Nearby, nearIn, nearSays, nearLine}
+use Rattle.store.specs.Near.{Nearby, nearIn, plainKey, nearSays, nearLine}
 
 -- the first n rows are the same
 abbrev pub Agree : List ℕ → List ℕ → ℕ → Type 0
@@ -45,4 +44,4 @@ pub record NearSees (t : List ℕ) (x : Nearby) (r : NearSeen) : Type 0 where
 abbrev pub Tries : List ℕ → List ℕ → List ℕ → Fill → Key → NearSeen → Type 0
 Tries a heads next f k r =
     (i t : List ℕ) (hs : List Held) → InRows i t [] a heads next (f .count) f hs
-    → NearSees t (nearIn (find k hs) (find (withoutChecksum k) hs)) r
+    → NearSees t (nearIn (find k hs) (find (plainKey k) hs)) r

@@ -13,11 +13,14 @@ use Rattle.store.specs.declared.calls.Inserted.{Inserted}
 use Rattle.store.specs.declared.calls.Tally.{Tally}
 use Rattle.store.specs.declared.calls.Look.{Look}
 use Rattle.store.specs.declared.calls.Look.the-variants as L
-use Rattle.store.specs.Held.{Key, Held, find, indexMax, textMax}
+use Rattle.text.specs.declared.uuid.Uuid.{Uuid}
+use Rattle.store.specs.declared.parties.Party.{Party}
+use Rattle.store.specs.Parties.{ownerOf, byOwner}
+use Rattle.store.specs.Held.{Key, Held, keyBy, find, indexMax, textMax}
 use Rattle.store.specs.Layout.{encodeIndex, encodeText}
 use Rattle.store.specs.Decode.{decode}
-use Rattle.store.specs.Book.{Turn, bookWalk, insertedOf, bookAttempt, Attempt, refused, files, Saving, Call}
-use Rattle.store.specs.Book.{clear, insert, save, Reply, cleared, inserted, saved}
+use Rattle.store.specs.Book.{caller, Turn, bookWalk, insertedOf, nobodyInserts, bookAttempt, Attempt, refused}
+use Rattle.store.specs.Book.{files, Saving, Call, clear, insert, save, Reply, cleared, inserted, saved}
 
 -- an answer, and the two buffers afterwards
 pub record Done (A : Type 0) : Type 0 where
@@ -53,32 +56,38 @@ storeClear i t =
     (record { answer = A.Done; index = replicate (length i) 0; text = replicate (length t) 0 })
     (unchanged i t A.BufferTooLarge)
 
--- "Insert 19, 10, then per line 20, 21"; "0 on 19 or 10": the answer, and the lines walked
-unfoldable pub storeWalk : List ℕ → List ℕ → List ℕ → Done Tally
-storeWalk i t s =
-    onLines i t (decode i t) (record { answer = A.Unsound; count = 0 }) (λ hs. bookWalk (length i) (length t) hs s)
+-- "Insert 19, 10, then per line 20, 21"; "0 on 19 or 10": for an owner
+unfoldable pub storeWalk : List ℕ → List ℕ → ℕ → List ℕ → Done Tally
+storeWalk i t o s =
+    onLines i t (decode i t) (record { answer = A.Unsound; count = 0 })
+    (λ hs. bookWalk (caller (length i) (length t) o) hs s)
 
--- an insert; request P11: "Insert's result gains the number of lines it filed whose form isn't 32 digits."
-unfoldable pub storeInsert : List ℕ → List ℕ → List ℕ → Done Inserted
-storeInsert i t s = record {
-  answer = insertedOf s (storeWalk i t s .answer);
-  index = storeWalk i t s .index;
-  text = storeWalk i t s .text;
+-- with the number of lines that were filed in another form than 32 digits (request P11)
+unfoldable pub ownInsert : List ℕ → List ℕ → ℕ → List ℕ → Done Inserted
+ownInsert i t o s = record {
+  answer = insertedOf s (storeWalk i t o s .answer);
+  index = storeWalk i t o s .index;
+  text = storeWalk i t o s .text;
 }
 
--- "then 22, 19, 21": a save, by what its own checks come to
-abbrev pub storeAttempt : {B : Type 0} → B → B → List ℕ → List ℕ → Attempt B → Done B
-storeAttempt unsound full i t (refused v) = unchanged i t v
-storeAttempt unsound full i t (files h v) =
-    onLines i t (decode i t) unsound (λ hs. bookAttempt full (length i) (length t) hs (files h v))
+-- an insert names its party: "24, [..] before every other check; an insert then counts 0 lines"
+unfoldable pub storeInsert : List ℕ → List ℕ → Party → List ℕ → Done Inserted
+storeInsert i t p s = byOwner (ownerOf p) (unchanged i t nobodyInserts) (λ o. ownInsert i t o s)
+
+-- "then 22, 19, 21": an owner's save, by what its own checks come to
+abbrev pub storeAttempt : {B : Type 0} → B → B → List ℕ → List ℕ → ℕ → Attempt B → Done B
+storeAttempt unsound full i t o (refused v) = unchanged i t v
+storeAttempt unsound full i t o (files h v) =
+    onLines i t (decode i t) unsound (λ hs. bookAttempt full (caller (length i) (length t) o) hs (files h v))
 
 -- ---- look-up
 
--- "found, none or 19", found with the line
+-- "found, none or 19", found with the line; and 24
 pub data Looked : Type 0 where
   found : List ℕ → Looked
   nothing : Looked
   unsound : Looked
+  noOwner : Looked
 
 abbrev pub lookedIn : Option (List ℕ) → Looked
 lookedIn none = nothing
@@ -88,21 +97,27 @@ abbrev pub lookedAt : Key → Option (List Held) → Looked
 lookedAt k none = unsound
 lookedAt k (some hs) = lookedIn (find k hs)
 
--- what two buffers hold under a UUID; 19 where they encode no list of lines
-unfoldable pub lookUp : Key → List ℕ → List ℕ → Looked
-lookUp k i t = lookedAt k (decode i t)
+-- what two buffers hold under a key; 19 where they encode no list of lines
+unfoldable pub lookBy : Key → List ℕ → List ℕ → Looked
+lookBy k i t = lookedAt k (decode i t)
+
+-- a look-up names its party, and finds that party's line; 24 first
+unfoldable pub lookUp : Party → Uuid → List ℕ → List ℕ → Looked
+lookUp p u i t = byOwner (ownerOf p) noOwner (λ o. lookBy (keyBy o u) i t)
 
 -- "one says found, none or 19; the other hands back the line as a part of the text buffer, empty unless found"
 abbrev pub saysOf : Looked → Look
 saysOf (found l) = L.Found
 saysOf nothing = L.Missing
 saysOf unsound = L.Unsound
+saysOf noOwner = L.NoOwner
 
 -- the line that is found, else an empty part
 abbrev pub lineOf : Looked → List ℕ
 lineOf (found l) = l
 lineOf nothing = []
 lineOf unsound = []
+lineOf noOwner = []
 
 -- ---- lists of calls
 
@@ -111,8 +126,10 @@ answered f d = record { answer = f (d .answer); index = d .index; text = d .text
 
 unfoldable pub storeCall : {S : Saving} → List ℕ → List ℕ → Call S → Done (Reply S)
 storeCall i t clear = answered cleared (storeClear i t)
-storeCall i t (insert s) = answered inserted (storeInsert i t s)
-storeCall {S} i t (save a) = answered saved (storeAttempt (S .unsound) (S .full) i t (S .attempt a))
+storeCall i t (insert p s) = answered inserted (storeInsert i t (p .party) s)
+storeCall {S} i t (save p a) =
+    answered saved (byOwner (ownerOf (p .party)) (unchanged i t (S .nobody))
+    (λ o. storeAttempt (S .unsound) (S .full) i t o (S .attempt o a)))
 
 -- the answers to a list of calls, and the buffers at its end
 pub record Runs (S : Saving) : Type 0 where

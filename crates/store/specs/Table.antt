@@ -18,13 +18,13 @@ use Rattle.store.specs.declared.batch.Step.{Step}
 use Rattle.store.specs.declared.batch.Walked.{Walked}
 use Rattle.store.specs.Held.{Key, Held, file, indexMax, textMax, lineMax}
 use Rattle.store.specs.Decode.{walk, decode}
-use Rattle.store.specs.Book.{under, after, stopped, reach, insertTurn, insertLines}
+use Rattle.store.specs.Book.{Caller, caller, after, stopped, reach, insertTurn, insertLines}
 use Rattle.store.specs.Lines.{linesOf}
 use Rattle.store.specs.Layout.{recordBytes, records, texts, encodeIndex, encodeText}
 use Rattle.store.specs.Keys.{rowsMax, Says, Lists, Chained}
 use Rattle.store.specs.Rows.{keyIn, startIn, lenIn, lenPut, Long}
 use Rattle.store.specs.Inner.{known, Good, Fitted, room, sizes}
-use Rattle.store.specs.Store.{lookUp, saysOf, lineOf}
+use Rattle.store.specs.Store.{lookBy, saysOf, lineOf}
 
 -- the lines of the first n numbers, each of which gives one line or none
 unfoldable pub living : (ℕ → List Held) → ℕ → List Held
@@ -160,9 +160,9 @@ pub record Stocks (i t : List ℕ) (a : List ℕ) (heads next : List ℕ) (r : S
 
 -- `look`: what a look-up says, and where the line lies
 pub record Sees (i t : List ℕ) (k : Key) (r : Seen) : Type 0 where
-  pub how : r .how ≡ saysOf (lookUp k i t)
+  pub how : r .how ≡ saysOf (lookBy k i t)
   pub within : r .start + r .len ≤ length t
-  pub line : take (r .len) (drop (r .start) t) ≡ lineOf (lookUp k i t)
+  pub line : take (r .len) (drop (r .start) t) ≡ lineOf (lookBy k i t)
 
 -- `len_before`, `strike_before`: of the number before r; none where r is 0
 abbrev pub lenBefore : List ℕ → ℕ → ℕ
@@ -203,34 +203,35 @@ abbrev pub FilesRow : List ℕ → List ℕ → List ℕ → List ℕ → List �
     → Fill → Type 0
 FilesRow i t a heads next f u start len a′ heads′ next′ r =
     (s : List ℕ) (old : ℕ) (hs : List Held) → Files′ i t s a heads next old f u start len hs
-    → Filed i t s a′ heads′ next′ old f (under u (take len (drop start s))) hs r
+    → Filed i t s a′ heads′ next′ old f (record { key = u; line = take len (drop start s) }) hs r
 
 abbrev pub SomeRows : List ℕ → List ℕ → List ℕ → List ℕ → List ℕ → List ℕ → Fill → Type 0
 SomeRows i t s a heads next f = (old : ℕ) × ((hs : List Held) × InRows i t s a heads next old f hs)
 
 -- `reach_row`: what one line of an insert does
-pub data Comes (i t s : List ℕ) (a : List ℕ) (heads next : List ℕ) (old : ℕ) (l : List ℕ) (hs : List Held)
+pub data Comes (i t s : List ℕ) (a : List ℕ) (heads next : List ℕ) (old o : ℕ) (l : List ℕ) (hs : List Held)
     (r : Step) : Type 0 where
-  goes : (ks : List Held) → reach (length i) (length t) hs l ≡ after ks → r .on ≡ true → InRows i t s a heads next old (r .fill) ks
-      → Comes i t s a heads next old l hs r
-  stops : reach (length i) (length t) hs l ≡ stopped (r .answer) → r .on ≡ false → Tabled i t s a old (r .fill .count) hs
-      → Comes i t s a heads next old l hs r
+  goes : (ks : List Held) → reach (caller (length i) (length t) o) hs l ≡ after ks → r .on ≡ true
+      → InRows i t s a heads next old (r .fill) ks → Comes i t s a heads next old o l hs r
+  stops : reach (caller (length i) (length t) o) hs l ≡ stopped (r .answer) → r .on ≡ false
+      → Tabled i t s a old (r .fill .count) hs → Comes i t s a heads next old o l hs r
 
-abbrev pub ReachesRow : List ℕ → List ℕ → List ℕ → List ℕ → List ℕ → List ℕ → Fill → List ℕ → List ℕ → List ℕ → List ℕ
-    → Step → Type 0
-ReachesRow i t s a heads next f l a′ heads′ next′ r =
-    (old : ℕ) (hs : List Held) → InRows i t s a heads next old f hs → Comes i t s a′ heads′ next′ old l hs r
+abbrev pub ReachesRow : List ℕ → List ℕ → List ℕ → List ℕ → List ℕ → List ℕ → Fill → ℕ → List ℕ → List ℕ → List ℕ
+    → List ℕ → Step → Type 0
+ReachesRow i t s a heads next f o l a′ heads′ next′ r =
+    (old : ℕ) (hs : List Held) → InRows i t s a heads next old f hs → Comes i t s a′ heads′ next′ old o l hs r
 
 -- `take_lines`, `insert_batch`: the lines from `from` on are walked, to the end, to one that stops the insert, or to a
 -- place from which it goes on; P holds of the lines that are held then
-pub data Takes (n m : ℕ) (s : List ℕ) (from : ℕ) (hs : List Held) (r : Walked) (P : List Held → Type 0) : Type 0 where
+pub data Takes (by : Caller) (s : List ℕ) (from : ℕ) (hs : List Held) (r : Walked) (P : List Held → Type 0)
+    : Type 0 where
   onward : (ks : List Held) → r .on ≡ true
-      → ((c : ℕ) → insertLines n m hs c (linesOf (drop from s))
-      ≡ insertLines n m ks (c + r .count) (linesOf (drop (r .at) s)))
-      → (Good n m hs → Good n m ks) → P ks → Takes n m s from hs r P
+      → ((c : ℕ) → insertLines by hs c (linesOf (drop from s))
+      ≡ insertLines by ks (c + r .count) (linesOf (drop (r .at) s)))
+      → (Good (by .index) (by .text) hs → Good (by .index) (by .text) ks) → P ks → Takes by s from hs r P
   halted : (ks : List Held) → r .on ≡ false
-      → ((c : ℕ) → insertLines n m hs c (linesOf (drop from s)) ≡ insertTurn ks (r .answer) (c + r .count))
-      → (Good n m hs → Good n m ks) → P ks → Takes n m s from hs r P
+      → ((c : ℕ) → insertLines by hs c (linesOf (drop from s)) ≡ insertTurn ks (r .answer) (c + r .count))
+      → (Good (by .index) (by .text) hs → Good (by .index) (by .text) ks) → P ks → Takes by s from hs r P
 
 -- how far it went; f numbers were taken before
 pub record Went (s : List ℕ) (from f : ℕ) (r : Walked) : Type 0 where
@@ -238,17 +239,17 @@ pub record Went (s : List ℕ) (from f : ℕ) (r : Walked) : Type 0 where
   pub counted : from + r .count ≤ r .at
   pub moved : f < rowsMax → from < length s → r .on ≡ true → from < r .at
 
-abbrev pub TakesLines : List ℕ → List ℕ → List ℕ → List ℕ → List ℕ → List ℕ → ℕ → Fill → List ℕ → Walked → Type 0
-TakesLines i t s a heads next from f a′ r =
+abbrev pub TakesLines : List ℕ → List ℕ → List ℕ → List ℕ → List ℕ → List ℕ → ℕ → ℕ → Fill → List ℕ → Walked → Type 0
+TakesLines i t s a heads next o from f a′ r =
     (old : ℕ) (hs : List Held) → InRows i t s a heads next old f hs
-    → Takes (length i) (length t) s from hs r (Tabled i t s a′ old (r .filled))
+    → Takes (caller (length i) (length t) o) s from hs r (Tabled i t s a′ old (r .filled))
 
 -- the buffers encode those lines
 pub record Encoded (n m : ℕ) (i t : List ℕ) (hs : List Held) : Type 0 where
   pub index : i ≡ encodeIndex n hs
   pub text : t ≡ encodeText m hs
 
-abbrev pub Batches : List ℕ → List ℕ → List ℕ → ℕ → Walked → List ℕ → List ℕ → Type 0
-Batches i t s from r i′ t′ =
+abbrev pub Batches : List ℕ → List ℕ → ℕ → List ℕ → ℕ → Walked → List ℕ → List ℕ → Type 0
+Batches i t o s from r i′ t′ =
     (hs : List Held) → decode i t ≡ some hs
-    → Takes (length i) (length t) s from hs r (Encoded (length i) (length t) i′ t′)
+    → Takes (caller (length i) (length t) o) s from hs r (Encoded (length i) (length t) i′ t′)

@@ -2,6 +2,7 @@
 use crate::calls::Answer;
 use crate::lines::line_length;
 use crate::lines::wanted;
+use crate::parties::Key;
 use crate::rows::CELLS;
 use crate::rows::ROWS;
 use crate::search::find_far;
@@ -48,7 +49,7 @@ fn stop(answer: Answer, fill: Fill) -> Step
     }
 }
 
-// One line of an insert.
+// One line of an owner's insert.
 fn reach_row(
     index: &[u8],
     text: &[u8],
@@ -57,6 +58,7 @@ fn reach_row(
     heads: &mut [u16; ROWS],
     next: &mut [u16; ROWS],
     fill: Fill,
+    owner: u8,
     at: usize,
     len: usize,
 ) -> Step
@@ -68,7 +70,8 @@ fn reach_row(
     ensures { λ r. ⌜
         ReachesRow (now (index .entry)) (now (text .entry))
         (now (lines .entry))
-        (now (rows .entry)) (now (heads .entry)) (now (next .entry)) fill (take len (drop at (now (lines .entry))))
+        (now (rows .entry)) (now (heads .entry)) (now (next .entry)) fill owner
+        (take len (drop at (now (lines .entry))))
         (now (rows .exit)) (now (heads .exit)) (now (next .exit)) r ⌝ }
 {
     let UuidParse::Parsed(spelled) = wanted(&lines[at..at + len]) else {
@@ -82,7 +85,8 @@ fn reach_row(
         return stop(Answer::LineTooLong, fill);
     }
     let uuid = spelled.id;
-    let filled = file_row(index, text, rows, heads, next, fill, uuid, at, len);
+    let key = Key { owner, uuid };
+    let filled = file_row(index, text, rows, heads, next, fill, key, at, len);
     if filled.count == fill.count {
         return stop(Answer::NoRoom, fill);
     }
@@ -116,6 +120,7 @@ fn take_lines(
     heads: &mut [u16; ROWS],
     next: &mut [u16; ROWS],
     first: Fill,
+    owner: u8,
     from: usize,
 ) -> Walked
     requires { ⌜ from ≤ length (now lines) + 1 ⌝ }
@@ -126,7 +131,7 @@ fn take_lines(
     ensures { λ r. ⌜
         TakesLines (now (index .entry)) (now (text .entry))
         (now (lines .entry))
-        (now (rows .entry)) (now (heads .entry)) (now (next .entry)) from first
+        (now (rows .entry)) (now (heads .entry)) (now (next .entry)) owner from first
         (now (rows .exit)) r ⌝ }
     ensures { λ r. ⌜ Went (now (lines .entry)) from (first .count) r ⌝ }
 {
@@ -137,7 +142,18 @@ fn take_lines(
         let end = find_far(&lines[at..], b'\n');
         let len = line_length(&lines[at..], end);
         let start = at;
-        let step = reach_row(index, text, lines, rows, heads, next, fill, start, len);
+        let step = reach_row(
+            index,
+            text,
+            lines,
+            rows,
+            heads,
+            next,
+            fill,
+            owner,
+            start,
+            len,
+        );
         fill = step.fill;
         if !step.on {
             let answer = step.answer;
@@ -150,11 +166,17 @@ fn take_lines(
 }
 
 // Files the lines from a place on, into a sound store, as far as there are numbers for them.
-pub fn insert_batch(index: &mut [u8], text: &mut [u8], lines: &[u8], from: usize) -> Walked
+pub fn insert_batch(
+    index: &mut [u8],
+    text: &mut [u8],
+    owner: u8,
+    lines: &[u8],
+    from: usize,
+) -> Walked
     requires { ⌜ known (decode (now index) (now text)) ≡ true ⌝ }
     requires { ⌜ from ≤ length (now lines) + 1 ⌝ }
     ensures { λ r. ⌜
-        Batches (now (index .entry)) (now (text .entry)) (now (lines .entry)) from r (now (index .exit))
+        Batches (now (index .entry)) (now (text .entry)) owner (now (lines .entry)) from r (now (index .exit))
         (now (text .exit)) ⌝ }
     ensures { λ r. ⌜ Went (now (lines .entry)) from 0 r ⌝ }
 {
@@ -171,6 +193,7 @@ pub fn insert_batch(index: &mut [u8], text: &mut [u8], lines: &[u8], from: usize
         &mut heads,
         &mut next,
         fill,
+        owner,
         from,
     );
     let count = part.filled;

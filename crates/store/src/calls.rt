@@ -2,6 +2,10 @@
 use crate::batch::insert_batch;
 use crate::bytes::zero_all;
 use crate::look::look;
+use crate::owners::Owner;
+use crate::owners::owner_of;
+use crate::parties::Key;
+use crate::parties::Party;
 use crate::saving::file_built;
 use crate::saving::refused_save;
 use crate::saving::saved_as;
@@ -23,7 +27,7 @@ ghost use mathlib.Core.Path.{_≡_};
 ghost use Rattle.store.specs.Saves.{saveArgs, storeSave};
 ghost use Rattle.store.specs.Store.{storeClear, storeWalk, storeInsert, lookUp, lineOf, saysOf};
 
-// What a call answers; `NotUtf8` with the length of the text's valid run.
+// What a call answers; `NotUtf8` with the length of the text's valid run, `NoOwner` where an organiser names itself 0.
 pub enum Answer {
     Done,
     NotUtf8(usize),
@@ -31,6 +35,7 @@ pub enum Answer {
     LineTooLong,
     NoRoom,
     BufferTooLarge,
+    NoOwner,
 }
 
 // What a walk over the lines of an insert comes to: the answer, and the lines walked.
@@ -53,6 +58,7 @@ pub enum SaveAnswer {
     UnsavedName,
     Unsound,
     NoRoom,
+    NoOwner,
 }
 
 // A save's answer, and its map.
@@ -61,26 +67,34 @@ pub struct Saved {
     pub map: Mapping,
 }
 
-// What a look-up says: a line is held, none is, or the store is not sound.
+// What a look-up says: the party holds a line, it holds none, the store is not sound, or an organiser names itself 0.
 pub enum Look {
     Found,
     Missing,
     Unsound,
+    NoOwner,
 }
 
-// Whether a line is held under that UUID.
-pub fn found(index: &[u8], text: &[u8], uuid: Uuid) -> Look
-    ensures { λ r. ⌜ r ≡ saysOf (lookUp uuid (now (index .entry)) (now (text .entry))) ⌝ }
+// Whether a party holds a line under that UUID.
+pub fn found(index: &[u8], text: &[u8], party: Party, uuid: Uuid) -> Look
+    ensures { λ r. ⌜ r ≡ saysOf (lookUp party uuid (now (index .entry)) (now (text .entry))) ⌝ }
 {
-    let seen = look(index, text, uuid);
+    let Owner::Byte(owner) = owner_of(party) else {
+        return Look::NoOwner;
+    };
+    let seen = look(index, text, Key { owner, uuid });
     seen.how
 }
 
-// The line held under a UUID, as a part of the text; an empty part where none is held, or the store is not sound.
-pub fn get<'a>(index: &[u8], text: &'a [u8], uuid: Uuid) -> &'a [u8]
-    ensures { λ r. ⌜ now r ≡ lineOf (lookUp uuid (now (index .entry)) (now (text .entry))) ⌝ }
+// The line that a party holds under a UUID, as a part of the text; an empty part where it holds none, the store is not
+// sound, or an organiser names itself 0.
+pub fn get<'a>(index: &[u8], text: &'a [u8], party: Party, uuid: Uuid) -> &'a [u8]
+    ensures { λ r. ⌜ now r ≡ lineOf (lookUp party uuid (now (index .entry)) (now (text .entry))) ⌝ }
 {
-    let seen = look(index, text, uuid);
+    let Owner::Byte(owner) = owner_of(party) else {
+        return &text[0..0];
+    };
+    let seen = look(index, text, Key { owner, uuid });
     let offset = seen.start;
     let length = seen.len;
     &text[offset..offset + length]
@@ -103,11 +117,11 @@ pub fn clear(index: &mut [u8], text: &mut [u8]) -> Answer
     Answer::Done
 }
 
-// An insert, but for the number of lines in another form than 32 digits.
-fn walk_insert(index: &mut [u8], text: &mut [u8], lines: &[u8]) -> Tally
+// Files the wanted lines of a text for an owner, in order, up to one that is too long or has no room.
+fn walk_insert(index: &mut [u8], text: &mut [u8], owner: u8, lines: &[u8]) -> Tally
     ensures { λ r. ⌜
         record { answer = r; index = now (index .exit); text = now (text .exit) }
-        ≡ storeWalk (now (index .entry)) (now (text .entry)) (now (lines .entry)) ⌝ }
+        ≡ storeWalk (now (index .entry)) (now (text .entry)) owner (now (lines .entry)) ⌝ }
 {
     if !sound(index, text) {
         return Tally {
@@ -124,7 +138,7 @@ fn walk_insert(index: &mut [u8], text: &mut [u8], lines: &[u8]) -> Tally
     let mut at = 0;
     let mut count = 0;
     while at < lines.len() {
-        let part = insert_batch(index, text, lines, at);
+        let part = insert_batch(index, text, owner, lines, at);
         count += part.count;
         if !part.on {
             let answer = part.answer;
@@ -138,14 +152,20 @@ fn walk_insert(index: &mut [u8], text: &mut [u8], lines: &[u8]) -> Tally
     }
 }
 
-// Files the wanted lines of a text, in order, up to one that is too long or has no room; tells how many of those it filed
-// spell the UUID in another form than 32 digits.
-pub fn insert(index: &mut [u8], text: &mut [u8], lines: &[u8]) -> Inserted
+// The same for a party, with the number of lines that were filed in another form of the UUID than 32 digits.
+pub fn insert(index: &mut [u8], text: &mut [u8], party: Party, lines: &[u8]) -> Inserted
     ensures { λ r. ⌜
         record { answer = r; index = now (index .exit); text = now (text .exit) }
-        ≡ storeInsert (now (index .entry)) (now (text .entry)) (now (lines .entry)) ⌝ }
+        ≡ storeInsert (now (index .entry)) (now (text .entry)) party (now (lines .entry)) ⌝ }
 {
-    let walked = walk_insert(index, text, lines);
+    let Owner::Byte(owner) = owner_of(party) else {
+        return Inserted {
+            answer: Answer::NoOwner,
+            count: 0,
+            not_simple: 0,
+        };
+    };
+    let walked = walk_insert(index, text, owner, lines);
     let answer = walked.answer;
     let count = walked.count;
     let not_simple = other_spellings(lines, count);
@@ -156,10 +176,11 @@ pub fn insert(index: &mut [u8], text: &mut [u8], lines: &[u8]) -> Inserted
     }
 }
 
-// Builds a line and files it.
+// Builds a line and files it for a party.
 pub fn save(
     index: &mut [u8],
     text: &mut [u8],
+    party: Party,
     data: MappingData,
     buttons: &[u32],
     axes: &[u32],
@@ -168,9 +189,12 @@ pub fn save(
 ) -> Saved
     ensures { λ r. ⌜
         record { answer = r; index = now (index .exit); text = now (text .exit) }
-        ≡ storeSave (now (index .entry)) (now (text .entry))
+        ≡ storeSave (now (index .entry)) (now (text .entry)) party
         (saveArgs «data» (now (buttons .entry)) (now (axes .entry)) (now (name .entry)) uuid) ⌝ }
 {
+    let Owner::Byte(owner) = owner_of(party) else {
+        return refused_save(SaveAnswer::NoOwner);
+    };
     let mut scratch = [0u8; LINE_MAX];
     let built = from_data(data, buttons, axes, name, uuid, &mut scratch);
     let answer = built.answer;
@@ -181,7 +205,7 @@ pub fn save(
         return refused_save(SaveAnswer::UnsavedName);
     }
     let len = built.len;
-    let filed = file_built(index, text, uuid, &scratch[0..len]);
+    let filed = file_built(index, text, Key { owner, uuid }, &scratch[0..len]);
     let map = built.map;
     saved_as(filed, map)
 }

@@ -1,10 +1,10 @@
 // Keys by number, which is that of their row: chains of the numbers, one for each bucket, show whether a key stands
 // twice. Nothing here knows a record's bytes.
+use crate::parties::Key;
 use crate::rows::CELLS;
 use crate::rows::ROWS;
 use crate::rows::key_at;
 use crate::rows::same_at;
-use text::uuid::Uuid;
 ghost use mathlib.Core.Path.{_≡_};
 ghost use mathlib.Core.Bool.{true, false};
 ghost use Prim.Native.Nat.{ℕ, suc, _+_, _-_, _≤_, _<_};
@@ -30,10 +30,12 @@ pub fn number(x: u16) -> usize
 }
 
 // A number below `ROWS` that the key gives.
-fn bucket_of(key: Uuid) -> usize
+fn bucket_of(key: Key) -> usize
     ensures { λ r. ⌜ (r ≡ bucket key) × (r < rowsMax) ⌝ }
 {
-    ((31 * (key.high % 65521) + key.low % 65521) % 4096) as usize
+    let uuid = key.uuid;
+    let owner = key.owner as u64;
+    ((31 * (uuid.high % 65521) + uuid.low % 65521 + 7919 * owner) % 4096) as usize
 }
 
 // Seeks the key of number k in the chain that starts before `from`: one more than the number that has it, 0 where none

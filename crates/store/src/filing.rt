@@ -1,16 +1,15 @@
 // Filing one line in a sound store: by number, as an insert does.
+use crate::parties::Key;
 use crate::rows::CELLS;
 use crate::rows::ROWS;
 use crate::settle::settle;
 use crate::table::Fill;
 use crate::table::file_row;
-use text::uuid::Uuid;
 ghost use mathlib.Core.Path.{_≡_};
 ghost use mathlib.Core.Bool.{true};
 ghost use Prim.Native.Nat.{ℕ, suc, _+_, _-_, _≤_, _<_};
 ghost use lib.ListN.{length, take, drop};
 ghost use Rattle.store.specs.Held.{lineMax};
-ghost use Rattle.store.specs.Book.{under};
 ghost use Rattle.store.specs.Decode.{decode};
 ghost use Rattle.store.specs.Inner.{known, Files};
 ghost use Rattle.store.specs.Keys.{rowsMax};
@@ -25,7 +24,7 @@ pub fn file_line(
     heads: &mut [u16; ROWS],
     next: &mut [u16; ROWS],
     fill: Fill,
-    key: Uuid,
+    key: Key,
     line: &[u8],
 ) -> bool
     requires { ⌜ known (decode (now index) (now text)) ≡ true ⌝ }
@@ -35,7 +34,7 @@ pub fn file_line(
         (now rows) (now heads) (now next)
         fill × (fill .count < rowsMax) ⌝ }
     ensures { λ r. ⌜
-        Files (now (index .entry)) (now (text .entry)) (under key (now (line .entry))) r
+        Files (now (index .entry)) (now (text .entry)) (record { key = key; line = now (line .entry) }) r
         (now (index .exit)) (now (text .exit)) ⌝ }
 {
     let len = line.len();

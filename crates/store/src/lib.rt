@@ -8,6 +8,8 @@ mod lines;
 mod look;
 pub mod near;
 mod order;
+mod owners;
+pub mod parties;
 mod records;
 pub mod refusal;
 mod rows;

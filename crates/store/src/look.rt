@@ -1,6 +1,7 @@
 // A look-up: the line of a key, by number.
 use crate::calls::Look;
 use crate::chains::seek_before;
+use crate::parties::Key;
 use crate::rows::CELLS;
 use crate::rows::ROWS;
 use crate::rows::put_row;
@@ -8,7 +9,6 @@ use crate::rows::start_at;
 use crate::soundness::take_stock;
 use crate::table::Fill;
 use crate::table::len_before;
-use text::uuid::Uuid;
 ghost use mathlib.Core.Path.{_≡_};
 ghost use Prim.Native.Nat.{_<_};
 ghost use Rattle.store.specs.Keys.{rowsMax};
@@ -35,7 +35,7 @@ pub fn part_of(
     heads: &[u16; ROWS],
     next: &[u16; ROWS],
     fill: Fill,
-    key: Uuid,
+    key: Key,
 ) -> Part
     requires { ⌜ fill .count < rowsMax ⌝ }
     requires { ⌜ Ready (now rows) (now heads) (now next) (fill .count) ⌝ }
@@ -56,7 +56,7 @@ pub fn part_of(
 }
 
 // Looks a key up in the lines of the store, which are written down.
-pub fn look(index: &[u8], text: &[u8], key: Uuid) -> Seen
+pub fn look(index: &[u8], text: &[u8], key: Key) -> Seen
     ensures { λ r. ⌜ Sees (now (index .entry)) (now (text .entry)) key r ⌝ }
 {
     let mut rows = [0u64; CELLS];

@@ -1,5 +1,9 @@
 // A look-up that also tries a UUID without its checksum (document 02, P5). Both tries go by one walk over the store.
 use crate::look::part_of;
+use crate::owners::Owner;
+use crate::owners::owner_of;
+use crate::parties::Key;
+use crate::parties::Party;
 use crate::rows::CELLS;
 use crate::rows::ROWS;
 use crate::soundness::take_stock;
@@ -8,16 +12,17 @@ use text::uuid::Uuid;
 ghost use mathlib.Core.Path.{_≡_};
 ghost use Prim.Native.Nat.{_<_};
 ghost use Rattle.store.specs.Keys.{rowsMax};
-ghost use Rattle.store.specs.Near.{nearUp, nearSays, nearLine};
+ghost use Rattle.store.specs.Near.{nearBy, nearUp, nearSays, nearLine};
 ghost use Rattle.store.specs.Sights.{Ready, NearSees, Tries};
 
-// What such a look-up says: a line is held under the whole UUID, one under that without its checksum alone, none is,
-// or the store is not sound.
+// What such a look-up says: the party holds a line under the whole UUID, one under that without its checksum alone, or
+// none; the store is not sound; or an organiser names itself 0.
 pub enum NearLook {
     Exact,
     Near,
     Missing,
     Unsound,
+    NoOwner,
 }
 
 // What a look-up says, and where in the text the line lies; length 0 where there is none.
@@ -33,13 +38,17 @@ fn try_both(
     heads: &[u16; ROWS],
     next: &[u16; ROWS],
     fill: Fill,
-    key: Uuid,
+    key: Key,
 ) -> NearSeen
     requires { ⌜ fill .count < rowsMax ⌝ }
     requires { ⌜ Ready (now rows) (now heads) (now next) (fill .count) ⌝ }
     ensures { λ r. ⌜ Tries (now (rows .entry)) (now (heads .entry)) (now (next .entry)) fill key r ⌝ }
 {
-    let plain = key.without_checksum();
+    let uuid = key.uuid;
+    let plain = Key {
+        owner: key.owner,
+        uuid: uuid.without_checksum(),
+    };
     let whole = part_of(rows, heads, next, fill, key);
     if 0 < whole.len {
         return NearSeen {
@@ -64,8 +73,8 @@ fn try_both(
 }
 
 // Writes the lines of the store down, and tries both.
-fn look_near(index: &[u8], text: &[u8], key: Uuid) -> NearSeen
-    ensures { λ r. ⌜ NearSees (now (text .entry)) (nearUp key (now (index .entry)) (now (text .entry))) r ⌝ }
+fn look_near(index: &[u8], text: &[u8], key: Key) -> NearSeen
+    ensures { λ r. ⌜ NearSees (now (text .entry)) (nearBy key (now (index .entry)) (now (text .entry))) r ⌝ }
 {
     let mut rows = [0u64; CELLS];
     let mut heads = [0u16; ROWS];
@@ -82,20 +91,26 @@ fn look_near(index: &[u8], text: &[u8], key: Uuid) -> NearSeen
     try_both(&mut rows, &heads, &next, fill, key)
 }
 
-// Whether a line is held under that UUID, or only under the same without its checksum.
-pub fn found_near(index: &[u8], text: &[u8], uuid: Uuid) -> NearLook
-    ensures { λ r. ⌜ r ≡ nearSays (nearUp uuid (now (index .entry)) (now (text .entry))) ⌝ }
+// Whether a party holds a line under that UUID, or only under the same without its checksum.
+pub fn found_near(index: &[u8], text: &[u8], party: Party, uuid: Uuid) -> NearLook
+    ensures { λ r. ⌜ r ≡ nearSays (nearUp party uuid (now (index .entry)) (now (text .entry))) ⌝ }
 {
-    let seen = look_near(index, text, uuid);
+    let Owner::Byte(owner) = owner_of(party) else {
+        return NearLook::NoOwner;
+    };
+    let seen = look_near(index, text, Key { owner, uuid });
     seen.how
 }
 
-// The line that such a look-up finds, as a part of the text; an empty part where it finds none, or the store is not
-// sound.
-pub fn get_near<'a>(index: &[u8], text: &'a [u8], uuid: Uuid) -> &'a [u8]
-    ensures { λ r. ⌜ now r ≡ nearLine (nearUp uuid (now (index .entry)) (now (text .entry))) ⌝ }
+// The line that such a look-up finds, as a part of the text; an empty part where it finds none, the store is not sound,
+// or an organiser names itself 0.
+pub fn get_near<'a>(index: &[u8], text: &'a [u8], party: Party, uuid: Uuid) -> &'a [u8]
+    ensures { λ r. ⌜ now r ≡ nearLine (nearUp party uuid (now (index .entry)) (now (text .entry))) ⌝ }
 {
-    let seen = look_near(index, text, uuid);
+    let Owner::Byte(owner) = owner_of(party) else {
+        return &text[0..0];
+    };
+    let seen = look_near(index, text, Key { owner, uuid });
     let offset = seen.start;
     let length = seen.len;
     &text[offset..offset + length]

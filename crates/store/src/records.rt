@@ -3,6 +3,7 @@ use crate::bytes::put_u64;
 use crate::bytes::put_word;
 use crate::bytes::u64_at;
 use crate::bytes::word_at;
+use crate::parties::Key;
 use text::uuid::Uuid;
 ghost use mathlib.Core.Path.{_≡_};
 ghost use mathlib.Core.Bool.{true, false};
@@ -10,21 +11,23 @@ ghost use mathlib.Core.List.{List, _∷_, _++_};
 ghost use Prim.Native.Nat.{ℕ, suc, _+_, _-_, _≤_, _<_};
 ghost use lib.ListN.{length, take, drop};
 ghost use Rattle.store.specs.Layout.{recordBytes};
-ghost use Rattle.store.specs.Decode.{noHead, headAt};
+ghost use Rattle.store.specs.Decode.{bodyAt, noHead, headAt};
 ghost use Rattle.store.specs.Inner.{bodySize, bodyBytes, HasRecord, Sized};
 
-// The bytes of a record: the kind, and 20 more.
-pub const RECORD_SIZE: usize = 21;
+// The bytes of a record of the hall: the kind, and 20 more; and of an organiser: the kind, the owner, and 20 more.
+pub const HALL_SIZE: usize = 21;
+
+pub const OWNED_SIZE: usize = 22;
 
 // What the record at an index's front says; size 0 where no whole one stands there.
 pub struct Head {
     pub size: usize,
-    pub key: Uuid,
+    pub key: Key,
     pub off: usize,
     pub len: usize,
 }
 
-// What a record says after its kind.
+// What a record says after its kind and owner.
 pub struct Body {
     pub uuid: Uuid,
     pub off: usize,
@@ -42,22 +45,47 @@ fn put_body(s: &mut [u8], uuid: Uuid, off: usize, len: usize)
     put_word(s, 18, len as u64);
 }
 
+// Reads the body of a record.
+fn read_body(s: &[u8]) -> Body
+    requires { ⌜ bodySize ≤ length (now s) ⌝ }
+    ensures { λ r. ⌜ r ≡ bodyAt (now (s .entry)) ⌝ }
+{
+    Body {
+        uuid: Uuid {
+            high: u64_at(s, 0),
+            low: u64_at(s, 8),
+        },
+        off: word_at(s, 16),
+        len: word_at(s, 18),
+    }
+}
+
 // The size of a record of that key.
-pub fn record_size(key: Uuid) -> usize
+pub fn record_size(key: Key) -> usize
     ensures { λ r. ⌜ Sized key r ⌝ }
 {
-    RECORD_SIZE
+    if key.owner == 0 {
+        return HALL_SIZE;
+    }
+    OWNED_SIZE
 }
 
 // Writes a record at the front.
-pub fn put_record(index: &mut [u8], key: Uuid, off: usize, len: usize)
+pub fn put_record(index: &mut [u8], key: Key, off: usize, len: usize)
     requires { ⌜ length (recordBytes key off len) ≤ length (now index) ⌝ }
     ensures { λ r. ⌜
         now (index .exit)
         ≡ recordBytes key off len ++ drop (length (recordBytes key off len)) (now (index .entry)) ⌝ }
 {
-    put_body(&mut index[1..], key, off, len);
-    index[0] = 1;
+    let uuid = key.uuid;
+    if key.owner == 0 {
+        put_body(&mut index[1..], uuid, off, len);
+        index[0] = 1;
+        return;
+    }
+    put_body(&mut index[2..], uuid, off, len);
+    index[0] = 3;
+    index[1] = key.owner;
 }
 
 // Whether a whole record stands at the front.
@@ -65,10 +93,39 @@ pub fn stands(index: &[u8]) -> bool
     ensures { λ r. ⌜
         (r ≡ true → HasRecord (now (index .entry))) × (r ≡ false → noHead ≡ headAt (now (index .entry))) ⌝ }
 {
-    if RECORD_SIZE > index.len() {
+    if index.len() < HALL_SIZE {
         return false;
     }
-    index[0] == 1
+    if index[0] == 1 {
+        return true;
+    }
+    if index[0] != 3 {
+        return false;
+    }
+    if index.len() < OWNED_SIZE {
+        return false;
+    }
+    index[1] != 0
+}
+
+// What a record of that size and owner says, by its body.
+fn head_with(size: usize, owner: u8, body: Body) -> Head
+    ensures { λ r. ⌜
+        r
+        ≡ record {
+          size = size;
+          key = record { owner = owner; uuid = body .uuid };
+          off = body .off;
+          len = body .len;
+        } ⌝ }
+{
+    let uuid = body.uuid;
+    Head {
+        size,
+        key: Key { owner, uuid },
+        off: body.off,
+        len: body.len,
+    }
 }
 
 // What the whole record at the front says.
@@ -76,13 +133,11 @@ pub fn whole_head(index: &[u8]) -> Head
     requires { ⌜ HasRecord (now index) ⌝ }
     ensures { λ r. ⌜ r ≡ headAt (now (index .entry)) ⌝ }
 {
-    Head {
-        size: RECORD_SIZE,
-        key: Uuid {
-            high: u64_at(index, 1),
-            low: u64_at(index, 9),
-        },
-        off: word_at(index, 17),
-        len: word_at(index, 19),
+    if index[0] == 1 {
+        let body = read_body(&index[1..]);
+        return head_with(HALL_SIZE, 0, body);
     }
+    let owner = index[1];
+    let body = read_body(&index[2..]);
+    head_with(OWNED_SIZE, owner, body)
 }

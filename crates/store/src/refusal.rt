@@ -28,6 +28,7 @@ impl Answer {
             Answer::LineTooLong => Outcome::Refuses(Refusal::plain(20)),
             Answer::NoRoom => Outcome::Refuses(Refusal::plain(21)),
             Answer::BufferTooLarge => Outcome::Refuses(Refusal::plain(23)),
+            Answer::NoOwner => Outcome::Refuses(Refusal::plain(24)),
         }
     }
 }
@@ -43,6 +44,7 @@ impl SaveAnswer {
             SaveAnswer::UnsavedName => Outcome::Refuses(Refusal::plain(22)),
             SaveAnswer::Unsound => Outcome::Refuses(Refusal::plain(19)),
             SaveAnswer::NoRoom => Outcome::Refuses(Refusal::plain(21)),
+            SaveAnswer::NoOwner => Outcome::Refuses(Refusal::plain(24)),
         }
     }
 }
@@ -56,6 +58,7 @@ impl Look {
             Look::Found => LookOutcome::Finds,
             Look::Missing => LookOutcome::FindsNone,
             Look::Unsound => LookOutcome::CannotLook(Refusal::plain(19)),
+            Look::NoOwner => LookOutcome::CannotLook(Refusal::plain(24)),
         }
     }
 }
@@ -71,6 +74,7 @@ impl NearLook {
             NearLook::Near => Outcome::Passes,
             NearLook::Missing => Outcome::Passes,
             NearLook::Unsound => Outcome::Refuses(Refusal::plain(19)),
+            NearLook::NoOwner => Outcome::Refuses(Refusal::plain(24)),
         }
     }
 }

@@ -1,4 +1,5 @@
 // The rows of a table, in one array: a line's key, where it starts, and its length. Only this file knows how they lie.
+use crate::parties::Key;
 use text::uuid::Uuid;
 ghost use mathlib.Core.Path.{_≡_};
 ghost use Prim.Native.Nat.{_<_};
@@ -9,19 +10,22 @@ ghost use Rattle.store.specs.Rows.{keyIn, startIn, lenIn, rowPut, lenPut
 // The most rows: more than an index of 65535 bytes has records.
 pub const ROWS: usize = 4096;
 
-// The numbers of a row (high half, low half, start, length), and of all rows.
-pub const ROW: usize = 4;
+// The numbers of a row (high half, low half, start, length, owner), and of all rows.
+pub const ROW: usize = 5;
 
 pub const CELLS: usize = ROW * ROWS;
 
 // The key of row k.
-pub fn key_at(rows: &[u64; CELLS], k: usize) -> Uuid
+pub fn key_at(rows: &[u64; CELLS], k: usize) -> Key
     requires { ⌜ k < rowsMax ⌝ }
     ensures { λ r. ⌜ r ≡ keyIn (now (rows .entry)) k ⌝ }
 {
-    Uuid {
-        high: rows[ROW * k],
-        low: rows[ROW * k + 1],
+    Key {
+        owner: (rows[ROW * k + 4] % 256) as u8,
+        uuid: Uuid {
+            high: rows[ROW * k],
+            low: rows[ROW * k + 1],
+        },
     }
 }
 
@@ -42,14 +46,17 @@ pub fn len_at(rows: &[u64; CELLS], k: usize) -> usize
 }
 
 // Writes row k.
-pub fn put_row(rows: &mut [u64; CELLS], k: usize, key: Uuid, start: usize, len: usize)
+pub fn put_row(rows: &mut [u64; CELLS], k: usize, key: Key, start: usize, len: usize)
     requires { ⌜ k < rowsMax ⌝ }
     ensures { λ r. ⌜ now (rows .exit) ≡ rowPut (now (rows .entry)) k key start len ⌝ }
+    ensures { λ r. ⌜ key .owner < 256 ⌝ }
 {
-    rows[ROW * k] = key.high;
-    rows[ROW * k + 1] = key.low;
+    let uuid = key.uuid;
+    rows[ROW * k] = uuid.high;
+    rows[ROW * k + 1] = uuid.low;
     rows[ROW * k + 2] = start as u64;
     rows[ROW * k + 3] = len as u64;
+    rows[ROW * k + 4] = key.owner as u64;
 }
 
 // Writes the length of row k.
@@ -65,8 +72,15 @@ pub fn same_at(rows: &[u64; CELLS], a: usize, b: usize) -> bool
     requires { ⌜ (a < rowsMax) × (b < rowsMax) ⌝ }
     ensures { λ r. ⌜ r ≡ sameKey (keyIn (now (rows .entry)) a) (keyIn (now (rows .entry)) b) ⌝ }
 {
-    if rows[ROW * a] != rows[ROW * b] {
+    let x = key_at(rows, a);
+    let y = key_at(rows, b);
+    let p = x.uuid;
+    let q = y.uuid;
+    if x.owner != y.owner {
         return false;
     }
-    rows[ROW * a + 1] == rows[ROW * b + 1]
+    if p.high != q.high {
+        return false;
+    }
+    p.low == q.low
 }

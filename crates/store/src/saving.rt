@@ -3,27 +3,26 @@ use crate::calls::Answer;
 use crate::calls::SaveAnswer;
 use crate::calls::Saved;
 use crate::filing::file_line;
+use crate::parties::Key;
 use crate::rows::CELLS;
 use crate::rows::ROWS;
 use crate::search::find_text;
 use crate::soundness::take_stock;
 use line::mapping::Mapping;
 use text::bytes::find_byte;
-use text::uuid::Uuid;
 ghost use mathlib.Core.Path.{_≡_};
 ghost use Prim.Native.Nat.{_≤_};
 ghost use lib.ListN.{length};
 ghost use Rattle.store.specs.Held.{lineMax};
-ghost use Rattle.store.specs.Book.{under};
 ghost use Rattle.store.specs.Inner.{storeFile, saidBy};
 ghost use Rattle.store.specs.Saves.{unsavedName, refusedSave};
 
-// Files a line that was built under its UUID, unless the store is not sound or has no room.
-pub fn file_built(index: &mut [u8], text: &mut [u8], uuid: Uuid, line: &[u8]) -> Answer
+// Files a line that was built under its key, unless the store is not sound or has no room.
+pub fn file_built(index: &mut [u8], text: &mut [u8], key: Key, line: &[u8]) -> Answer
     requires { ⌜ (1 ≤ length (now line)) × (length (now line) ≤ lineMax) ⌝ }
     ensures { λ r. ⌜
         record { answer = r; index = now (index .exit); text = now (text .exit) }
-        ≡ storeFile (now (index .entry)) (now (text .entry)) (under uuid (now (line .entry))) ⌝ }
+        ≡ storeFile (now (index .entry)) (now (text .entry)) (record { key = key; line = now (line .entry) }) ⌝ }
 {
     let mut rows = [0u64; CELLS];
     let mut heads = [0u16; ROWS];
@@ -40,7 +39,7 @@ pub fn file_built(index: &mut [u8], text: &mut [u8], uuid: Uuid, line: &[u8]) ->
         &mut heads,
         &mut next,
         fill,
-        uuid,
+        key,
         line,
     ) {
         return Answer::NoRoom;
@@ -82,5 +81,6 @@ pub fn saved_as(filed: Answer, map: Mapping) -> Saved
         Answer::NotUtf8(_) => refused_save(SaveAnswer::Unsound),
         Answer::LineTooLong => refused_save(SaveAnswer::Unsound),
         Answer::BufferTooLarge => refused_save(SaveAnswer::Unsound),
+        Answer::NoOwner => refused_save(SaveAnswer::Unsound),
     }
 }

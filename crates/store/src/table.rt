@@ -1,12 +1,12 @@
 // Lines by number: a row for each, and chains by the keys. A line that is struck out keeps its row, with length 0.
 use crate::chains::link;
+use crate::parties::Key;
 use crate::records::record_size;
 use crate::rows::CELLS;
 use crate::rows::ROWS;
 use crate::rows::len_at;
 use crate::rows::put_len;
 use crate::rows::put_row;
-use text::uuid::Uuid;
 ghost use mathlib.Core.Path.{_≡_};
 ghost use mathlib.Core.List.{List};
 ghost use Prim.Native.Nat.{ℕ, suc, _+_, _-_, _≤_, _<_};
@@ -30,7 +30,7 @@ pub fn add_row(
     heads: &mut [u16; ROWS],
     next: &mut [u16; ROWS],
     n: usize,
-    key: Uuid,
+    key: Key,
     start: usize,
     len: usize,
     most: usize,
@@ -38,7 +38,7 @@ pub fn add_row(
     requires { ⌜ n < rowsMax ⌝ }
     requires { ⌜ Chained (keyIn (now rows)) (now heads) (now next) n ⌝ }
     ensures { λ r. ⌜
-        now (rows .exit) ≡ rowPut (now (rows .entry)) n key start len ⌝ }
+        (now (rows .exit) ≡ rowPut (now (rows .entry)) n key start len) × (key .owner < 256) ⌝ }
     ensures { λ r. ⌜ Sought (keyIn (now (rows .exit))) n r × (rowsMax ≤ most → r ≤ n) ⌝ }
     ensures { λ r. ⌜
         Chained (keyIn (now (rows .exit))) (now (heads .exit)) (now (next .exit)) (n + 1) ⌝ }
@@ -70,7 +70,7 @@ fn strike_before(rows: &mut [u64; CELLS], r: usize)
 }
 
 // Where the records end with one more of that key; a line of length `had` is struck out for it, or none where it is 0.
-fn end_with(end: usize, had: usize, key: Uuid) -> usize
+fn end_with(end: usize, had: usize, key: Key) -> usize
     requires { ⌜ end ≤ indexMax ⌝ }
     ensures { λ r. ⌜ Ends end had key r ⌝ }
 {
@@ -89,7 +89,7 @@ pub fn file_row(
     heads: &mut [u16; ROWS],
     next: &mut [u16; ROWS],
     fill: Fill,
-    key: Uuid,
+    key: Key,
     start: usize,
     len: usize,
 ) -> Fill

@@ -1,11 +1,17 @@
-//! Document 01's store and book in plain Rust.
+//! Document 01's store and book in plain Rust; a line is held under its owner and its UUID (document 02, P9).
 use crate::doc01;
-use crate::plain::{refusal, refusal_at, Map, Refusal, Slots, Uuid};
+use crate::plain::{owner, refusal, refusal_at, Map, Party, Refusal, Slots, Uuid};
 
 pub const INDEX_MAX: usize = 65535;
 pub const TEXT_MAX: usize = 65535;
 pub const LINE_MAX: usize = 16384;
-pub const RECORD: usize = 21;
+/// An owner, 0 being the hall, and a UUID.
+pub type Key = (u8, Uuid);
+
+/// The bytes of a record: the hall's, or an organiser's.
+pub fn record(k: Key) -> usize {
+    if k.0 == 0 { 21 } else { 22 }
+}
 
 /// The lines of a text: cut at LF, one CR before it dropped, nothing after a final LF.
 pub fn lines(text: &[u8]) -> Vec<&[u8]> {
@@ -34,7 +40,7 @@ pub fn wanted(line: &[u8]) -> Option<Uuid> {
 pub struct Book {
     pub index: usize,
     pub text: usize,
-    pub lines: Vec<(Uuid, Vec<u8>)>,
+    pub lines: Vec<(Key, Vec<u8>)>,
 }
 
 impl Book {
@@ -47,19 +53,24 @@ impl Book {
     }
 
     /// False: no room.
-    fn file(&mut self, u: Uuid, line: &[u8]) -> bool {
-        let held: Vec<_> = self.lines.iter().filter(|l| l.0 != u).collect();
+    fn file(&mut self, k: Key, line: &[u8]) -> bool {
+        let held: Vec<_> = self.lines.iter().filter(|l| l.0 != k).collect();
+        let records: usize = held.iter().map(|l| record(l.0)).sum();
         let bytes: usize = held.iter().map(|l| l.1.len()).sum();
-        if RECORD * (held.len() + 1) > self.index || bytes + line.len() > self.text {
+        if records + record(k) > self.index || bytes + line.len() > self.text {
             return false;
         }
-        self.lines.retain(|l| l.0 != u);
-        self.lines.push((u, line.to_vec()));
+        self.lines.retain(|l| l.0 != k);
+        self.lines.push((k, line.to_vec()));
         true
     }
 
     /// A refusal, if any, the number of lines walked, and of those filed in another form than 32 digits (P11).
-    pub fn insert(&mut self, text: &[u8]) -> (Option<Refusal>, usize, usize) {
+    pub fn insert(&mut self, p: Party, text: &[u8]) -> (Option<Refusal>, usize, usize) {
+        let owner = match owner(p) {
+            Ok(owner) => owner,
+            Err(r) => return (Some(r), 0, 0),
+        };
         if let Err(e) = std::str::from_utf8(text) {
             return (Some(refusal_at(10, e.valid_up_to())), 0, 0);
         }
@@ -69,7 +80,7 @@ impl Book {
                 if line.len() > LINE_MAX {
                     return (Some(refusal(20)), n, others);
                 }
-                if !self.file(u, line) {
+                if !self.file((owner, u), line) {
                     return (Some(refusal(21)), n, others);
                 }
                 others += usize::from(line.split(|b| *b == b',').next().unwrap().len() != 32);
@@ -79,29 +90,35 @@ impl Book {
         (None, n, others)
     }
 
-    /// Build's answer, or 22 or 21; the line is filed where nothing is refused.
+    /// 24, build's answer, or 22 or 21; the line is filed where nothing is refused.
     pub fn save(
-        &mut self, slots: &Slots, buttons: &[u32], axes: &[u32], name: &[u8], uuid: Uuid,
+        &mut self, p: Party, slots: &Slots, buttons: &[u32], axes: &[u32], name: &[u8], uuid: Uuid,
     ) -> Result<Map, Refusal> {
+        let owner = owner(p)?;
         let (m, line) = doc01::build(slots, buttons, axes, name, uuid)?;
         if unsaved(name) {
             return Err(refusal(22));
         }
-        if !self.file(uuid, &line) {
+        if !self.file((owner, uuid), &line) {
             return Err(refusal(21));
         }
         Ok(m)
     }
 
-    pub fn get(&self, u: Uuid) -> Option<Vec<u8>> {
-        self.lines.iter().find(|l| l.0 == u).map(|l| l.1.clone())
+    /// The line that a party holds, or 24.
+    pub fn get(&self, p: Party, u: Uuid) -> Result<Option<Vec<u8>>, Refusal> {
+        let key = (owner(p)?, u);
+        Ok(self.lines.iter().find(|l| l.0 == key).map(|l| l.1.clone()))
     }
 
     /// The two buffers that encode the list.
     pub fn buffers(&self) -> (Vec<u8>, Vec<u8>) {
         let (mut index, mut text) = (Vec::with_capacity(self.index), Vec::with_capacity(self.text));
-        for (u, l) in &self.lines {
-            index.push(1);
+        for ((o, u), l) in &self.lines {
+            match o {
+                0 => index.push(1),
+                _ => index.extend_from_slice(&[3, *o]),
+            }
             index.extend_from_slice(u);
             index.extend_from_slice(&(text.len() as u16).to_be_bytes());
             index.extend_from_slice(&(l.len() as u16).to_be_bytes());
@@ -119,17 +136,19 @@ impl Book {
         }
         let mut b = Book::new(index.len(), text.len());
         let (mut at, mut used) = (0, 0);
-        while at + RECORD <= index.len() && index[at] == 1 {
-            let u: Uuid = index[at + 1..at + 17].try_into().unwrap();
-            let n = u16::from_be_bytes([index[at + 19], index[at + 20]]) as usize;
-            if n == 0 || n > LINE_MAX || used + n > text.len() || b.get(u).is_some() {
+        while let Some(&kind) = index.get(at).filter(|k| [1, 3].contains(k)) {
+            let (owner, body) = if kind == 1 { (0, at + 1) } else { (*index.get(at + 1)?, at + 2) };
+            let body = index.get(body..body + 20)?;
+            let key = (owner, Uuid::try_from(&body[..16]).unwrap());
+            let n = u16::from_be_bytes([body[18], body[19]]) as usize;
+            if n == 0 || n > LINE_MAX || used + n > text.len() || b.lines.iter().any(|l| l.0 == key) {
                 return None;
             }
-            b.lines.push((u, text[used..used + n].to_vec()));
+            b.lines.push((key, text[used..used + n].to_vec()));
             used += n;
-            at += RECORD;
+            at += if kind == 1 { 21 } else { 22 };
         }
-        // the encoding is unique: every other byte, offsets too, must be as `buffers` writes it
+        // the encoding is unique: every other byte, offsets and owners too, must be as `buffers` writes it
         (b.buffers() == (index.to_vec(), text.to_vec())).then_some(b)
     }
 }

@@ -40,6 +40,19 @@ pub struct Map {
 
 pub type Uuid = [u8; 16];
 
+/// Who calls a store (document 02, P9): an organiser by its owner byte, or the hall.
+pub type Party = Option<u8>;
+
+pub const HALL: Party = None;
+
+/// The owner of a party's lines, 0 being the hall's; 24 where an organiser says 0.
+pub fn owner(p: Party) -> Result<u8, Refusal> {
+    match p {
+        Some(0) => Err(refusal(24)),
+        _ => Ok(p.unwrap_or(0)),
+    }
+}
+
 /// What the walker answers.
 #[derive(Debug, Clone, Copy, PartialEq, Eq)]
 pub enum Tok {

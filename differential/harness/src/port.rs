@@ -1,5 +1,4 @@
 //! The proved library on plain data, through bindings/raspteal.h.
-use crate::book::LINE_MAX;
 use crate::ffi;
 use crate::plain::{Entry, Map, Refusal, Slots, Tok, Uuid, AXIS, FULL};
 
@@ -67,7 +66,7 @@ fn plain(m: &ffi::Mapping) -> Map {
 }
 
 /// A refused call has the empty map.
-fn answer(a: &ffi::Answer) -> Result<Map, Refusal> {
+pub fn answer(a: &ffi::Answer) -> Result<Map, Refusal> {
     let map = plain(&a.map);
     match refused(a.refusal) {
         None => Ok(map),
@@ -107,7 +106,7 @@ pub fn parse_u16(s: &[u8]) -> Option<u16> {
 }
 
 /// A writer's answer: where it stopped, if the text fitted.
-fn written(w: ffi::Written) -> Option<usize> {
+pub fn written(w: ffi::Written) -> Option<usize> {
     assert!(w.fits || w.next == 0);
     w.fits.then_some(w.next)
 }
@@ -274,7 +273,7 @@ impl AnyMap {
 
 /// Slots: they go in and come back by value.
 #[derive(Clone, Copy)]
-pub struct Data(ffi::MappingData);
+pub struct Data(pub ffi::MappingData);
 
 fn code(c: ffi::Code) -> Option<u32> {
     c.found.then_some(c.code)
@@ -338,74 +337,4 @@ impl Data {
 
 pub fn default(buttons: &[u32], axes: &[u32]) -> Result<Map, Refusal> {
     answer(&unsafe { ffi::raspteal_default(buttons.as_ptr(), buttons.len(), axes.as_ptr(), axes.len()) })
-}
-
-/// A store: the two lent buffers.
-#[derive(Clone)]
-pub struct Store {
-    pub index: Vec<u8>,
-    pub text: Vec<u8>,
-}
-
-impl Store {
-    pub fn fresh(index: usize, text: usize) -> Self {
-        Store { index: vec![0; index], text: vec![0; text] }
-    }
-    pub fn clear(&mut self) -> Option<Refusal> {
-        refused(unsafe {
-            ffi::raspteal_store_clear(self.index.as_mut_ptr(), self.index.len(), self.text.as_mut_ptr(), self.text.len())
-        })
-    }
-    /// A refusal, if any, the lines walked, and those filed in another form than 32 digits.
-    pub fn insert(&mut self, lines: &[u8]) -> (Option<Refusal>, usize, usize) {
-        let r = unsafe {
-            ffi::raspteal_store_insert(
-                self.index.as_mut_ptr(), self.index.len(), self.text.as_mut_ptr(), self.text.len(), lines.as_ptr(),
-                lines.len(),
-            )
-        };
-        (refused(r.refusal), r.count, r.not_simple)
-    }
-    pub fn save(
-        &mut self, data: &Data, buttons: &[u32], axes: &[u32], name: &[u8], uuid: Uuid,
-    ) -> Result<Map, Refusal> {
-        answer(&unsafe {
-            ffi::raspteal_store_save(
-                self.index.as_mut_ptr(), self.index.len(), self.text.as_mut_ptr(), self.text.len(), data.0,
-                buttons.as_ptr(), buttons.len(), axes.as_ptr(), axes.len(), name.as_ptr(), name.len(), id(uuid),
-            )
-        })
-    }
-    /// The line under a UUID, by both calls.
-    pub fn look_up(&self, uuid: Uuid) -> Result<Option<Vec<u8>>, Refusal> {
-        let (i, t) = (&self.index, &self.text);
-        let mut out = [0xee; LINE_MAX + 4];
-        let (look, line) = unsafe {
-            (
-                ffi::raspteal_store_found(i.as_ptr(), i.len(), t.as_ptr(), t.len(), id(uuid)),
-                ffi::raspteal_store_get(
-                    i.as_ptr(), i.len(), t.as_ptr(), t.len(), id(uuid), out.as_mut_ptr(), out.len(),
-                ),
-            )
-        };
-        let len = copied(line, &out);
-        match (refused(look.refusal), look.found) {
-            (Some(r), _) => {
-                assert!(!look.found && len == 0);
-                Err(r)
-            }
-            (None, true) => Ok(Some(out[..len].to_vec())),
-            (None, false) => {
-                assert_eq!(len, 0);
-                Ok(None)
-            }
-        }
-    }
-}
-
-/// The length of a line that was copied to the start of a buffer of ee; the bytes after it are as they were.
-pub fn copied(w: ffi::Written, out: &[u8]) -> usize {
-    let len = written(w).expect("a line over the limit");
-    assert!(out[len..].iter().all(|b| *b == 0xee), "bytes after the line changed");
-    len
 }

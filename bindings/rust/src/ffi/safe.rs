@@ -228,22 +228,26 @@ pub fn store_clear(index: &mut [u8], text: &mut [u8]) -> Refusal {
     unsafe { raspteal_store_clear(index.as_mut_ptr(), index.len(), text.as_mut_ptr(), text.len()) }
 }
 
-pub fn store_insert(index: &mut [u8], text: &mut [u8], lines: &[u8]) -> Inserted {
+pub fn store_insert(index: &mut [u8], text: &mut [u8], party: Party, lines: &[u8]) -> Inserted {
     unsafe {
         raspteal_store_insert(
             index.as_mut_ptr(),
             index.len(),
             text.as_mut_ptr(),
             text.len(),
+            party,
             lines.as_ptr(),
             lines.len(),
         )
     }
 }
 
+// what the header asks for
+#[allow(clippy::too_many_arguments)]
 pub fn store_save(
     index: &mut [u8],
     text: &mut [u8],
+    party: Party,
     data: MappingData,
     buttons: &[EventCode],
     axes: &[EventCode],
@@ -253,27 +257,26 @@ pub fn store_save(
     let ((b, b_len), (a, a_len)) = (list(buttons), list(axes));
     let (index_len, text_len) = (index.len(), text.len());
     let (index, text) = (index.as_mut_ptr(), text.as_mut_ptr());
-    unsafe {
-        raspteal_store_save(index, index_len, text, text_len, data, b, b_len, a, a_len, name.as_ptr(), name.len(), id)
-    }
+    let (n, n_len) = (name.as_ptr(), name.len());
+    unsafe { raspteal_store_save(index, index_len, text, text_len, party, data, b, b_len, a, a_len, n, n_len, id) }
 }
 
-pub fn store_found(index: &[u8], text: &[u8], id: Uuid) -> Look {
-    unsafe { raspteal_store_found(index.as_ptr(), index.len(), text.as_ptr(), text.len(), id) }
+pub fn store_found(index: &[u8], text: &[u8], party: Party, id: Uuid) -> Look {
+    unsafe { raspteal_store_found(index.as_ptr(), index.len(), text.as_ptr(), text.len(), party, id) }
 }
 
-pub fn store_get(index: &[u8], text: &[u8], id: Uuid, out: &mut [u8]) -> Written {
+pub fn store_get(index: &[u8], text: &[u8], party: Party, id: Uuid, out: &mut [u8]) -> Written {
     let (o, o_len) = (out.as_mut_ptr(), out.len());
-    unsafe { raspteal_store_get(index.as_ptr(), index.len(), text.as_ptr(), text.len(), id, o, o_len) }
+    unsafe { raspteal_store_get(index.as_ptr(), index.len(), text.as_ptr(), text.len(), party, id, o, o_len) }
 }
 
-pub fn store_found_near(index: &[u8], text: &[u8], id: Uuid) -> NearLook {
-    unsafe { raspteal_store_found_near(index.as_ptr(), index.len(), text.as_ptr(), text.len(), id) }
+pub fn store_found_near(index: &[u8], text: &[u8], party: Party, id: Uuid) -> NearLook {
+    unsafe { raspteal_store_found_near(index.as_ptr(), index.len(), text.as_ptr(), text.len(), party, id) }
 }
 
-pub fn store_get_near(index: &[u8], text: &[u8], id: Uuid, out: &mut [u8]) -> Written {
+pub fn store_get_near(index: &[u8], text: &[u8], party: Party, id: Uuid, out: &mut [u8]) -> Written {
     let (o, o_len) = (out.as_mut_ptr(), out.len());
-    unsafe { raspteal_store_get_near(index.as_ptr(), index.len(), text.as_ptr(), text.len(), id, o, o_len) }
+    unsafe { raspteal_store_get_near(index.as_ptr(), index.len(), text.as_ptr(), text.len(), party, id, o, o_len) }
 }
 
 pub fn entry_value(e: Entry, raw: u8, v: i16) -> Value {

@@ -2,10 +2,13 @@
 //! Arguments: seconds, seed, corpus files. The last line is the summary; status 0 only without a difference or a panic.
 use harness::check::{Tally, GROUPS};
 use harness::compare::{self, AllSlots};
+use harness::filed;
 use harness::games;
 use harness::gen::{self, Rng};
+use harness::lent::Store;
+use harness::owners;
 use harness::pads;
-use harness::plain::AXIS;
+use harness::plain::{AXIS, HALL};
 use harness::stores::Sides;
 use std::time::Duration;
 
@@ -55,6 +58,7 @@ fn random(t: &mut Tally, lines: &[&[u8]], secs: u64, seed: u64) {
             one_build(t, &mut r, &b, &a);
             if k % 5 == 0 {
                 one_store(t, &mut r);
+                owners::apart(t, &mut r);
             }
             if k % 10 == 0 {
                 compare::any_map(t, &mut r);
@@ -111,13 +115,15 @@ fn one_store(t: &mut Tally, r: &mut Rng) {
     let (index, text) = if r.one_in(2) {
         (r.pick(&[2100, 4200]), r.pick(&[4096, 8000, 20000, 40000]))
     } else {
-        (r.pick(&[0, 20, 21, 41, 42, 63, 84, 210]), r.pick(&[0, 33, 40, 100, 400, 1000]))
+        (r.pick(&[0, 20, 21, 22, 41, 42, 43, 44, 63, 65, 66, 84, 210]), r.pick(&[0, 33, 40, 100, 400, 1000]))
     };
     let mut s = Sides::fresh(index, text);
+    let hall_alone = r.one_in(3);
     for _ in 0..1 + r.below(5) {
+        let by = if hall_alone { HALL } else { owners::party(r) };
         match r.below(8) {
             0 => s.clear(t),
-            1..=4 => s.insert(t, &gen::bytes(r)),
+            1..=4 => s.insert(t, by, &gen::bytes(r)),
             _ => {
                 let (b, a) = (gen::codes(r, 6), gen::codes(r, 4));
                 let slots = some_slots(t, r, &b, &a);
@@ -126,15 +132,15 @@ fn one_store(t: &mut Tally, r: &mut Rng) {
                 if r.one_in(3) {
                     id[2..4].copy_from_slice(&r.pick(&[[0, 1], [1, 0], [0xff, 0xff]]));
                 }
-                s.save(t, &slots, &b, &a, &gen::name(r), id);
+                s.save(t, by, &slots, &b, &a, &gen::name(r), id);
             }
         }
     }
     s.look_up(t);
     if r.one_in(4) {
         let slots = AllSlots::new();
-        let (at, byte, both) = (r.next() as usize, r.pick(&[0, 1, 2, 9, 16, 17, 255]), r.one_in(2));
-        let change = |st: &mut harness::port::Store| {
+        let (at, byte, both) = (r.next() as usize, r.pick(&[0, 1, 2, 3, 4, 9, 16, 17, 255]), r.one_in(2));
+        let change = |st: &mut Store| {
             let buffer = if both { &mut st.index } else { &mut st.text };
             if !buffer.is_empty() {
                 let used = buffer.iter().rposition(|b| *b != 0).map_or(0, |i| i + 3).clamp(1, buffer.len());
@@ -164,7 +170,7 @@ mod fixed {
         corpora(t, corpus);
         t.progress("both corpora", true);
         boundaries(t);
-        stores(t);
+        filed::stores(t);
         t.progress("boundaries of document 01", true);
         short_lines(t);
         t.progress("every short line", true);
@@ -186,11 +192,11 @@ mod fixed {
             // 150 lines at a time: a whole list does not fit a text of 65535 bytes
             for part in lines.chunks(150) {
                 let mut s = Sides::fresh(65535, 65535);
-                s.insert(t, &part.join(&b"\r\n"[..]));
+                s.insert(t, HALL, &part.join(&b"\r\n"[..]));
                 s.look_up(t);
             }
             let mut s = Sides::fresh(65535, 65535);
-            s.insert(t, text);
+            s.insert(t, HALL, text);
             s.look_up(t);
         }
     }
@@ -299,58 +305,6 @@ mod fixed {
         }
     }
 
-    /// Lengths of lines and buffers, filing twice, and names that are not saved.
-    fn stores(t: &mut Tally) {
-        let id = |k: usize| format!("{k:032x}");
-        for n in [4095, 4096, 4097, 16383, 16384, 16385] {
-            for end in ["", "\r", "\n", "\r\n", "\r\r\n", "\nx"] {
-                for platform in ["", ",platform:Linux", ",platform:Windows"] {
-                    let mut l = format!("{},{}", id(1), "n".repeat(n - 33 - platform.len()));
-                    l += platform;
-                    let mut s = Sides::fresh(63, 33000);
-                    s.insert(t, format!("{},a\n{l}{end}", id(2)).as_bytes());
-                    s.look_up(t);
-                }
-            }
-        }
-        for index in [0, 20, 21, 22, 41, 42, 43, 62, 63, 64, 65535, 65536] {
-            for text in [0, 33, 34, 35, 67, 68, 69, 101, 102, 103, 65535, 65536] {
-                let mut s = Sides::fresh(index, text);
-                for k in [1, 2, 1, 3, 2, 2] {
-                    s.insert(t, format!("{},{k}\n", id(k)).as_bytes());
-                    s.look_up(t);
-                }
-                let slots = AllSlots::new();
-                for name in [&b"T"[..], b"Longer", b"platform:", b"a\nb", b",", b"\xff"] {
-                    s.save(t, &slots, &[], &[], name, [1; 16]);
-                    s.look_up(t);
-                }
-                s.clear(t);
-                s.insert(t, b"\xff");
-                s.look_up(t);
-            }
-        }
-        damaged_stores(t);
-    }
-
-    /// Every byte of a small store, changed.
-    fn damaged_stores(t: &mut Tally) {
-        let mut good = Sides::fresh(65, 80);
-        good.insert(t, format!("{}1,a\n{}2,b\n", &U[1..], &U[1..]).as_bytes());
-        let store = good.store.clone();
-        for at in 0..65 + 80 {
-            for byte in [0, 1, 2, 9, 34, 35, 36, 255] {
-                let mut s = Sides::fresh(65, 80);
-                let change = |x: &mut harness::port::Store| {
-                    *x = store.clone();
-                    if at < 65 { x.index[at] = byte } else { x.text[at - 65] = byte }
-                };
-                s.damage(t, change, b"00000000000000000000000000000003,T", &AllSlots::new());
-                s.look_up(t);
-            }
-        }
-    }
-
     /// Every line of few signs, every short pair and value, and every text of few pieces.
     fn short_lines(t: &mut Tally) {
         let (b, a) = ([0x10130, 0x10131], [0x30000]);
@@ -363,7 +317,7 @@ mod fixed {
         let pieces = ["\n", "\r", ",", u1, "00000000000000000000000000000002,", "platform:", "Linux", "x"];
         gen::all(&pieces, 4, &mut |p| {
             let mut s = Sides::fresh(21 * 3, 200);
-            s.insert(t, p.as_bytes());
+            s.insert(t, HALL, p.as_bytes());
             s.look_up(t);
         });
         let digits = ["0", "1", "9", "+", "-", "6", "5", "\u{ff10}"];

@@ -1,7 +1,7 @@
 //! A fixed list of gilrs's answers, for crates/replay, which replays it with no Rust at hand. Arguments: the folder to
 //! write, and corpus files. Each answer is also document 01's: where the two differ, this stops.
 use harness::gen::{self, Rng};
-use harness::plain::{placed, Map, Ranges, Refusal, Tok, AXIS, FULL};
+use harness::plain::{placed, Map, Ranges, Refusal, Tok, AXIS, FULL, HALL};
 use harness::{book, doc01, plain};
 use std::fmt::Write;
 
@@ -166,19 +166,19 @@ fn history(r: &mut Rng, corpus: &[&str]) -> Option<Vec<String>> {
             text += &if r.one_in(16) { r.pick(corpus).to_string() } else { short_line(r) };
             text.push_str(r.pick(&["\n", "\n", "\r\n", "\r\r\n", "\r", "\n\n", ""]));
         }
-        let (refused, _, _) = book.insert(text.as_bytes());
+        let (refused, _, _) = book.insert(HALL, text.as_bytes());
         if refused.is_some() || text.contains('|') || text.len() > 8192 {
             return None;
         }
         db.insert(&text);
-        ids.extend(book.lines.iter().map(|l| l.0));
+        ids.extend(book.lines.iter().map(|l| l.0 .1));
         cases.push(format!("insert {}", text.replace('\n', "|")));
     }
     ids.sort();
     ids.dedup();
     assert_eq!(db.len(), book.lines.len());
     for id in ids {
-        assert_eq!(db.get(id).map(|s| s.as_bytes().to_vec()), book.get(id));
+        assert_eq!(Ok(db.get(id).map(|s| s.as_bytes().to_vec())), book.get(HALL, id));
         cases.push(match db.get(id) {
             Some(l) => format!("get {} {l}", oracle::simple(id)),
             None => format!("none {}", oracle::simple(id)),

@@ -4,6 +4,9 @@ use borrow.Author.Needs.{needs}
 use Rattle.exports.proofs.near_calls.raspteal_store_found_near.Statement.{statement}
 use Rattle.exports.proofs.near_calls.raspteal_store_found_near.Tie as tie
 
+party-of-requires : tie.Need-party-of-requires
+party-of-requires c κs = search needs
+
 uuid-of-requires : tie.Need-uuid-of-requires
 uuid-of-requires c κs = search needs
 
@@ -14,8 +17,14 @@ flat-near-look-requires : tie.Need-flat-near-look-requires
 flat-near-look-requires c κs = search needs
 
 returns : tie.Need-returns
-returns c = simp (c .flat-near-look .ensures, c .before .found-near .ensures, c .before .before .uuid-of .ensures)
+returns c =
+    simp (
+      c .flat-near-look .ensures,
+      c .before .found-near .ensures,
+      c .before .before .uuid-of .ensures,
+      c .before .before .before .party-of .ensures,
+    )
 
 pub raspteal-store-found-near-spec : {M : Type 1} → statement M
 raspteal-store-found-near-spec =
-    tie.close (tie.spec uuid-of-requires found-near-requires flat-near-look-requires returns)
+    tie.close (tie.spec party-of-requires uuid-of-requires found-near-requires flat-near-look-requires returns)

@@ -4,6 +4,9 @@ use borrow.Author.Needs.{needs}
 use Rattle.exports.proofs.near_calls.raspteal_store_get_near.Statement.{statement}
 use Rattle.exports.proofs.near_calls.raspteal_store_get_near.Tie as tie
 
+party-of-requires : tie.Need-party-of-requires
+party-of-requires c κs = search needs
+
 uuid-of-requires : tie.Need-uuid-of-requires
 uuid-of-requires c κs = search needs
 
@@ -26,11 +29,13 @@ returns c = (
     c .before .before .before .write-bytes .ensures .0,
     c .before .before .before .before .before .get-near .ensures,
     c .before .before .before .before .before .before .uuid-of .ensures,
+    c .before .before .before .before .before .before .before .party-of .ensures,
   ),
   simp (
     c .before .before .before .write-bytes .ensures .1,
     c .before .before .before .before .before .get-near .ensures,
     c .before .before .before .before .before .before .uuid-of .ensures,
+    c .before .before .before .before .before .before .before .party-of .ensures,
   ),
 )
 
@@ -38,6 +43,7 @@ pub raspteal-store-get-near-spec : {M : Type 1} → statement M
 raspteal-store-get-near-spec =
     tie.close
     (tie.spec
+    party-of-requires
     uuid-of-requires
     get-near-requires
     write-bytes-requires

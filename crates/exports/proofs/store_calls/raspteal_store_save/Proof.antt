@@ -11,6 +11,9 @@ use Rattle.exports.proofs.store_calls.raspteal_store_save.Tie as tie
 data-of-requires : tie.Need-data-of-requires
 data-of-requires c κs = search needs
 
+party-of-requires : tie.Need-party-of-requires
+party-of-requires c κs = search needs
+
 uuid-of-requires : tie.Need-uuid-of-requires
 uuid-of-requires c κs = search needs
 
@@ -28,9 +31,10 @@ same-length-2 c = search needs
 
 returns : tie.Need-returns
 returns c =
+    let who = c .before .before .before .before .before .before .before .party-of .ensures in
     let id = c .before .before .before .before .before .before .uuid-of .ensures in
-    let slots = c .before .before .before .before .before .before .before .before .before .data-of .ensures in
-    let e = simp (id, slots) at (c .before .before .before .before .before .save .ensures) in (
+    let slots = c .before .before .before .before .before .before .before .before .before .before .data-of .ensures in
+    let e = simp (who, id, slots) at (c .before .before .before .before .before .save .ensures) in (
       c .flat-saved .ensures ∙ ap (λ (d : Done Saved). flatSaved (d .answer)) e,
       (ap (λ (d : Done Saved). d .index) e, ap (λ (d : Done Saved). d .text) e),
     )
@@ -40,6 +44,7 @@ raspteal-store-save-spec =
     tie.close
     (tie.spec
     data-of-requires
+    party-of-requires
     uuid-of-requires
     save-requires
     flat-saved-requires

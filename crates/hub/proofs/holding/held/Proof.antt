@@ -8,16 +8,16 @@ use Rattle.hub.proofs.holding.held.Statement.{statement}
 use Rattle.hub.proofs.holding.held.Tie as tie
 
 abbrev Inv-loop : tie.InvT-loop
-Inv-loop index text shown lines₀ bytes₀ at₀ t8 lines bytes at = Unit {0}
+Inv-loop index text shown seen₀ at₀ seen at = Unit {0}
 
 abbrev μ-loop : tie.MeasureT-loop
-μ-loop index text shown lines₀ bytes₀ at₀ t8 lines bytes at = length index - at
+μ-loop index text shown seen₀ at₀ seen at = length index - at
 
 loop-holds : tie.Need-loop-holds Inv-loop μ-loop
 loop-holds c = tt
 
-line-len-requires : tie.Need-line-len-requires Inv-loop μ-loop
-line-len-requires c κs = search needs
+record-at-requires : tie.Need-record-at-requires Inv-loop μ-loop
+record-at-requires c κs = search needs
 
 returns : tie.Need-returns Inv-loop μ-loop
 returns c = search needs
@@ -25,20 +25,11 @@ returns c = search needs
 section-requires : tie.Need-section-requires Inv-loop μ-loop
 section-requires c κs = search needs
 
-say-shown-requires : tie.Need-say-shown-requires Inv-loop μ-loop
-say-shown-requires c κs = search needs
+say-owned-requires : tie.Need-say-owned-requires Inv-loop μ-loop
+say-owned-requires c κs = search needs
 
-slice-aggregate-say : tie.Need-slice-aggregate-say Inv-loop μ-loop
-slice-aggregate-say c = search needs
-
-say-requires : tie.Need-say-requires Inv-loop μ-loop
-say-requires c κs = search needs
-
-wrapping-add-usize-requires : tie.Need-wrapping-add-usize-requires Inv-loop μ-loop
-wrapping-add-usize-requires c κs = search needs
-
-wrapping-add-usize-requires-2 : tie.Need-wrapping-add-usize-requires-2 Inv-loop μ-loop
-wrapping-add-usize-requires-2 c κs = search needs
+with-record-requires : tie.Need-with-record-requires Inv-loop μ-loop
+with-record-requires c κs = search needs
 
 sub-if3 : tie.Need-sub-if3 Inv-loop μ-loop
 sub-if3 c = omega arith
@@ -65,14 +56,11 @@ held-spec =
     Inv-loop
     μ-loop
     loop-holds
-    line-len-requires
+    record-at-requires
     returns
     section-requires
-    say-shown-requires
-    slice-aggregate-say
-    say-requires
-    wrapping-add-usize-requires
-    wrapping-add-usize-requires-2
+    say-owned-requires
+    with-record-requires
     sub-if3
     returns-2
     add-at

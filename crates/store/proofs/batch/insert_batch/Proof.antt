@@ -45,7 +45,7 @@ settle-requires c κs =
     let took = c .before .before .before .take-lines in
     let whole = survey .ensures .is ∙ walk-of (args .index .now) (args .text .now) (λ k. omega (arith, slice-known .given k)) (pre .0) in (
       loads-extend (args .index .now) (args .text .now) _ _ _ (survey .result .fill) (survey .ensures .loads whole),
-      batch-settles (args .index .now) (args .text .now) (args .lines .now) _ _ _ (survey .result .fill) (survey .ensures .loads whole) (args .from) _
+      batch-settles (args .index .now) (args .text .now) (args .lines .now) _ _ _ (survey .result .fill) (survey .ensures .loads whole) (args .owner) (args .from) _
           (took .result) (took .ensures .0) (pre .0),
     )
 
@@ -68,7 +68,7 @@ returns c =
     let took = back5 .before .before .before .take-lines in
     let settle = c .before .before .before .before .settle in
     let whole = survey .ensures .is ∙ walk-of (args .index .now) (args .text .now) (λ k. omega (arith, slice-known .given k)) (pre .0) in (
-      batch-end (args .index .now) (args .text .now) (args .lines .now) _ _ _ (survey .result .fill) (survey .ensures .loads whole) (args .from) _
+      batch-end (args .index .now) (args .text .now) (args .lines .now) _ _ _ (survey .result .fill) (survey .ensures .loads whole) (args .owner) (args .from) _
           (took .result) (took .ensures .0) _ _ (settle .ensures),
       went-from (args .lines .now) (args .from) (survey .result .fill .count) (took .result) (survey .ensures .most)
           (took .ensures .1),

@@ -32,7 +32,7 @@ returns c =
     let args = back5 .before .before .args in
     let pre = back5 .before .before .pre in
     slot-not (args .index .now) (args .text .now) (args .lines .now) _
-    (args .heads .now) (args .next .now) (args .fill) (args .at) (args .len) (pre .0 .1)
+    (args .heads .now) (args .next .now) (args .fill) (args .owner) (args .at) (args .len) (pre .0 .1)
     (wanted-part (args .lines .now) (args .at) (args .len) _ _ (c .before .before .wanted .ensures)
     (c .enum-told .given .1))
 
@@ -48,7 +48,7 @@ returns-2 c =
     let wanted = back5 .wanted in
     let spelled = c .before .before .before .spelled in
     slot-long (args .index .now) (args .text .now) (args .lines .now) _
-    (args .heads .now) (args .next .now) (args .fill) (args .at) (args .len) (pre .0 .1)
+    (args .heads .now) (args .next .now) (args .fill) (args .owner) (args .at) (args .len) (pre .0 .1)
     _ (wanted-part (args .lines .now) (args .at) (args .len) _ _
     (wanted .ensures) (spelled .given .1))
     (c .before .if1 .taken) (c .stop .result) (c .stop .ensures)
@@ -71,7 +71,7 @@ file-row-requires c κs =
           (
             pre .1 .1 .0,
             slot-files (args .index .now) (args .text .now) (args .lines .now) _
-                (args .heads .now) (args .next .now) (args .fill) (args .at) (args .len) (pre .0 .1)
+                (args .heads .now) (args .next .now) (args .fill) (args .owner) (args .at) (args .len) (pre .0 .1)
                 _ (wanted-part (args .lines .now) (args .at) (args .len) _ _ (wanted .ensures)
                 (spelled .given .1))
                 (if1 .left) (pre .1 .0) (pre .1 .1 .0) (pre .1 .1 .1),
@@ -95,7 +95,7 @@ returns-3 c =
     let if1 = back5 .before .before .before .before .if1 in
     let file-row = c .before .before .before .before .file-row in
     slot-full (args .index .now) (args .text .now) (args .lines .now) _
-    (args .heads .now) (args .next .now) (args .fill) (args .at) (args .len) (pre .0 .1)
+    (args .heads .now) (args .next .now) (args .fill) (args .owner) (args .at) (args .len) (pre .0 .1)
     _ (wanted-part (args .lines .now) (args .at) (args .len) _ _ (wanted .ensures)
     (spelled .given .1))
     (if1 .left) _ _ _ (file-row .result)
@@ -114,7 +114,7 @@ returns-4 c =
     let if1 = back5 .before .before .before .if1 in
     let file-row = c .before .before .before .file-row in
     slot-filed (args .index .now) (args .text .now) (args .lines .now) _
-    (args .heads .now) (args .next .now) (args .fill) (args .at) (args .len) (pre .0 .1)
+    (args .heads .now) (args .next .now) (args .fill) (args .owner) (args .at) (args .len) (pre .0 .1)
     _ (wanted-part (args .lines .now) (args .at) (args .len) _ _
     (wanted .ensures) (spelled .given .1))
     (if1 .left) _ _ _ (file-row .result)

@@ -18,14 +18,14 @@ use Rattle.store.proofs.batch.take_lines.Statement.{statement}
 use Rattle.store.proofs.batch.take_lines.Tie as tie
 
 abbrev Inv-loop : tie.InvT-loop
-Inv-loop index text lines rows₀ heads₀ next₀ from at₀ count₀ fill₀ rows heads
+Inv-loop index text lines rows₀ heads₀ next₀ owner from at₀ count₀ fill₀ rows heads
     next at count fill =
     Taking index text lines
-    rows₀ heads₀ next₀ from fill₀
+    rows₀ heads₀ next₀ owner from fill₀
     rows heads next fill at count
 
 abbrev μ-loop : tie.MeasureT-loop
-μ-loop index text lines rows₀ heads₀ next₀ from at₀ count₀ fill₀ rows heads next
+μ-loop index text lines rows₀ heads₀ next₀ owner from at₀ count₀ fill₀ rows heads next
     at count fill =
     length lines + 1 - at
 
@@ -35,7 +35,7 @@ loop-holds c =
     let pre = c .before .before .before .pre in
     take-first (args .index .now) (args .text .now) (args .lines .now)
     (args .rows .now)
-    (args .heads .now) (args .next .now) (args .from) (args .first) (pre .0)
+    (args .heads .now) (args .next .now) (args .owner) (args .from) (args .first) (pre .0)
 
 sub-find-far : tie.Need-sub-find-far Inv-loop μ-loop
 sub-find-far c = search needs
@@ -72,7 +72,7 @@ reach-row-requires c κs =
     let cut = c .before .before .before .line-length in
     let now = taken (args .index .now) (args .text .now) (args .lines .now)
     (args .rows .now)
-    (args .heads .now) (args .next .now) (args .from) (args .first)
+    (args .heads .now) (args .next .now) (args .owner) (args .from) (args .first)
     (loop .rows)
     (loop .heads) (loop .next) (loop .fill) (loop .at) (loop .count) (loop .inv) (pre .1) in (
       (
@@ -99,7 +99,7 @@ returns c =
     let reach-row = c .before .before .before .before .reach-row in
     take-off (args .index .now) (args .text .now) (args .lines .now)
     (args .rows .now)
-    (args .heads .now) (args .next .now) (args .from) (args .first)
+    (args .heads .now) (args .next .now) (args .owner) (args .from) (args .first)
     (loop .rows)
     (loop .heads) (loop .next) (loop .fill) (loop .at) (loop .count) (loop .inv)
     (loop-test .taken) (find-far .result)
@@ -182,6 +182,7 @@ loop-again c =
     let back10 = back5 .before .before .before .before .before in
     let back15 = back10 .before .before .before .before .before in
     let args = back15 .before .before .before .args in
+    let good = back15 .before .before .before .good in
     let loop = back10 .before .before .before .before .loop in
     let loop-test = back10 .before .before .before .loop-test in
     let found = back5 .before .before .before .before .find-far in
@@ -196,13 +197,13 @@ loop-again c =
     ) in
     take-turn (args .index .now) (args .text .now) (args .lines .now)
     (args .rows .now)
-    (args .heads .now) (args .next .now) (args .from) (args .first)
+    (args .heads .now) (args .next .now) (args .owner) (args .from) (args .first)
     (loop .rows)
     (loop .heads) (loop .next) (loop .fill) (loop .at) (loop .count) (loop .inv)
     (loop-test .taken) (found .result)
     (found .ensures ∙ ap (firstOf lf) (part-to-end (args .lines .now) (loop .at))) _
     (line-part (args .lines .now) (loop .at) (line-length .result) (line-length .ensures .1))
-    (reach-row .result) _ _ _ (reach-row .ensures)
+    (reach-row .result) _ _ _ (reach-row .ensures) (omega (arith, good .1 .1 .1 .1 .1 .1 .1 .0))
     (not-false _ (c .if2 .left)) (omega (arith, loop-test .taken, within))
 
 report-requires-2 : tie.Need-report-requires-2 Inv-loop μ-loop
@@ -215,7 +216,7 @@ returns-2 c =
     let loop = c .before .before .loop in
     take-on (args .index .now) (args .text .now) (args .lines .now)
     (args .rows .now)
-    (args .heads .now) (args .next .now) (args .from) (args .first)
+    (args .heads .now) (args .next .now) (args .owner) (args .from) (args .first)
     (loop .rows)
     (loop .heads) (loop .next) (loop .fill) (loop .at) (loop .count) (loop .inv)
     (λ p q. ⊎-elim
@@ -224,7 +225,7 @@ returns-2 c =
     (eq-or-lt-of-le (first-at (args .index .now) (args .text .now)
     (args .lines .now)
     (args .rows .now)
-    (args .heads .now) (args .next .now) (args .from) (args .first)
+    (args .heads .now) (args .next .now) (args .owner) (args .from) (args .first)
     (loop .rows)
     (loop .heads) (loop .next) (loop .fill) (loop .at) (loop .count) (loop .inv))))
     (λ x. omega (arith, x .left)) (c .before .loop-test .came)) (c .report2 .result) (c .report2 .ensures)

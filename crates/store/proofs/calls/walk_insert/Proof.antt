@@ -12,10 +12,10 @@ use Rattle.store.proofs.calls.walk_insert.Statement.{statement}
 use Rattle.store.proofs.calls.walk_insert.Tie as tie
 
 abbrev Inv-loop : tie.InvT-loop
-Inv-loop index₀ text₀ lines at₀ count₀ index text at count = Inserting index₀ text₀ lines index text at count
+Inv-loop index₀ text₀ owner lines at₀ count₀ index text at count = Inserting owner index₀ text₀ lines index text at count
 
 abbrev μ-loop : tie.MeasureT-loop
-μ-loop index₀ text₀ lines at₀ count₀ index text at count = length lines + 1 - at
+μ-loop index₀ text₀ owner lines at₀ count₀ index text at count = length lines + 1 - at
 
 sound-requires : tie.Need-sound-requires Inv-loop μ-loop
 sound-requires c κs = search needs
@@ -30,7 +30,7 @@ returns : tie.Need-returns Inv-loop μ-loop
 returns c =
     let back5 = c .before .before .before .before .before in
     let a = back5 .before .before .args in
-    insert-unsound (a .index .now) (a .text .now) (a .lines .now)
+    insert-unsound (a .owner) (a .index .now) (a .text .now) (a .lines .now)
     (sym (c .before .sound .ensures) ∙ not-true _ (c .if1 .taken))
 
 is-utf8-requires : tie.Need-is-utf8-requires Inv-loop μ-loop
@@ -54,7 +54,7 @@ returns-2 c =
     let checked = c .before .before .before .before .sound in
     let if1 = c .before .before .before .if1 in
     let utf8 = c .before .before .is-utf8 in
-    insert-not-utf8 (a .index .now) (a .text .now) (a .lines .now) (λ k. omega (arith, known .given k))
+    insert-not-utf8 (a .owner) (a .index .now) (a .text .now) (a .lines .now) (λ k. omega (arith, known .given k))
     (sym (checked .ensures) ∙ not-false _ (if1 .left)) (sym (utf8 .ensures) ∙ not-true _ (c .before .if2 .taken))
     (c .valid-up-to .result) (c .valid-up-to .ensures)
 
@@ -65,7 +65,7 @@ loop-holds c =
     let known = back5 .before .before .before .slice-known in
     let checked = c .before .before .before .sound in
     let if1 = c .before .before .if1 in
-    insert-first (a .index .now) (a .text .now) (a .lines .now) (λ k. omega (arith, known .given k))
+    insert-first (a .owner) (a .index .now) (a .text .now) (a .lines .now) (λ k. omega (arith, known .given k))
     (sym (checked .ensures) ∙ not-false _ (if1 .left))
 
 insert-batch-requires : tie.Need-insert-batch-requires Inv-loop μ-loop
@@ -74,7 +74,7 @@ insert-batch-requires c κs =
     let back10 = back5 .before .before .before .before .before in
     let a = back10 .before .before .before .args in
     let loop = c .before .before .before .loop in (
-      still-sound (a .index .now) (a .text .now) (a .lines .now) (loop .index) (loop .text) (loop .at) (loop .count)
+      still-sound (a .owner) (a .index .now) (a .text .now) (a .lines .now) (loop .index) (loop .text) (loop .at) (loop .count)
           (loop .inv),
       loop .inv .within,
     )
@@ -92,7 +92,7 @@ add-count c =
       loop .inv .counted,
       part .ensures .1 .counted,
       part .ensures .1 .within,
-      back15 .before .before .before .before .good .1 .1 .0,
+      back15 .before .before .before .before .good .1 .1 .1 .0,
     )
 
 same-length-5 : tie.Need-same-length-5 Inv-loop μ-loop
@@ -122,7 +122,7 @@ returns-3 c =
     let a = back20 .before .args in
     let loop = back10 .before .loop in
     let part = back5 .before .before .insert-batch in
-    insert-stop (a .index .now) (a .text .now) (a .lines .now) (loop .index) (loop .text) (loop .at) (loop .count)
+    insert-stop (a .owner) (a .index .now) (a .text .now) (a .lines .now) (loop .index) (loop .text) (loop .at) (loop .count)
     (loop .inv) (part .result) _ _ (part .ensures .0)
     (sym (back10 .before .before .before .is-utf8 .ensures) ∙ not-false _ (back10 .before .before .if2 .left))
     (not-true _ (c .if3 .taken))
@@ -149,7 +149,7 @@ loop-again c =
     let a = back20 .before .args in
     let loop = back10 .before .loop in
     let part = back5 .before .before .insert-batch in
-    insert-turn (a .index .now) (a .text .now) (a .lines .now) (loop .index) (loop .text) (loop .at) (loop .count)
+    insert-turn (a .owner) (a .index .now) (a .text .now) (a .lines .now) (loop .index) (loop .text) (loop .at) (loop .count)
     (loop .inv) (part .result) _ _ (part .ensures .0) (not-false _ (c .if3 .left)) (part .ensures .1)
 
 same-length-7 : tie.Need-same-length-7 Inv-loop μ-loop
@@ -166,7 +166,7 @@ returns-4 c =
     let utf8 = c .before .before .before .is-utf8 in
     let if2 = c .before .before .if2 in
     let loop = c .before .loop in
-    insert-end (a .index .now) (a .text .now) (a .lines .now) (loop .index) (loop .text) (loop .at) (loop .count)
+    insert-end (a .owner) (a .index .now) (a .text .now) (a .lines .now) (loop .index) (loop .text) (loop .at) (loop .count)
     (loop .inv)
     (sym (utf8 .ensures) ∙ not-false _ (if2 .left)) (search needs)
 

@@ -16,7 +16,7 @@ seek-before-requires c κs =
     let pre = pre in (
       pre .0,
       put-ready (args .rows .now) (args .heads .now) (args .next .now) (args .fill .count) (args .key) (pre .0) (pre .1)
-          _ (c .before .put-row .ensures) .chained,
+          _ (c .before .put-row .ensures .0) (c .before .put-row .ensures .1) .chained,
     )
 
 len-before-requires : tie.Need-len-before-requires
@@ -31,16 +31,16 @@ returns c =
     let seek = c .before .before .before .seek-before in
     let before = c .before .len-before in
     let agree = put-agree (args .rows .now) (args .heads .now) (args .next .now) (args .fill .count) (args .key) (pre .0)
-    (pre .1) _ (put .ensures) in (
+    (pre .1) _ (put .ensures .0) (put .ensures .1) in (
       put-ready (args .rows .now) (args .heads .now) (args .next .now) (args .fill .count) (args .key) (pre .0) (pre .1)
-          _ (put .ensures),
+          _ (put .ensures .0) (put .ensures .1),
       (
         agree,
         λ i t b hs ag x.
             spot-none (args .key) i t b _ (args .heads .now) (args .next .now) (args .fill) hs x
             (λ j l. ag j l ∙ agree j l)
             (put-new (args .rows .now) (args .heads .now) (args .next .now) (args .fill .count) (args .key) (pre .0)
-            (pre .1) _ (put .ensures))
+            (pre .1) _ (put .ensures .0) (put .ensures .1))
             (seek .result) (seek .ensures .0) (seek .ensures .1) (before .result) (before .ensures) (c .if1 .taken),
       ),
     )
@@ -74,16 +74,16 @@ returns-2 c =
     let seek = back5 .seek-before in
     let before = c .before .before .before .len-before in
     let agree = put-agree (args .rows .now) (args .heads .now) (args .next .now) (args .fill .count) (args .key) (pre .0)
-    (pre .1) _ (put .ensures) in (
+    (pre .1) _ (put .ensures .0) (put .ensures .1) in (
       put-ready (args .rows .now) (args .heads .now) (args .next .now) (args .fill .count) (args .key) (pre .0) (pre .1)
-          _ (put .ensures),
+          _ (put .ensures .0) (put .ensures .1),
       (
         agree,
         λ i t b hs ag x.
             spot-line (args .key) i t b _ (args .heads .now) (args .next .now) (args .fill) hs x
             (λ j l. ag j l ∙ agree j l)
             (put-new (args .rows .now) (args .heads .now) (args .next .now) (args .fill .count) (args .key) (pre .0)
-            (pre .1) _ (put .ensures))
+            (pre .1) _ (put .ensures .0) (put .ensures .1))
             (seek .result) (seek .ensures .0) (seek .ensures .1) (before .result) (before .ensures) (c .before .before .if1 .left)
             (c .start-at .result) (c .start-at .ensures),
       ),

@@ -1,6 +1,6 @@
 -- Four numbers written one behind the other are the body.
 use borrow.Author.Needs.{needs}
-use Rattle.store.proofs.RecordLaws.{body-put}
+use Rattle.store.proofs.BodyLaws.{body-put}
 use Rattle.store.proofs.records.put_body.Statement.{statement}
 use Rattle.store.proofs.records.put_body.Tie as tie
 

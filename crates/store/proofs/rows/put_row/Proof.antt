@@ -1,9 +1,11 @@
--- The body is the definition.
+-- The body is the definition; an owner is a byte.
 use mathlib.Core.Path.{refl}
 use Rattle.store.specs.Rows.{rowPut}
 use borrow.Author.Needs.{needs}
 use Rattle.store.proofs.rows.put_row.Statement.{statement}
 use Rattle.store.proofs.rows.put_row.Tie as tie
+use Rattle.store.proofs.rows.put_row.Reads as reads
+use Rattle.store.proofs.rows.put_row.Lts as lts
 
 mul-rows : tie.Need-mul-rows
 mul-rows c = search needs
@@ -50,8 +52,23 @@ mul-rows-8 c = search needs
 element-write-rows-4 : tie.Need-element-write-rows-4
 element-write-rows-4 c = search needs
 
+cast-rows : tie.Need-cast-rows
+cast-rows c = search needs
+
+mul-rows-9 : tie.Need-mul-rows-9
+mul-rows-9 c = search needs
+
+add-rows-4 : tie.Need-add-rows-4
+add-rows-4 c = search needs
+
+mul-rows-10 : tie.Need-mul-rows-10
+mul-rows-10 c = search needs
+
+element-write-rows-5 : tie.Need-element-write-rows-5
+element-write-rows-5 c = search needs
+
 returns : tie.Need-returns
-returns c = unfold rowPut in refl
+returns c = (unfold rowPut in refl, search needs)
 
 pub put-row-spec : {M : Type 1} → statement M
 put-row-spec =
@@ -72,4 +89,9 @@ put-row-spec =
     add-rows-3
     mul-rows-8
     element-write-rows-4
+    cast-rows
+    mul-rows-9
+    add-rows-4
+    mul-rows-10
+    element-write-rows-5
     returns)

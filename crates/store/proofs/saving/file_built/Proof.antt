@@ -2,7 +2,6 @@
 use mathlib.Core.Path.{sym, _∙_}
 use borrow.Author.Needs.{needs}
 use borrow.Author.Tests.{not-true, not-false}
-use Rattle.store.specs.Book.{under}
 use Rattle.store.proofs.WriteLaws.{empty-long}
 use Rattle.store.proofs.ChainLaws.{chained-none}
 use Rattle.store.proofs.SaveLaws.{file-unsound, file-done, file-full}
@@ -23,7 +22,7 @@ returns c =
     let back5 = c .before .before .before .before .before in
     let back10 = back5 .before .before .before .before .before in
     let args = back10 .before .args in
-    file-unsound (args .index .now) (args .text .now) (under (args .uuid) (args .line .now)) (sym (c .before .before .take-stock .ensures .is) ∙ not-true _ (c .if1 .taken))
+    file-unsound (args .index .now) (args .text .now) (record { key = args .key; line = args .line .now }) (sym (c .before .before .take-stock .ensures .is) ∙ not-true _ (c .if1 .taken))
 
 file-line-requires : tie.Need-file-line-requires
 file-line-requires c κs =
@@ -52,7 +51,7 @@ returns-2 c =
     let stock = back10 .before .before .before .before .take-stock in
     let if1 = back10 .before .before .if1 in
     let filed = back5 .file-line in
-    file-full (args .index .now) (args .text .now) (under (args .uuid) (args .line .now)) (sym (stock .ensures .is) ∙ not-false _ (if1 .left)) (filed .result) _ _ (filed .ensures)
+    file-full (args .index .now) (args .text .now) (record { key = args .key; line = args .line .now }) (sym (stock .ensures .is) ∙ not-false _ (if1 .left)) (filed .result) _ _ (filed .ensures)
     (not-true _ (c .if2 .taken))
 
 same-length-5 : tie.Need-same-length-5
@@ -71,7 +70,7 @@ returns-3 c =
     let stock = back10 .before .before .before .before .take-stock in
     let if1 = back10 .before .before .if1 in
     let filed = back5 .file-line in
-    file-done (args .index .now) (args .text .now) (under (args .uuid) (args .line .now)) (sym (stock .ensures .is) ∙ not-false _ (if1 .left)) (filed .result) _ _ (filed .ensures)
+    file-done (args .index .now) (args .text .now) (record { key = args .key; line = args .line .now }) (sym (stock .ensures .is) ∙ not-false _ (if1 .left)) (filed .result) _ _ (filed .ensures)
     (not-false _ (c .if2 .left))
 
 pub file-built-spec : {M : Type 1} → statement M

@@ -38,6 +38,12 @@ enum-told-6 c = search needs
 refused-save-requires-5 : tie.Need-refused-save-requires-5
 refused-save-requires-5 c κs = search needs
 
+enum-told-7 : tie.Need-enum-told-7
+enum-told-7 c = search needs
+
+refused-save-requires-6 : tie.Need-refused-save-requires-6
+refused-save-requires-6 c κs = search needs
+
 returns : tie.Need-returns
 returns c = sym (ap (saidBy (c .before .before .args .map)) (c .enum-told .given .1))
 
@@ -66,6 +72,11 @@ returns-6 c =
     c .refused-save5 .ensures
     ∙ sym (ap (saidBy (c .before .before .before .args .map)) (c .before .enum-told6 .given .1))
 
+returns-7 : tie.Need-returns-7
+returns-7 c =
+    c .refused-save6 .ensures
+    ∙ sym (ap (saidBy (c .before .before .before .args .map)) (c .before .enum-told7 .given .1))
+
 pub saved-as-spec : {M : Type 1} → statement M
 saved-as-spec =
     tie.close
@@ -81,9 +92,12 @@ saved-as-spec =
     refused-save-requires-4
     enum-told-6
     refused-save-requires-5
+    enum-told-7
+    refused-save-requires-6
     returns
     returns-2
     returns-3
     returns-4
     returns-5
-    returns-6)
+    returns-6
+    returns-7)

@@ -113,6 +113,7 @@ add-at c =
 add-off : tie.Need-add-off Inv-loop μ-loop
 add-off c = omega (
   arith,
+  c .before .before .before .before .before .before .before .before .before .before .before .before .before .before .before .before .before .before .before .good .1 .0,
   read-text (c .before .before .before .before .before .before .before .before .before .before .before .before .before .before .before .loop .inv) (omega arith) (c .before .before .before .before .before .before .before .before .before .before .before .key-at .result) (c .before .before .before .before .before .before .before .before .before .before .before .before .before .len-at .result) (c .before .before .before .before .before .before .before .before .before .before .before .key-at .ensures)
       (c .before .before .before .before .before .before .before .before .before .before .before .before .before .len-at .ensures) (c .before .before .before .before .before .before .before .before .before .before .before .before .if1 .left),
 )

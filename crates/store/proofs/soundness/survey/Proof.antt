@@ -8,6 +8,7 @@ use borrow.Author.Tests.{not-true, not-false}
 use Rattle.text.proofs.LentLaws.{tail-part}
 use Rattle.store.specs.Decode.{headAt}
 use Rattle.store.proofs.HeadLaws.{whole-size}
+use Rattle.store.proofs.RecordLaws.{size-least}
 use Rattle.store.proofs.SurveyLaws.{Surveying, survey-first, survey-less, survey-end, survey-bad, survey-on}
 use Rattle.store.proofs.SurveyLaws.{survey-turn}
 use Rattle.store.proofs.soundness.survey.Statement.{statement}
@@ -158,7 +159,12 @@ loop-less c =
     let w = survey-on (args .index .now) (args .text .now) (loop .at) (loop .rows) (loop .heads) (loop .next) (loop .n) (loop .used) (loop .verdict) (loop .inv) (whole-head .result)
     (whole-head .ensures ∙ ap headAt (tail-part (loop .at) (args .index .now)))
     (whole-size _ (stands .ensures .0 (if1 .taken)) _ (whole-head .ensures)) (head-fits .result) (head-fits .ensures) (not-false _ (if2 .left)) in
-    omega (arith, w .index, whole-size _ (stands .ensures .0 (if1 .taken)) _ (whole-head .ensures))
+    omega (
+      arith,
+      w .index,
+      whole-size _ (stands .ensures .0 (if1 .taken)) _ (whole-head .ensures),
+      size-least (whole-head .result .key .owner) .0,
+    )
 
 loop-again : tie.Need-loop-again Inv-loop μ-loop
 loop-again c =
@@ -177,7 +183,7 @@ loop-again c =
     survey-turn (args .index .now) (args .text .now) (loop .at) (loop .rows) (loop .heads) (loop .next) (loop .n) (loop .used) (loop .verdict) (loop .inv) (whole-head .result)
     (whole-head .ensures ∙ ap headAt (tail-part (loop .at) (args .index .now)))
     (whole-size _ (stands .ensures .0 (if1 .taken)) _ (whole-head .ensures)) (head-fits .result) (head-fits .ensures)
-    (not-false _ (if2 .left)) _ (put .ensures .0) _ _ (put .ensures .1 .1) (put .result) (put .ensures .1 .0 .0)
+    (not-false _ (if2 .left)) _ (put .ensures .0 .0) (put .ensures .0 .1) _ _ (put .ensures .1 .1) (put .result) (put .ensures .1 .0 .0)
     (told .result) (told .ensures)
 
 zero-behind-requires : tie.Need-zero-behind-requires Inv-loop μ-loop

@@ -18,14 +18,14 @@ link-requires c κs =
     let pre = c .before .before .before .before .before .pre in (
       pre .0,
       chained-agree (keyIn (args .rows .now)) _ (args .n)
-          (λ k l. sym (ap (λ (v : List ℕ). keyIn v k) (c .before .before .before .put-row .ensures)
+          (λ k l. sym (ap (λ (v : List ℕ). keyIn v k) (c .before .before .before .put-row .ensures .0)
           ∙ ap (λ (r : Row). r .key) (row-other (args .rows .now) (args .n) (args .key) (args .start) (args .len) k
           (λ e. omega arith))))
           (args .heads .now) (args .next .now) (pre .1),
     )
 
 returns : tie.Need-returns
-returns c = (c .before .before .before .before .put-row .ensures, ((c .link .ensures .0, c .link .ensures .1 .1), c .link .ensures .1 .0))
+returns c = ((c .before .before .before .before .put-row .ensures .0, c .before .before .before .before .put-row .ensures .1), ((c .link .ensures .0, c .link .ensures .1 .1), c .link .ensures .1 .0))
 
 pub add-row-spec : {M : Type 1} → statement M
 add-row-spec =

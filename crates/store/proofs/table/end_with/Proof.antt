@@ -6,7 +6,7 @@ use lib.ListN.{length}
 use borrow.Author.Tests.{eq-eqb, ne-eqb}
 use Rattle.text.specs.Bytes.{pick}
 use Rattle.store.specs.Layout.{recordBytes}
-use Rattle.store.proofs.RecordLaws.{length-record}
+use Rattle.store.proofs.RecordLaws.{length-record, size-least}
 use borrow.Author.Needs.{needs}
 use Rattle.store.proofs.table.end_with.Statement.{statement}
 use Rattle.store.proofs.table.end_with.Tie as tie
@@ -17,7 +17,7 @@ record-size-requires c κs = search needs
 add-result : tie.Need-add-result
 add-result c =
     let args = c .before .before .args in
-    omega (arith, c .record-size .ensures 0 0, length-record (args .key) 0 0)
+    omega (arith, c .record-size .ensures 0 0, length-record (args .key) 0 0, size-least (args .key .owner) .1)
 
 returns : tie.Need-returns
 returns c = λ (off len : ℕ).

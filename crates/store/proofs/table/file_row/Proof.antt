@@ -22,7 +22,7 @@ sub-used c =
     let had = c .before .len-before in
     let w = pre .1 .1 .1 .1 in
     had-less (args .index .now) (args .text .now) (pre .1 .0) _ (args .heads .now) (args .next .now) (pre .1 .1 .0)
-    (args .fill) (args .key) (args .start) (args .len) (pre .1 .1 .1 .0) w (pre .0) _ (put .ensures .0) (put .result)
+    (args .fill) (args .key) (args .start) (args .len) (pre .1 .1 .1 .0) w (pre .0) (put .ensures .0 .1) _ (put .ensures .0 .0) (put .result)
     (put .ensures .1 .0 .0) (put .ensures .1 .0 .1 (omega arith)) (had .result) (had .ensures)
 
 add-used : tie.Need-add-used
@@ -58,7 +58,7 @@ returns c =
     λ s old hs w.
     files-index (args .index .now) (args .text .now) s _ (args .heads .now) (args .next .now) old (args .fill)
     (args .key)
-    (args .start) (args .len) hs w (pre .0) _ (put .ensures .0) (put .result) (put .ensures .1 .0 .0)
+    (args .start) (args .len) hs w (pre .0) (put .ensures .0 .1) _ (put .ensures .0 .0) (put .result) (put .ensures .1 .0 .0)
     (put .ensures .1 .0 .1 (omega arith)) (had .result) (had .ensures)
     (ends .result) (ends .ensures) _ _ (c .if1 .taken)
 
@@ -74,7 +74,7 @@ returns-2 c =
     λ s old hs w.
     files-text (args .index .now) (args .text .now) s _ (args .heads .now) (args .next .now) old (args .fill)
     (args .key)
-    (args .start) (args .len) hs w (pre .0) _ (put .ensures .0) (put .result) (put .ensures .1 .0 .0)
+    (args .start) (args .len) hs w (pre .0) (put .ensures .0 .1) _ (put .ensures .0 .0) (put .result) (put .ensures .1 .0 .0)
     (put .ensures .1 .0 .1 (omega arith)) (had .result) (had .ensures)
     (ends .result) (ends .ensures) _ _ (c .if2 .taken)
 
@@ -99,7 +99,7 @@ returns-3 c =
     let if1 = c .before .before .before .if1 in
     λ s old hs w.
     files-fit (args .index .now) (args .text .now) s _ (args .heads .now) (args .next .now) old (args .fill) (args .key)
-    (args .start) (args .len) hs w (pre .0) _ (put .ensures .0) (put .result) (put .ensures .1 .0 .0)
+    (args .start) (args .len) hs w (pre .0) (put .ensures .0 .1) _ (put .ensures .0 .0) (put .result) (put .ensures .1 .0 .0)
     (put .ensures .1 .0 .1 (omega arith)) (had .result) (had .ensures)
     (ends .result) (ends .ensures) _ _ (omega (arith, if1 .left))
     (omega (arith, c .before .before .if2 .left))

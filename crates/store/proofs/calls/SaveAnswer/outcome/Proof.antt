@@ -31,6 +31,12 @@ enum-told-4 c = search needs
 plain-requires-3 : tie.Need-plain-requires-3
 plain-requires-3 c κs = search needs
 
+enum-told-5 : tie.Need-enum-told-5
+enum-told-5 c = search needs
+
+plain-requires-4 : tie.Need-plain-requires-4
+plain-requires-4 c κs = search needs
+
 returns : tie.Need-returns
 returns c = search needs
 
@@ -46,6 +52,9 @@ returns-4 c = simp (c .before .enum-told3 .given .1, c .plain2 .ensures)
 returns-5 : tie.Need-returns-5
 returns-5 c = simp (c .before .enum-told4 .given .1, c .plain3 .ensures)
 
+returns-6 : tie.Need-returns-6
+returns-6 c = simp (c .before .enum-told5 .given .1, c .plain4 .ensures)
+
 pub outcome-spec : {M : Type 1} → statement M
 outcome-spec =
     tie.close
@@ -59,8 +68,11 @@ outcome-spec =
     plain-requires-2
     enum-told-4
     plain-requires-3
+    enum-told-5
+    plain-requires-4
     returns
     returns-2
     returns-3
     returns-4
-    returns-5)
+    returns-5
+    returns-6)

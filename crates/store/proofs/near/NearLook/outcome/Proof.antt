@@ -19,6 +19,12 @@ enum-told-4 c = search needs
 plain-requires : tie.Need-plain-requires
 plain-requires c κs = search needs
 
+enum-told-5 : tie.Need-enum-told-5
+enum-told-5 c = search needs
+
+plain-requires-2 : tie.Need-plain-requires-2
+plain-requires-2 c κs = search needs
+
 returns : tie.Need-returns
 returns c = search needs
 
@@ -31,6 +37,9 @@ returns-3 c = search needs
 returns-4 : tie.Need-returns-4
 returns-4 c = simp (c .before .enum-told4 .given .1, c .plain .ensures)
 
+returns-5 : tie.Need-returns-5
+returns-5 c = simp (c .before .enum-told5 .given .1, c .plain2 .ensures)
+
 pub outcome-spec : {M : Type 1} → statement M
 outcome-spec =
     tie.close
@@ -40,7 +49,10 @@ outcome-spec =
     enum-told-3
     enum-told-4
     plain-requires
+    enum-told-5
+    plain-requires-2
     returns
     returns-2
     returns-3
-    returns-4)
+    returns-4
+    returns-5)
