@@ -20,6 +20,21 @@ CROSSES_AS = {
     "find_row": "raspteal_ident_of",
     # Of a list of numbers a map is made within a build; a C program puts its entries.
     "Mapping::of_numbers": "raspteal_from_data",
+    # A refusal crosses within the answer that has it, as number, place and code.
+    "Refusal::at": "raspteal_parse_sdl_mapping",
+    "Refusal::plain": "raspteal_parse_sdl_mapping",
+    "Refusal::of_code": "raspteal_from_data",
+    "Error::refusal": "raspteal_parser_step",
+    "PutResult::outcome": "raspteal_mapping_put",
+    "ParseSdlMappingError::refusal": "raspteal_parse_sdl_mapping",
+    "SdlAnswer::outcome": "raspteal_parse_sdl_mapping",
+    "MappingError::refusal": "raspteal_from_data",
+    "MappingAnswer::outcome": "raspteal_from_data",
+    "Answer::outcome": "raspteal_store_insert",
+    "SaveAnswer::outcome": "raspteal_store_save",
+    "Look::outcome": "raspteal_store_found",
+    "NearLook::outcome": "raspteal_store_found_near",
+    "PadAnswer::outcome": "raspteal_pad_raw_event",
 }
 
 # Calls whose C function has another name.
@@ -182,7 +197,7 @@ def cited(promise, imports):
 
 
 def definition(crate, file, name):
-    """The words above a definition; those of its section where it has none of its own."""
+    """The words above a definition; those of its section where it has none of its own, and else the file's first ones."""
     path = Path("crates") / crate / "specs" / (file + ".antt")
     lines = lines_of(path)
     for i, line in enumerate(lines):
@@ -192,6 +207,7 @@ def definition(crate, file, name):
                 i -= 1
                 if re.match(r"-- ---- ", lines[i]):
                     own = comment_above(lines, i + 1, "--")
+            own = own or lines[:1]
             text = re.sub(r"-{4} ", "", words(own)).rstrip(". ")
             return path, text
     return path, None
@@ -244,7 +260,7 @@ def refusals():
     for layer, path in [(layer, p) for layer in LAYERS for p in sorted(Path("crates", layer, "specs").glob("*.antt"))]:
         text = path.read_text()
         enums = {m[2]: m[1] for m in re.finditer(r"\.(\w+)\.the-variants as (\w+)$", text, re.M)}
-        told = r"^\w+ \(?(\w+)\.(\w+)[^=\n]*= (?:Refuses \(|cannotLook \()?(?:refusal(?:At)? |record \{ number = )?(\d+)\b"
+        told = r"^\w+ \(?(\w+)\.(\w+)[^=\n]*= (?:Refuses \(|Lo\.CannotLook \()?(?:refusal(?:At|Of)? )?(\d+)\b"
         for m in re.finditer(told, text, re.M):
             if m[1] in enums and m[3] != "0" and REFUSING.search(text[: m.start()].split("\nabbrev pub ")[-1]):
                 variant = f"`{layer}::{enums[m[1]]}::{m[2]}`"
