@@ -160,7 +160,7 @@ def named_numbers():
 
 def words():
     """The words of each refusal as the hub, the header, the Rust crate and the Python module have them, by number."""
-    hub = re.search(r'b"\\n(.*?)"', Path("crates/hub/src/words.rt").read_text(), re.S)[1].split("\n")
+    hub = re.search(r'b"\\n(.*?)"', Path("crates/desk/src/words.rt").read_text(), re.S)[1].split("\n")
     listed = Path("bindings/raspteal_numbers.h").read_text().split("raspteal_meaning(", 1)[1]
     crate = Path("bindings/rust/src/error.rs").read_text()
     numbers, meanings = (crate.split(f"pub fn {name}(", 1)[1].split("pub fn ", 1)[0] for name in ("number", "meaning"))

@@ -18,7 +18,10 @@ In a document, outside blocks of code:
 In specs/, a file is of the first kind ("rest on these definitions") or of the second ("No public contract rests on
 these", or "cites these"), and says so in its first lines; Lib.antt is neither. A file of the first kind uses none of the second, and a
 public function's contract names nothing of the second. READING.md and DECISIONS.md name each file of the second kind,
-READING.md each of the exports. Where the first lines of a file name a theorem, `NAME` in ../proofs/FILE, it is there.
+READING.md each of the exports.
+A library is a layer, the exports, or for programs; those for programs are proved safe and promise nothing, so they have
+no specs/, no C functions and no must-fail/, and no layer depends on one.
+Where the first lines of a file of specs/ name a theorem, `NAME` in ../proofs/FILE, it is there.
 """
 import glob
 import os
@@ -32,6 +35,7 @@ FOLDERS = ("crates/", "docs/", "tests/", "bindings/", "differential/", ".ci/")
 KEYWORDS = set("pub abbrev unfoldable record data where let in use mod as ensures requires entry exit now ghost "
                "Type Unit the-variants".split())
 LAYERS = ("text", "line", "map", "store", "pad")
+FOR_PROGRAMS = ("desk", "desk_pads", "desk_store")
 WORD = re.compile(r"[^\W\d][\w'′%-]*$")
 FIRST = re.compile(r"rests? on these definitions; they assume nothing")
 SECOND = re.compile(r"No public contract (rests on|cites) these")
@@ -335,6 +339,26 @@ def kinds(crate, kinds_of):
     return wrong, count
 
 
+def libraries():
+    """What is wrong with the crates that are libraries, by what they are for."""
+    wrong, found = [], []
+    depends = dict(re.findall(r"^(\w+):(.*)$", open("crates.txt", encoding="utf-8").read(), re.M))
+    for crate in [c for c in depends if os.path.exists(f"crates/{c}/src/lib.rt")]:
+        found.append(crate)
+        if crate in FOR_PROGRAMS:
+            parts = [p for p in (f"crates/{crate}/specs", f"crates/{crate}/must-fail") if os.path.exists(p)]
+            sources = glob.glob(f"crates/{crate}/src/**/*.rt", recursive=True)
+            wrong += [f"{p}: a library for programs has none" for p in parts]
+            wrong += [f"{p}: has C functions" for p in sources if 'extern "C"' in open(p, encoding="utf-8").read()]
+            continue
+        if crate not in LAYERS + ("exports",):
+            wrong.append(f"crates/{crate}: is no layer, not the exports, and not for programs")
+        below = [d for d in depends[crate].split() if d in FOR_PROGRAMS]
+        wrong += [f"crates/{crate}: depends on {d}, which is for programs" for d in below]
+    wrong += [f"crates.txt: no library {c}" for c in LAYERS + FOR_PROGRAMS if c not in found]
+    return wrong, len(found)
+
+
 def main():
     listing, passed, failed = "--list" in sys.argv, 0, 0
     everything = every_name()
@@ -352,6 +376,10 @@ def main():
         print(f"crates/{crate}: {count} files of specs/ and public contracts, by their kind")
         print("".join(f"  {w}\n" for w in wrong), end="")
         passed, failed = passed + (not wrong), failed + bool(wrong)
+    wrong, count = libraries()
+    print(f"{count} libraries, by what they are for")
+    print("".join(f"  {w}\n" for w in wrong), end="")
+    passed, failed = passed + (not wrong), failed + bool(wrong)
     print(f"{passed} passed, {failed} failed")
     return 1 if failed else 0
 

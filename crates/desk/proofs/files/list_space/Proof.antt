@@ -1,0 +1,13 @@
+-- A repeat is as long as it says.
+-- Assumes nothing.
+use Prim.Native.Nat.{ℕ}
+use lib.ListN.{length-replicate}
+use mathlib.Core.Path.{sym}
+use Rattle.desk.proofs.files.list_space.Statement.{statement}
+use Rattle.desk.proofs.files.list_space.Tie as tie
+
+returns : tie.Need-returns
+returns c = sym (length-replicate {0} {A = ℕ} 1048576 0)
+
+pub list-space-spec : {M : Type 1} → statement M
+list-space-spec = tie.close (tie.spec returns)

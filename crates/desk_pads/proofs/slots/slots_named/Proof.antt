@@ -1,0 +1,52 @@
+-- Each turn takes one argument.
+-- Assumes nothing.
+use borrow.Author.Needs.{needs}
+use native.Mathlib.Omega.{arith}
+use Prim.Native.Nat.{_-_}
+use Rattle.desk_pads.proofs.slots.slots_named.Statement.{statement}
+use Rattle.desk_pads.proofs.slots.slots_named.Tie as tie
+
+abbrev Inv-loop : tie.InvT-loop
+Inv-loop from slots₀ count i₀ slots i = Unit {0}
+
+abbrev μ-loop : tie.MeasureT-loop
+μ-loop from slots₀ count i₀ slots i = count - i
+
+new-requires : tie.Need-new-requires Inv-loop μ-loop
+new-requires c κs = search needs
+
+arg-count-requires : tie.Need-arg-count-requires Inv-loop μ-loop
+arg-count-requires c κs = search needs
+
+loop-holds : tie.Need-loop-holds Inv-loop μ-loop
+loop-holds c = tt
+
+with-arg-requires : tie.Need-with-arg-requires Inv-loop μ-loop
+with-arg-requires c κs = search needs
+
+add-i : tie.Need-add-i Inv-loop μ-loop
+add-i c = omega arith
+
+loop-less : tie.Need-loop-less Inv-loop μ-loop
+loop-less c = omega arith
+
+loop-again : tie.Need-loop-again Inv-loop μ-loop
+loop-again c = tt
+
+returns : tie.Need-returns Inv-loop μ-loop
+returns c = search needs
+
+pub slots-named-spec : {M : Type 1} → statement M
+slots-named-spec =
+    tie.close
+    (tie.spec
+    Inv-loop
+    μ-loop
+    new-requires
+    arg-count-requires
+    loop-holds
+    with-arg-requires
+    add-i
+    loop-less
+    loop-again
+    returns)

@@ -1,0 +1,48 @@
+-- Each turn takes one argument.
+-- Assumes nothing.
+use borrow.Author.Needs.{needs}
+use native.Mathlib.Omega.{arith}
+use Prim.Native.Nat.{_-_}
+use Rattle.desk_store.proofs.map_changes.with_due.Statement.{statement}
+use Rattle.desk_store.proofs.map_changes.with_due.Tie as tie
+
+abbrev Inv-loop : tie.InvT-loop
+Inv-loop index text asked which count next₀ i₀ next i = Unit {0}
+
+abbrev μ-loop : tie.MeasureT-loop
+μ-loop index text asked which count next₀ i₀ next i = count - i
+
+arg-count-requires : tie.Need-arg-count-requires Inv-loop μ-loop
+arg-count-requires c κs = search needs
+
+loop-holds : tie.Need-loop-holds Inv-loop μ-loop
+loop-holds c = tt
+
+with-change-requires : tie.Need-with-change-requires Inv-loop μ-loop
+with-change-requires c κs = search needs
+
+add-i : tie.Need-add-i Inv-loop μ-loop
+add-i c = omega arith
+
+loop-less : tie.Need-loop-less Inv-loop μ-loop
+loop-less c = omega arith
+
+loop-again : tie.Need-loop-again Inv-loop μ-loop
+loop-again c = tt
+
+returns : tie.Need-returns Inv-loop μ-loop
+returns c = search needs
+
+pub with-due-spec : {M : Type 1} → statement M
+with-due-spec =
+    tie.close
+    (tie.spec
+    Inv-loop
+    μ-loop
+    arg-count-requires
+    loop-holds
+    with-change-requires
+    add-i
+    loop-less
+    loop-again
+    returns)
