@@ -4,7 +4,7 @@ use mathlib.Core.Bool.{Bool, true, false, not, _&&_}
 use mathlib.Core.List.{List, [], _∷_}
 use mathlib.Core.Option.{Option, none, some}
 use mathlib.Core.Path.{_≡_, refl, sym, ap, ap₂, _∙_, subst}
-use Prim.Native.Nat.{ℕ, _≤_, _<_}
+use Prim.Native.Nat.{ℕ, _+_, _≤_, _<_}
 use native.Mathlib.Omega.{arith}
 use lib.Dec.{eqb, leb}
 use lib.ListN.{length, getD, drop}
@@ -14,8 +14,9 @@ use Rattle.store.specs.declared.records.Body.{Body}
 use Rattle.store.specs.declared.records.Head.{Head}
 use Rattle.store.specs.Decode.{bodyAt, ownerAt, headWith, noHead, headAt}
 use Rattle.store.specs.Held.{recordSize}
-use Rattle.store.specs.Inner.{HasRecord}
+use Rattle.store.specs.Inner.{bodySize, HasRecord}
 use Rattle.store.proofs.RecordLaws.{head-none, head-cut, head-whole, Kinds, hall, owned, kinds, size-least}
+use Rattle.store.proofs.RecordLaws.{kindSize, kind-size, some-is}
 
 module _ (i : List ℕ) where
   -- what the first two bytes tell
@@ -96,7 +97,7 @@ module _ (i : List ℕ) where
           true-false : true ≡ false → ⊥
           true-false z = let y : _≡_ {A = ℕ} 0 1 = cc in omega arith
 
-  -- what `whole_head` reads
+  -- what `owner_in` and `whole_head` read
   module _ (s : HasRecord i) where
     pub front-long : 21 ≤ length i
     front-long = omega (arith, s .1 .1, size-least (s .0) .0)
@@ -114,22 +115,22 @@ module _ (i : List ℕ) where
           ),
         )
 
-    pub hall-is : getD i 0 0 ≡ 1 → (b : Body) → b ≡ bodyAt (drop 1 i) → headWith 0 b ≡ headAt i
-    hall-is k b e = ap (headWith 0) e ∙ sym (head-whole i 0 (hall-told k) front-long)
+    -- whose it is, where it is not the hall's
+    pub other-owns : (getD i 0 0 ≡ 1 → ⊥) → ownerAt i ≡ some (getD i 1 0)
+    other-owns n = owned-told (owned-front n .0) (owned-front n .1 .0)
 
-    pub owned-is : (getD i 0 0 ≡ 1 → ⊥) → (b : Body) → b ≡ bodyAt (drop 2 i)
-        → record { size = 22; key = record { owner = getD i 1 0; uuid = b .uuid }; off = b .off; len = b .len }
+    -- the body lies whole behind the kind
+    pub body-long : (o : ℕ) → ownerAt i ≡ some o → recordSize o ≤ length i
+    body-long o t = subst (λ (x : ℕ). recordSize x ≤ length i) (some-is (s .0) o (sym (s .1 .0) ∙ t)) (s .1 .1)
+
+    pub whole-is : (o n : ℕ) → ownerAt i ≡ some o → n ≡ kindSize o → (b : Body) → b ≡ bodyAt (drop n i)
+        → record { size = n + bodySize; key = record { owner = o; uuid = b .uuid }; off = b .off; len = b .len }
         ≡ headAt i
-    owned-is n b e =
-        let f : (getD i 0 0 ≡ 3) × ((getD i 1 0 ≡ 0 → ⊥) × (22 ≤ length i)) = owned-front n in
-        let o : ℕ = getD i 1 0 in
-        let z : eqb o 0 ≡ false = ne-eqb o 0 (f .1 .0) in
-        let long : recordSize o ≤ length i
-        = subst (λ (x : ℕ). x ≤ length i) (sym (ap (λ (t : Bool). pick t 21 22) z)) (f .1 .1) in
-        ap₂ (λ (t : Bool) (y : Body). record
-        { size = pick t 21 22; key = record { owner = o; uuid = y .uuid }; off = y .off; len = y .len }) (sym z)
-        (e ∙ ap (λ (t : Bool). bodyAt (drop (length (pick t (1 ∷ []) (3 ∷ o ∷ []))) i)) (sym z))
-        ∙ sym (head-whole i o (owned-told (f .0) (f .1 .0)) long)
+    whole-is o n t e b f =
+        ap₂ (λ (x : ℕ) (y : Body). record
+        { size = x; key = record { owner = o; uuid = y .uuid }; off = y .off; len = y .len })
+        (ap (λ (x : ℕ). x + bodySize) e ∙ kind-size o) (f ∙ ap (λ (x : ℕ). bodyAt (drop x i)) e)
+        ∙ sym (head-whole i o t (body-long o t))
 
 pub whole-size : (i : List ℕ) → HasRecord i → (h : Head) → h ≡ headAt i → h .size ≡ recordSize (h .key .owner)
 whole-size i s h e =

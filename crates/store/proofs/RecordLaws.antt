@@ -9,7 +9,7 @@ use Prim.Native.Nat.{ℕ, zero, suc, _+_, _≤_, _<_}
 use native.Mathlib.Omega.{arith}
 use lib.Dec.{eqb, leb}
 use lib.ListN.{length, set, getD, take, drop, replicate, length-append, length-drop}
-use lib.Seq.{drop-at, drop-drop, drop-cons}
+use lib.Seq.{drop-at, drop-drop, drop-cons, length-take-le}
 use borrow.Author.Tests.{eq-eqb, ne-eqb, lt-leb, le-leb, leb-true, leb-false, eqb-true, eqb-false}
 use Rattle.text.specs.Bytes.{pick}
 use Rattle.text.specs.Uuid.{bigEndian}
@@ -60,7 +60,7 @@ pub data Kinds (i : List ℕ) (o : ℕ) : Type 0 where
   hall : getD i 0 0 ≡ 1 → o ≡ 0 → Kinds i o
   owned : getD i 0 0 ≡ 3 → o ≡ getD i 1 0 → (o ≡ 0 → ⊥) → Kinds i o
 
-some-is : (a b : ℕ) → _≡_ {A = Option ℕ} (some a) (some b) → a ≡ b
+pub some-is : (a b : ℕ) → _≡_ {A = Option ℕ} (some a) (some b) → a ≡ b
 some-is a b e = cc
 
 none-some : {A : Type 0} (b : ℕ) → _≡_ {A = Option ℕ} none (some b) → A
@@ -257,31 +257,42 @@ module _ (d p : List ℕ) (k : Key) (off len : ℕ) (m : length (recordBytes k o
       (drop-drop bodySize (kindSize (k .owner)) d
       ∙ ap (λ (x : ℕ). drop x d) (kind-size (k .owner) ∙ sym (length-record k off len)))
 
-  pub record-put : k .owner ≡ 0 → p ≡ take 1 d ++ (body ++ drop bodySize (drop 1 d))
-      → set p 0 1 ≡ recordBytes k off len ++ drop (length (recordBytes k off len)) d
-  record-put z e =
-      put-so (set p 0 1)
-      (ap (λ (x : List ℕ). set x 0 1) e ∙ go d (omega (arith, long, size-least (k .owner) .0))
-      ∙ ap (λ (o : ℕ). kindBytes o ++ (body ++ drop bodySize (drop (kindSize o) d))) (sym z))
-    where
-      go : (d : List ℕ) → 2 ≤ length d
-          → set (take 1 d ++ (body ++ drop bodySize (drop 1 d))) 0 1 ≡ 1 ∷ (body ++ drop bodySize (drop 1 d))
-      go [] l = absurd (omega (arith, l))
-      go (x ∷ d) l = refl
+  -- the kind is written over the bytes in front of the body
+  pub record-put : p ≡ take (kindSize (k .owner)) d ++ (body ++ drop bodySize (drop (kindSize (k .owner)) d))
+      → kindBytes (k .owner) ++ drop (kindSize (k .owner)) p
+      ≡ recordBytes k off len ++ drop (length (recordBytes k off len)) d
+  record-put e =
+      put-so _ (ap (λ (x : List ℕ). kindBytes (k .owner) ++ drop (kindSize (k .owner)) x) e
+      ∙ ap (λ (x : List ℕ). kindBytes (k .owner) ++ x)
+      (drop-at (take (kindSize (k .owner)) d) (body ++ drop bodySize (drop (kindSize (k .owner)) d)) _
+      (length-take-le (kindSize (k .owner)) d (omega (arith, long, kind-size (k .owner))))))
 
-  pub owned-put : (k .owner ≡ 0 → ⊥) → p ≡ take 2 d ++ (body ++ drop bodySize (drop 2 d))
-      → set (set p 0 3) 1 (k .owner) ≡ recordBytes k off len ++ drop (length (recordBytes k off len)) d
-  owned-put n e =
-      put-so (set (set p 0 3) 1 (k .owner))
-      (ap (λ (x : List ℕ). set (set x 0 3) 1 (k .owner)) e ∙ go d (omega (arith, long, size-least (k .owner) .0))
-      ∙ ap (λ (q : List ℕ). q ++ (body ++ drop bodySize (drop (length q) d))) (sym (kind-owned (k .owner) n)))
-    where
-      go : (d : List ℕ) → 2 ≤ length d
-          → set (set (take 2 d ++ (body ++ drop bodySize (drop 2 d))) 0 3) 1 (k .owner)
-          ≡ 3 ∷ k .owner ∷ (body ++ drop bodySize (drop 2 d))
-      go [] l = absurd (omega (arith, l))
-      go (x ∷ []) l = absurd (omega (arith, l))
-      go (x ∷ y ∷ d) l = refl
+-- `body_start`
+pub start-hall : (o : ℕ) → o ≡ 0 → 1 ≡ kindSize o
+start-hall o e = sym (ap (λ (b : Bool). length (pick b (1 ∷ []) (3 ∷ o ∷ []))) (eq-eqb o 0 e))
+
+pub start-owned : (o : ℕ) → (o ≡ 0 → ⊥) → 2 ≡ kindSize o
+start-owned o n = sym (ap length (kind-owned o n))
+
+-- `put_kind`
+pub kind-hall : (o : ℕ) → o ≡ 0 → (d : List ℕ) → 2 ≤ length d → set d 0 1 ≡ kindBytes o ++ drop (kindSize o) d
+kind-hall o e d l =
+    go d l ∙ ap (λ (b : Bool). pick b (1 ∷ []) (3 ∷ o ∷ []) ++ drop (length (pick b (1 ∷ []) (3 ∷ o ∷ []))) d)
+    (sym (eq-eqb o 0 e))
+  where
+    go : (d : List ℕ) → 2 ≤ length d → set d 0 1 ≡ 1 ∷ drop 1 d
+    go [] l = absurd (omega (arith, l))
+    go (x ∷ d) l = refl
+
+pub kind-other : (o : ℕ) → (o ≡ 0 → ⊥) → (d : List ℕ) → 2 ≤ length d
+    → set (set d 0 3) 1 o ≡ kindBytes o ++ drop (kindSize o) d
+kind-other o n d l =
+    go d l ∙ ap (λ (q : List ℕ). q ++ drop (length q) d) (sym (kind-owned o n))
+  where
+    go : (d : List ℕ) → 2 ≤ length d → set (set d 0 3) 1 o ≡ 3 ∷ o ∷ drop 2 d
+    go [] l = absurd (omega (arith, l))
+    go (x ∷ []) l = absurd (omega (arith, l))
+    go (x ∷ y ∷ d) l = refl
 
 pub size-sized : (k : Key) (n : ℕ) → n ≡ recordSize (k .owner) → Sized k n
 size-sized k n e off len = e ∙ sym (length-record k off len)

@@ -8,13 +8,17 @@ use text::uuid::Uuid;
 ghost use mathlib.Core.Path.{_≡_};
 ghost use mathlib.Core.Bool.{true, false};
 ghost use mathlib.Core.List.{List, _∷_, _++_};
+ghost use mathlib.Core.Option.{some};
 ghost use Prim.Native.Nat.{ℕ, suc, _+_, _-_, _≤_, _<_};
 ghost use lib.ListN.{length, take, drop};
-ghost use Rattle.store.specs.Layout.{recordBytes};
-ghost use Rattle.store.specs.Decode.{bodyAt, noHead, headAt};
+ghost use Rattle.store.specs.Layout.{kindBytes, recordBytes};
+ghost use Rattle.store.specs.Decode.{bodyAt, ownerAt, noHead, headAt};
 ghost use Rattle.store.specs.Inner.{bodySize, bodyBytes, HasRecord, Sized};
 
-// The bytes of a record of the hall: the kind, and 20 more; and of an organiser: the kind, the owner, and 20 more.
+// The bytes of a record's body; of a record of the hall: the kind, and a body; and of an organiser: the kind, the
+// owner, and a body.
+const BODY_SIZE: usize = 20;
+
 pub const HALL_SIZE: usize = 21;
 
 pub const OWNED_SIZE: usize = 22;
@@ -70,6 +74,30 @@ pub fn record_size(key: Key) -> usize
     OWNED_SIZE
 }
 
+// Where the body of an owner's record starts.
+fn body_start(owner: u8) -> usize
+    ensures { λ r. ⌜ r ≡ length (kindBytes owner) ⌝ }
+{
+    if owner == 0 {
+        return 1;
+    }
+    2
+}
+
+// Writes the kind, and behind kind 3 the owner.
+fn put_kind(index: &mut [u8], owner: u8)
+    requires { ⌜ 2 ≤ length (now index) ⌝ }
+    ensures { λ r. ⌜
+        now (index .exit) ≡ kindBytes owner ++ drop (length (kindBytes owner)) (now (index .entry)) ⌝ }
+{
+    if owner == 0 {
+        index[0] = 1;
+        return;
+    }
+    index[0] = 3;
+    index[1] = owner;
+}
+
 // Writes a record at the front.
 pub fn put_record(index: &mut [u8], key: Key, off: usize, len: usize)
     requires { ⌜ length (recordBytes key off len) ≤ length (now index) ⌝ }
@@ -78,14 +106,9 @@ pub fn put_record(index: &mut [u8], key: Key, off: usize, len: usize)
         ≡ recordBytes key off len ++ drop (length (recordBytes key off len)) (now (index .entry)) ⌝ }
 {
     let uuid = key.uuid;
-    if key.owner == 0 {
-        put_body(&mut index[1..], uuid, off, len);
-        index[0] = 1;
-        return;
-    }
-    put_body(&mut index[2..], uuid, off, len);
-    index[0] = 3;
-    index[1] = key.owner;
+    let start = body_start(key.owner);
+    put_body(&mut index[start..], uuid, off, len);
+    put_kind(index, key.owner);
 }
 
 // Whether a whole record stands at the front.
@@ -128,16 +151,24 @@ fn head_with(size: usize, owner: u8, body: Body) -> Head
     }
 }
 
-// What the whole record at the front says.
+// Whose the whole record at the front is.
+fn owner_in(index: &[u8]) -> u8
+    requires { ⌜ HasRecord (now index) ⌝ }
+    ensures { λ r. ⌜ ownerAt (now (index .entry)) ≡ some r ⌝ }
+{
+    if index[0] == 1 {
+        return 0;
+    }
+    index[1]
+}
+
+// What the whole record at the front says. The body is read in one place, so that its numbers make one load each.
 pub fn whole_head(index: &[u8]) -> Head
     requires { ⌜ HasRecord (now index) ⌝ }
     ensures { λ r. ⌜ r ≡ headAt (now (index .entry)) ⌝ }
 {
-    if index[0] == 1 {
-        let body = read_body(&index[1..]);
-        return head_with(HALL_SIZE, 0, body);
-    }
-    let owner = index[1];
-    let body = read_body(&index[2..]);
-    head_with(OWNED_SIZE, owner, body)
+    let owner = owner_in(index);
+    let start = body_start(owner);
+    let body = read_body(&index[start..]);
+    head_with(start + BODY_SIZE, owner, body)
 }

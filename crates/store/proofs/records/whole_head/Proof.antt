@@ -5,21 +5,30 @@ use borrow.Author.Needs.{needs}
 use lib.ListN.{length, length-drop}
 use Rattle.text.proofs.ListLaws.{part-to-end}
 use Rattle.store.specs.Decode.{bodyAt}
-use Rattle.store.proofs.HeadLaws.{front-long, owned-front, hall-is, owned-is}
+use Rattle.store.proofs.RecordLaws.{kind-size, size-least}
+use Rattle.store.proofs.HeadLaws.{body-long, whole-is}
 use Rattle.store.proofs.records.whole_head.Statement.{statement}
 use Rattle.store.proofs.records.whole_head.Tie as tie
 
-shared-slice-read-if1 : tie.Need-shared-slice-read-if1
-shared-slice-read-if1 c =
-    let at = c .before .before in omega (arith, front-long (at .args .index .now) (at .pre))
+owner-in-requires : tie.Need-owner-in-requires
+owner-in-requires c κs = search needs
+
+body-start-requires : tie.Need-body-start-requires
+body-start-requires c κs = search needs
 
 sub-read-body : tie.Need-sub-read-body
 sub-read-body c =
-    let at = c .before .before .before in omega (arith, front-long (at .args .index .now) (at .pre))
+    let at = c .before .before .before in
+    let owner = c .before .owner-in in
+    let start = c .body-start in
+    omega (arith, start .ensures, body-long (at .args .index .now) (at .pre) (owner .result) (owner .ensures), kind-size (owner .result))
 
 part-read-body-start : tie.Need-part-read-body-start
 part-read-body-start c =
-    let at = c .before .before .before in omega (arith, front-long (at .args .index .now) (at .pre))
+    let at = c .before .before .before in
+    let owner = c .before .owner-in in
+    let start = c .body-start in
+    omega (arith, start .ensures, body-long (at .args .index .now) (at .pre) (owner .result) (owner .ensures), kind-size (owner .result))
 
 part-read-body-end : tie.Need-part-read-body-end
 part-read-body-end c = search needs
@@ -27,12 +36,23 @@ part-read-body-end c = search needs
 read-body-requires : tie.Need-read-body-requires
 read-body-requires c κs =
     let at = c .before .before .before .before in
+    let owner = c .before .before .owner-in in
+    let start = c .before .body-start in
     omega (
       arith,
-      front-long (at .args .index .now) (at .pre),
-      ap length (part-to-end (at .args .index .now) 1),
-      length-drop 1 (at .args .index .now),
+      start .ensures,
+      body-long (at .args .index .now) (at .pre) (owner .result) (owner .ensures),
+      kind-size (owner .result),
+      ap length (part-to-end (at .args .index .now) (start .result)),
+      length-drop (start .result) (at .args .index .now),
     )
+
+add-head-with : tie.Need-add-head-with
+add-head-with c =
+    let at = c .before .before .before .before .before in
+    let owner = c .before .before .before .owner-in in
+    let start = c .before .before .body-start in
+    omega (arith, start .ensures, size-least (owner .result) .1, kind-size (owner .result))
 
 head-with-requires : tie.Need-head-with-requires
 head-with-requires c κs = search needs
@@ -40,62 +60,23 @@ head-with-requires c κs = search needs
 returns : tie.Need-returns
 returns c =
     let at = c .before .before .before .before .before .before in
+    let owner = c .before .before .before .before .owner-in in
+    let start = c .before .before .before .body-start in
     let body = c .before .read-body in
     c .head-with .ensures
-    ∙ hall-is (at .args .index .now) (at .pre) (c .before .before .before .if1 .taken) (body .result)
-    (body .ensures ∙ ap bodyAt (part-to-end (at .args .index .now) 1))
-
-shared-slice-read-owner : tie.Need-shared-slice-read-owner
-shared-slice-read-owner c =
-    let at = c .before .before .before .before in omega (arith, front-long (at .args .index .now) (at .pre))
-
-sub-read-body-2 : tie.Need-sub-read-body-2
-sub-read-body-2 c =
-    let at = c .before .before .before .before in omega (arith, front-long (at .args .index .now) (at .pre))
-
-part-read-body-start-2 : tie.Need-part-read-body-start-2
-part-read-body-start-2 c =
-    let at = c .before .before .before .before in omega (arith, front-long (at .args .index .now) (at .pre))
-
-part-read-body-end-2 : tie.Need-part-read-body-end-2
-part-read-body-end-2 c = search needs
-
-read-body-requires-2 : tie.Need-read-body-requires-2
-read-body-requires-2 c κs =
-    let at = c .before .before .before .before .before in
-    omega (
-      arith,
-      owned-front (at .args .index .now) (at .pre) (c .before .before .if1 .left) .1 .1,
-      ap length (part-to-end (at .args .index .now) 2),
-      length-drop 2 (at .args .index .now),
-    )
-
-head-with-requires-2 : tie.Need-head-with-requires-2
-head-with-requires-2 c κs = search needs
-
-returns-2 : tie.Need-returns-2
-returns-2 c =
-    let at = c .before .before .before .before .before .before .before in
-    let body = c .before .read-body2 in
-    c .head-with2 .ensures
-    ∙ owned-is (at .args .index .now) (at .pre) (c .before .before .before .before .if1 .left) (body .result)
-    (body .ensures ∙ ap bodyAt (part-to-end (at .args .index .now) 2))
+    ∙ whole-is (at .args .index .now) (at .pre) (owner .result) (start .result) (owner .ensures) (start .ensures) (body .result)
+    (body .ensures ∙ ap bodyAt (part-to-end (at .args .index .now) (start .result)))
 
 pub whole-head-spec : {M : Type 1} → statement M
 whole-head-spec =
     tie.close
     (tie.spec
-    shared-slice-read-if1
+    owner-in-requires
+    body-start-requires
     sub-read-body
     part-read-body-start
     part-read-body-end
     read-body-requires
+    add-head-with
     head-with-requires
-    returns
-    shared-slice-read-owner
-    sub-read-body-2
-    part-read-body-start-2
-    part-read-body-end-2
-    read-body-requires-2
-    head-with-requires-2
-    returns-2)
+    returns)
