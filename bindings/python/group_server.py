@@ -1,5 +1,6 @@
 """A PostgreSQL server for the group's tests: in a folder of its own, on a local socket, with no TCP port. It ends with
-the process that started it, however that ends. PostgreSQL refuses to run as root: there it runs as postgres or nobody."""
+the process that started it, however that ends. PostgreSQL refuses to run as root: then it runs as postgres or nobody.
+"""
 import glob
 import os
 import pwd
@@ -56,7 +57,7 @@ class Server:
         raise RuntimeError(f"the server did not start: {self.folder}/log")
 
     def stop(self, how=signal.SIGINT):
-        """SIGINT ends the clients' transactions and writes all to the disk; SIGQUIT is as if the machine had crashed."""
+        """SIGINT ends the clients' transactions and writes all to the disk; SIGQUIT is a crash of the server."""
         if self.process:
             self.process.send_signal(how)
             self.process.wait(30)

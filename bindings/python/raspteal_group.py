@@ -11,6 +11,7 @@ go by one snapshot. It needs psycopg2 besides raspteal.py; connections are made 
 A refusal raises Refused, as there. Trouble says that the database could not do it, and nothing was done; Unknown, that
 the connection broke while the change was committed: `done(unknown.call)` says what became of it. A GroupStore has one
 connection, and is for one thread."""
+import select
 import uuid
 from collections import namedtuple
 from pathlib import Path
@@ -146,7 +147,9 @@ class Link:
     def heard(self):
         """The stores that were changed since; None where it is not known, since the connection broke."""
         try:
-            self.connection.poll()
+            # as long as there is something to read; a connection that has ended is readable, and fails
+            while select.select([self.connection], [], [], 0)[0]:
+                self.connection.poll()
         except psycopg2.Error:
             self.close()
             return None
