@@ -165,6 +165,10 @@ READ = """SELECT version, call, CASE WHEN call IS DISTINCT FROM %(known)s::uuid 
 LOCK = """BEGIN ISOLATION LEVEL READ COMMITTED;
     SELECT version, index, text FROM raspteal.store WHERE name = %(name)s FOR UPDATE"""
 
+LINES = """SELECT array_agg(owner ORDER BY n) FILTER (WHERE n > 0), array_agg(line ORDER BY n) FILTER (WHERE n > 0)
+    FROM raspteal.store LEFT JOIN LATERAL raspteal.lines(index, text) WITH ORDINALITY AS l(owner, uuid, line, n) ON true
+    WHERE name = %(name)s GROUP BY name"""
+
 WRITE = "UPDATE raspteal.store SET version = version + 1, call = %s, index = %s, text = %s WHERE name = %s"
 
 
@@ -276,15 +280,17 @@ class GroupStore:
         return self.read().mapping(pad, buttons, axes, party)
 
     def lines(self):
-        """The lines held, in their order, as (owner, line); owner 0 is the hall. Each is what a look-up finds."""
-        store = self.read()
-        rows = self.link.begin("SELECT array_agg(owner), array_agg(line) FROM raspteal.lines(%s, %s)",
-                               tuple(map(psycopg2.Binary, store.halves)))
-        return list(zip(rows[0] or [], map(bytes, rows[1] or [])))
+        """The lines held, in their order, as (owner, line); owner 0 is the hall. The database takes the row apart."""
+        row = self.link.begin(LINES, {"name": self.name})
+        if row is None:
+            raise self.missing()
+        return list(zip(row[0] or [], map(bytes, row[1] or [])))
 
 
 def create(name, dsn=""):
     """Makes a fresh store, as large as the library takes; first the schema where it is not there. Whether it is new."""
+    if not name:
+        raise Trouble("the name of the store is empty")
     link = Link(dsn)
     link.begin("BEGIN; SELECT pg_advisory_xact_lock(hashtext('raspteal'))")
     link.go_on(SCHEMA.read_text())
