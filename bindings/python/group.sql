@@ -12,6 +12,13 @@ CREATE TABLE IF NOT EXISTS raspteal.store (
     text bytea NOT NULL
 );
 
+-- The bytes are packed quickly where the server can (docs/GROUP.md has the figures), else as PostgreSQL packs others.
+DO $$ BEGIN
+    ALTER TABLE raspteal.store ALTER index SET COMPRESSION lz4, ALTER text SET COMPRESSION lz4;
+EXCEPTION WHEN feature_not_supported THEN
+    NULL;
+END $$;
+
 -- Who may write as which party where he does not own the table: 1 to 255 is an organiser, 0 the hall.
 CREATE TABLE IF NOT EXISTS raspteal.party (
     store text NOT NULL REFERENCES raspteal.store ON DELETE CASCADE,

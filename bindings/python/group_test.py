@@ -9,6 +9,7 @@ import tempfile
 import threading
 import time
 import unittest
+import uuid
 
 import psycopg2
 import raspteal_group
@@ -163,6 +164,21 @@ class Cases(unittest.TestCase):
             self.assertEqual((asking.done(raised.exception.call) or 0, asking.version), (version, version))
             self.assertEqual(asking.found(ONE), heard)
 
+    def test_asking(self):
+        """Who asks for a call that is still at work waits until it has ended, done or not."""
+        store = self.fresh("asked")
+        for end, told in (("ROLLBACK", None), ("COMMIT", 1)):
+            call, heard = uuid.uuid4(), []
+            _, index, text = store.link.begin(raspteal_group.LOCK, {"name": "asked"})
+            store.link.go_on(raspteal_group.WRITE, (str(call), index, text, "asked"))
+            asking = threading.Thread(target=lambda: heard.append(GroupStore("asked").done(call)))
+            asking.start()
+            time.sleep(0.3)
+            self.assertEqual(heard, [])
+            store.link.go_on(end)
+            asking.join(5)
+            self.assertEqual(heard, [told])
+
     def test_waiting(self):
         """A change waits for the one before it, and then gives up; the lock of a silent hub is taken from it, and what
         it writes afterwards is refused: no two hubs ever write from one version."""
@@ -182,12 +198,18 @@ class Cases(unittest.TestCase):
         self.assertEqual(first.version, 2)
 
     def test_crash(self):
-        """What was told done before a crash is there after it."""
+        """What was told done before a crash is there after it, also where the server is set to answer before its disk
+        has it."""
         store = self.fresh("crash")
-        for n in range(20):
-            store.insert(f"{n:032x},{n}")
-        server.restart(signal.SIGQUIT)
-        self.assertEqual((store.version, len(store.lines())), (20, 20))
+        for how in ("on", "off"):
+            sql(f"ALTER ROLE hall SET synchronous_commit = {how}")
+            store.close()
+            store.clear()
+            for n in range(20):
+                store.insert(f"{n:032x},{n}")
+            server.restart(signal.SIGQUIT)
+            self.assertEqual(len(store.lines()), 20)
+        sql("ALTER ROLE hall RESET synchronous_commit")
         server.restart(signal.SIGINT)
         self.assertEqual(store.insert(f"{ONE},after"), (1, 0))
 
@@ -226,8 +248,8 @@ class Cases(unittest.TestCase):
         at, own, used = text.index(b"desk"), index.rindex(b"\x03\x07"), len(text.rstrip(b"\0"))
         end = len(index.rstrip(b"\0"))
 
-        def more(uuid):
-            record = b"\x03\x07" + uuid + used.to_bytes(2, "big") + b"\0\1"
+        def more(pad):
+            record = b"\x03\x07" + pad + used.to_bytes(2, "big") + b"\0\1"
             return index[:end] + record + index[end + 22:], text[:used] + b"x" + text[used + 1:]
 
         for i, t, said in ((index, text[:at] + b"DESK" + text[at + 4:], "and as no other"),
