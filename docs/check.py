@@ -29,7 +29,8 @@ import re
 import sys
 
 DOCUMENTS = ["README.md", "docs/READING.md", "docs/GUARANTEE.md", "docs/DECISIONS.md", "docs/REFUSED.md",
-             "docs/DIFFERENCES.md", "docs/CALLS.md", "docs/PERFORMANCE.md", "docs/HUB.md", "docs/COMPARING.md"]
+             "docs/DIFFERENCES.md", "docs/CALLS.md", "docs/PERFORMANCE.md", "docs/HUB.md", "docs/COMPARING.md",
+             "docs/GROUP.md"]
 STRICT = ["docs/READING.md", "docs/GUARANTEE.md"]
 FOLDERS = ("crates/", "docs/", "tests/", "bindings/", "differential/", ".ci/")
 KEYWORDS = set("pub abbrev unfoldable record data where let in use mod as ensures requires entry exit now ghost "

@@ -13,8 +13,8 @@ from raspteal_group import WAIT, GroupStore, Trouble, Unknown, create
 DONE, REFUSED, TROUBLE = 0, 1, 2
 NIL = Uuid("0" * 32)
 
-# How long it is asked what became of a change whose answer was lost.
-ASKING = 20
+# How long it is asked what became of a change whose answer was lost: longer than the server waits for a silent hub.
+ASKING = 40
 
 HELP = """hub-group: mapping lines of game pads, in a hall group's stores
 
