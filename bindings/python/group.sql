@@ -39,7 +39,8 @@ CREATE TABLE IF NOT EXISTS raspteal.call (
 
 -- The lines of a sound store, in their order; owner 0 is the hall. Bytes that are no sound store are an error.
 CREATE OR REPLACE FUNCTION raspteal.lines(index bytea, text bytea)
-    RETURNS TABLE (owner int, uuid bytea, line bytea) LANGUAGE plpgsql IMMUTABLE AS $$
+    RETURNS TABLE (owner int, uuid bytea, line bytea) LANGUAGE plpgsql IMMUTABLE
+    SET search_path = pg_catalog, pg_temp AS $$
 DECLARE
     -- `||` takes the bytes out of the row once, and not for each record
     i CONSTANT bytea := index || ''::bytea;
@@ -71,7 +72,7 @@ END $$;
 
 -- Whether two stores hold the same lines but for those of some parties, the second with no UUID twice.
 CREATE OR REPLACE FUNCTION raspteal.alike(old_index bytea, old_text bytea, index bytea, text bytea, but int[])
-    RETURNS boolean LANGUAGE sql IMMUTABLE AS $$
+    RETURNS boolean LANGUAGE sql IMMUTABLE SET search_path = pg_catalog, pg_temp AS $$
     WITH old AS (SELECT * FROM raspteal.lines(old_index, old_text)),
         new AS (SELECT * FROM raspteal.lines(index, text))
     SELECT NOT EXISTS (SELECT * FROM old WHERE owner <> ALL (but) EXCEPT SELECT * FROM new)
@@ -80,8 +81,10 @@ CREATE OR REPLACE FUNCTION raspteal.alike(old_index bytea, old_text bytea, index
 $$;
 
 -- Before a change: it is the next one, and leaves the lines of parties alone that the role does not write as. Whoever
--- owns the table is not asked; the hall alone may empty a store.
-CREATE OR REPLACE FUNCTION raspteal.before_change() RETURNS trigger LANGUAGE plpgsql AS $$
+-- owns the table is not asked; the hall alone may empty a store. The search path is set, so that no role puts functions
+-- of its own in the place of the database's.
+CREATE OR REPLACE FUNCTION raspteal.before_change() RETURNS trigger LANGUAGE plpgsql
+    SET search_path = pg_catalog, pg_temp AS $$
 DECLARE
     parties int[];
 BEGIN

@@ -20,7 +20,7 @@ server = room = None
 def setUpModule():
     global server, room
     server, room = Server(), tempfile.TemporaryDirectory()
-    os.environ |= {"PATH": f"{ROOT}:{os.environ['PATH']}", "LC_ALL": "C.UTF-8"}
+    os.environ |= {"PATH": f"{ROOT}:{server.bin}:{os.environ['PATH']}", "LC_ALL": "C.UTF-8"}
 
 
 def tearDownModule():
@@ -56,7 +56,8 @@ class Cases(unittest.TestCase):
                      ["show", PAD, *LISTS], ["save", PAD, "Größe", *LISTS, "a=10131", "leftx=30000"], ["show", PAD],
                      ["save", PAD, "a,b", *LISTS, "a=10130"], ["save", PAD, "T", *LISTS, "x=30000", "anyway"],
                      ["save", PAD, "T", *LISTS, "b=10130", "party=9"], ["find", PAD, "party=9"],
-                     ["save", PAD, "T", *LISTS, "DPadX=30000"], ["save", PAD, "T", "misc1=10130", "buttons=10130"],
+                     ["save", PAD, "T", *LISTS, "DPadX=30000"], ["save", PAD, "T", *LISTS, "DPadX=30005"],
+                     ["save", PAD, "T", "misc1=10130", "buttons=10130"],
                      ["find", PAD, "party=0"], ["find", "7"], ["save", PAD, "T", *LISTS], ["show", PAD, "a=10130"]):
             with self.subTest(call):
                 own, shared = (subprocess.run([program, call[0], "beside", *call[1:]], capture_output=True,

@@ -144,7 +144,7 @@ class Cases(unittest.TestCase):
         while kept.get(TWO) is None and time.monotonic() < until:
             time.sleep(0.01)
         self.assertEqual((kept.get(TWO), kept.version), (f"{TWO},Two".encode(), 2))
-        sql("SELECT pg_terminate_backend(%s)", kept.link.connection.info.backend_pid)
+        sql("SELECT pg_terminate_backend(%s, 9000)", kept.link.connection.info.backend_pid)
         writer.clear()
         self.assertEqual((kept.get(TWO), kept.version, kept.keep), (None, 3, True))
         copy = kept.read()
@@ -241,7 +241,8 @@ class Cases(unittest.TestCase):
 
     def by_hand(self, role, halves):
         """Statements of a role's own. Refused: the hall's line changed, bytes that are no sound store, one UUID twice,
-        other lengths, the same version again, other tables. Done: one more line of its own."""
+        other lengths, the same version again, other tables, a function of its own that the check is to use. Done: one
+        more line of its own."""
         index, text = halves
         change = """UPDATE raspteal.store SET version = version + 1, call = gen_random_uuid(), index = %s, text = %s
             WHERE name = 'roles'"""
@@ -262,6 +263,10 @@ class Cases(unittest.TestCase):
                           "INSERT INTO raspteal.party VALUES ('roles', 'league', 0)", "DELETE FROM raspteal.call"):
             with self.assertRaisesRegex(psycopg2.Error, "permission denied|next version"):
                 sql(statement, user=role)
+        sql(f"GRANT CREATE ON DATABASE postgres TO {role}")
+        sql("CREATE SCHEMA own; CREATE FUNCTION own.pg_has_role(oid, text) RETURNS boolean RETURN true", user=role)
+        with self.assertRaisesRegex(psycopg2.Error, "and as no other"):
+            sql("SET search_path = own, pg_catalog; " + change, index, text[:at] + b"DESK" + text[at + 4:], user=role)
         sql(change, *more(bytes(15) + b"\x09"), user=role)
 
     def test_backup(self):
@@ -283,7 +288,7 @@ class Cases(unittest.TestCase):
         link.autocommit = True
         link.cursor().execute("CREATE DATABASE copy")
         link.close()
-        psql = ["psql", "-q", "-v", "ON_ERROR_STOP=1", "copy"]
+        psql = [f"{server.bin}/psql", "-q", "-v", "ON_ERROR_STOP=1", "copy"]
         subprocess.run(psql, input=dump, check=True, stdout=subprocess.DEVNULL)
         copy = GroupStore("kept", "dbname=copy")
         version = copy.version
@@ -311,7 +316,7 @@ class Cases(unittest.TestCase):
         self.assertTrue(set(listed) <= set(verdict.calls))
         self.assertEqual((verdict.wrong[:3], verdict.unread[:3], verdict.lost()), ([], [], []))
         self.assertEqual((end.index, end.text), halves)
-        self.assertTrue(killed and verdict.numbers.get("save 0") and verdict.saves)
+        self.assertTrue(killed and verdict.numbers.get("save 0"))
         for line, call, answer in verdict.saves:
             self.assertEqual(store.get(Uuid(call["pad"]), call["party"]), line)
             self.assertTrue(reads_back(line, call, answer))

@@ -54,12 +54,17 @@ def complain(*parts):
     sys.stderr.flush()
 
 
+def ident(element):
+    """`a`, or the source's name where an element has no ident."""
+    names = NAMES[bool(element.is_axis)]
+    return names[element.number] if " " in str(element) and element.number < len(names) else str(element)
+
+
 def named(element):
     """`South (a)`"""
     names = NAMES[bool(element.is_axis)]
-    ident = str(element)
-    name = names[element.number] if element.number < len(names) else ident
-    return name if " " in ident else f"{name} ({ident})"
+    name = names[element.number] if element.number < len(names) else str(element)
+    return name if " " in str(element) else f"{name} ({element})"
 
 
 def say_map(map, line):
@@ -180,7 +185,7 @@ class Arguments:
         """Which element's code is not in its list, in words."""
         element = next(e for e in self.order() if self.bound[e] == code and (e.is_axis or code not in self.buttons))
         kind, key = ("an axis", "axes") if element.is_axis else ("a button", "buttons")
-        return f"{element} is {kind}; {code:x} is not in {key}="
+        return f"{ident(element)} is {kind}; {code:x} is not in {key}="
 
     def check_whole(self):
         """A save that loses something is done only with `anyway`."""
