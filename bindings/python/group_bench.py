@@ -47,7 +47,7 @@ def clients(seconds):
     print("hubs  stores  saves a second  median ms  slowest of a hundred ms")
     for stores in (1, 16):
         for number in range(stores):
-            create(f"{stores}-{number}")
+            create(f"{stores}-{number}", 65535, 65535)
             filled = GroupStore(f"{stores}-{number}")
             filled.insert(text)
         for hubs in (1, 4, 16):

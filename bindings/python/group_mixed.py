@@ -15,7 +15,7 @@ import time
 import uuid
 from pathlib import Path
 
-from raspteal import Element, Mapping, Refused, Uuid
+from raspteal import Element, Mapping, Refused, Uuid, build
 from raspteal_group import GroupStore, Trouble, Unknown
 
 sys.path.append(str(Path(__file__).resolve().parents[2] / "tests"))
@@ -65,9 +65,7 @@ def run(store, call):
         if call["kind"] == "find":
             line = store.get(pad, party)
             return ["0", ""] if line is None else ["1", line.hex()]
-        bound = {Element(e[0] == "a", int(e[1:])): code for e, code in call["slots"].items()}
-        lists = range(1, call["buttons"] + 1), range(1, call["axes"] + 1)
-        return ["0", repr(store.save(bound, *lists, call["name"], pad, party).told)]
+        return ["0", repr(store.save(*arguments(call), party).told)]
     except Refused as told:
         at = told.place if told.place is not None else told.code
         return [f"{told.number}" + ("" if at is None else f"@{at}"), told.count]
@@ -167,15 +165,16 @@ def judged(store, call, answer):
     return store.right(owner, kind, rest)
 
 
-def line_of(store, call):
-    """The line that the book holds for a save's party and pad."""
-    return dict(book.decode(store.index, store.text)).get((call["party"] or 0, int(call["pad"], 16)))
-
-
-def reads_back(line, call, answer):
-    """Whether a done save's line reads back as the map that the save handed back."""
+def arguments(call):
+    """What a save is given: elements and codes, the two lists, name and pad."""
+    bound = {Element(e[0] == "a", int(e[1:])): code for e, code in call["slots"].items()}
     lists = range(1, call["buttons"] + 1), range(1, call["axes"] + 1)
-    return line is not None and repr(Mapping.read(line, *lists).told) == answer[1]
+    return bound, *lists, call["name"], Uuid(call["pad"])
+
+
+def holds(store, call, line):
+    """Whether the book finds that line for a save's party and pad."""
+    return store.right(call["party"] or 0, "find", ["1", call["pad"], spelled(line.hex())])
 
 
 class Verdict:
@@ -220,12 +219,13 @@ class Verdict:
             key = f"{call['kind']} {answer[0].split('@')[0]}"
             self.numbers[key] = self.numbers.get(key, 0) + 1
             if key == "save 0":
-                line = line_of(store, call)
-                self.saves[call["party"], call["pad"]] = line, call, answer
-                if not reads_back(line, call, answer):
+                bound, buttons, axes, *_ = arguments(call)
+                line = build(*arguments(call))[0]
+                if not holds(store, call, line) or repr(Mapping.read(line, buttons, axes).told) != answer[1]:
                     self.unread.append(name)
+                self.saves[call["party"], call["pad"]] = call, line, answer[1]
         # of the last done saves those whose line nothing took the place of
-        self.saves = [s for s in self.saves.values() if line_of(store, s[1]) == s[0]]
+        self.saves = [s for s in self.saves.values() if holds(store, *s[:2])]
         return store
 
 

@@ -13,13 +13,14 @@ import uuid
 
 import psycopg2
 import raspteal_group
-from group_mixed import STORE, Verdict, play, reads_back
+from group_mixed import STORE, Verdict, arguments, play
 from group_server import Server
-from raspteal import Mapping, Refused, Store, Uuid
-from raspteal_group import GroupStore, Trouble, Unknown, create
+from raspteal import Mapping, Refused, Uuid
+from raspteal_group import GroupStore, Held, Trouble, Unknown, create
 
 ONE, TWO = Uuid("0" * 31 + "1"), Uuid("0" * 31 + "2")
 BUTTONS, AXES = [0x10130, 0x10131], [0x30000]
+SIZES = 65535, 65535
 SECONDS = float(os.environ.get("SECONDS_MIXED", 10))
 server = None
 
@@ -88,7 +89,7 @@ class Cut(threading.Thread):
 
 class Cases(unittest.TestCase):
     def fresh(self, name, **options):
-        self.assertTrue(create(name))
+        self.assertTrue(create(name, *SIZES))
         store = GroupStore(name, **options)
         self.addCleanup(store.close)
         return store
@@ -104,7 +105,7 @@ class Cases(unittest.TestCase):
     def test_calls(self):
         """Each call answers as it does on a store in memory, and leaves the same bytes; a call that changes none makes
         no version."""
-        group, plain, versions = self.fresh("calls"), Store(), []
+        group, plain, versions = self.fresh("calls"), Held(*map(bytes, SIZES)), []
         calls = [lambda s: s.insert(f"# x\n{ONE},One,a:b0,\r\nxinput,X\n"), lambda s: s.insert(b"\xff"),
                  lambda s: s.insert(f"{{{'0' * 8}-0000-0000-0000-{'0' * 12}}},Braced", 7), lambda s: s.insert("", 0),
                  lambda s: s.save({"a": 0x10131, "leftx": 0x30000}, BUTTONS, AXES, "Größe", ONE),
@@ -317,9 +318,10 @@ class Cases(unittest.TestCase):
         self.assertEqual((verdict.wrong[:3], verdict.unread[:3], verdict.lost()), ([], [], []))
         self.assertEqual((end.index, end.text), halves)
         self.assertTrue(killed and verdict.numbers.get("save 0"))
-        for line, call, answer in verdict.saves:
-            self.assertEqual(store.get(Uuid(call["pad"]), call["party"]), line)
-            self.assertTrue(reads_back(line, call, answer))
+        for call, line, told in verdict.saves:
+            _, buttons, axes, _, pad = arguments(call)
+            self.assertEqual(store.get(pad, call["party"]), line)
+            self.assertEqual(repr(store.mapping(pad, buttons, axes, call["party"]).told), told)
 
 
 if __name__ == "__main__":

@@ -287,8 +287,9 @@ class GroupStore:
         return list(zip(row[0] or [], map(bytes, row[1] or [])))
 
 
-def create(name, dsn=""):
-    """Makes a fresh store, as large as the library takes; first the schema where it is not there. Whether it is new."""
+def create(name, index_len=INDEX_MAX, text_len=TEXT_MAX, dsn=""):
+    """Makes a fresh store, as large as the library takes if nothing is said; first the schema where it is not there.
+    Whether it is new."""
     if not name:
         raise Trouble("the name of the store is empty")
     link = Link(dsn)
@@ -296,7 +297,7 @@ def create(name, dsn=""):
     link.go_on(SCHEMA.read_text())
     made = link.go_on("""INSERT INTO raspteal.store (name, call, index, text) VALUES (%s, %s, %s, %s)
         ON CONFLICT DO NOTHING RETURNING name""",
-        (name, str(uuid.uuid4()), psycopg2.Binary(bytes(INDEX_MAX)), psycopg2.Binary(bytes(TEXT_MAX))))
+        (name, str(uuid.uuid4()), psycopg2.Binary(bytes(index_len)), psycopg2.Binary(bytes(text_len))))
     link.go_on("COMMIT")
     link.close()
     return made is not None
