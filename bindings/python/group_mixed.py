@@ -38,7 +38,7 @@ def some_line(chance):
 
 def some_call(chance):
     """A call, as JSON can hold it; the codes of its lists count from 1, as the book's do."""
-    kind = chance.choices(["save", "insert", "clear", "find"], [64, 22, 0.3, 14])[0]
+    kind = chance.choices(["save", "insert", "clear", "find"], [64, 21, 1, 14])[0]
     call = {"kind": kind, "party": None if kind == "clear" else chance.choice(PARTIES)}
     if kind == "insert":
         text = "".join(some_line(chance) + chance.choice(["\n", "\r\n"]) for _ in range(chance.randrange(7))).encode()

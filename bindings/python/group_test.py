@@ -156,10 +156,10 @@ class Cases(unittest.TestCase):
         self.fresh("cut")
         for heard, version in ((False, 0), (True, 1)):
             door = Cut(heard)
+            self.addCleanup(door.close)
             store = GroupStore("cut", f"host={door.folder}")
             with self.assertRaises(Unknown) as raised:
                 store.save({"a": 0x10130}, BUTTONS, AXES, "Seat", ONE)
-            door.close()
             self.assertEqual(raised.exception.version, 1)
             asking = GroupStore("cut")
             self.assertEqual((asking.done(raised.exception.call) or 0, asking.version), (version, version))
