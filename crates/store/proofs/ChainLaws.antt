@@ -53,6 +53,36 @@ seek-turn K next k m c d links s pos ne hd = (
         ⊎-elim (λ q. unlike (K (c - 1)) (K k) ne (ap K q ∙ e)) (λ lt. s .passed j (omega arith) h e)
         (eq-or-lt-of-le (ltb-false j (c - 1) t))
 
+-- the first step of number k, which is linked, in the chain that starts before m: where m is 0, nothing comes behind it
+module _ (K : ℕ → Key) (next : List ℕ) (k m : ℕ) (links : Linked K next (k + 1)) (kin : Kin K k m) (w : m ≤ k) where
+  pub step-stays : NotIn K k m m × (m ≤ m)
+  step-stays = (λ j l h e. omega arith, omega arith)
+
+  pub step-on : (d : ℕ) → sameKey (K (m - 1)) (K k) ≡ false → d ≡ getD next (m - 1) 0
+      → (NotIn K k d m × (d ≤ m)) × Kin K k d
+  step-on d ne e = go (eqb m 0) refl
+    where
+      go : (t : Bool) → eqb m 0 ≡ t → (NotIn K k d m × (d ≤ m)) × Kin K k d
+      go true t =
+          let z : m ≡ 0 = eqb-true m 0 t in
+          let first : m - 1 ≡ 0 = omega (arith, z) in
+          let least : d ≤ 0
+          = subst (λ (x : ℕ). x ≤ 0) (sym (e ∙ ap (λ (i : ℕ). getD next i 0) first)) (links 0 (omega arith) .within) in
+          ((λ j l h q. omega (arith, z, h), omega (arith, z, least)), λ p. absurd (omega (arith, p, least)))
+      go false t =
+          let n : m ≡ 0 → ⊥ = eqb-false m 0 t in
+          let on = seek-turn K next k m m d (λ a l. links a (omega (arith, l)))
+          (record { passed = λ j l h q. omega arith; kin = kin; within = w }) (omega (arith, n)) ne e in
+          ((on .0 .passed, omega (arith, on .1)), on .0 .kin)
+
+-- what is sought from there on
+pub seeks-from : (K : ℕ → Key) (k m d r : ℕ) → NotIn K k d m → Seeks K k d r → Seeks K k m r
+seeks-from K k m d r n q = record { clear = λ l j a b e. go l j a b e (ltb j d) refl; hit = q .hit }
+  where
+    go : r ≤ k → (j : ℕ) → r ≤ j → j < m → K j ≡ K k → (t : Bool) → ltb j d ≡ t → ⊥
+    go l j a b e true t = q .clear l j a (ltb-true j d t) e
+    go l j a b e false t = n j (ltb-false j d t) b e
+
 pub chained-none : (K : ℕ → Key) → Chained K (replicate rowsMax 0) (replicate rowsMax 0) 0
 chained-none K = record {
   links = λ a l. absurd (omega arith);
@@ -170,6 +200,17 @@ says-turn K n r Vd.Apart s q = go (ltb n r) refl (eqb r 0) refl
     go false p false z =
         let e : r ≡ 0 → ⊥ = eqb-false r 0 z in
         found-twice K (n + 1) n r (omega arith) q (ltb-false n r p) (omega arith)
+
+-- nothing is told by a key that is not found
+pub told-none : (v : Verdict) (n r : ℕ) → r < 1 → v ≡ toldOf v n r
+told-none Vd.Unsure n r l = refl
+told-none Vd.Twice n r l = refl
+told-none Vd.Apart n r l = go (ltb n r) refl (eqb r 0) refl
+  where
+    go : (b : Bool) → ltb n r ≡ b → (c : Bool) → eqb r 0 ≡ c → Vd.Apart ≡ pick b Vd.Unsure (pick c Vd.Apart Vd.Twice)
+    go true p c z = absurd (omega (arith, l, ltb-true n r p))
+    go false p true z = refl
+    go false p false z = let e : r ≡ 0 → ⊥ = eqb-false r 0 z in absurd (e (omega (arith, l)))
 
 -- other keys from n on
 pub says-agree : (K K′ : ℕ → Key) (n : ℕ) (v : Verdict) → ((k : ℕ) → k < n → K k ≡ K′ k) → Says K n v → Says K′ n v

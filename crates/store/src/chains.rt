@@ -8,7 +8,7 @@ use crate::rows::same_at;
 ghost use mathlib.Core.Path.{_≡_};
 ghost use mathlib.Core.Bool.{true, false};
 ghost use Prim.Native.Nat.{ℕ, suc, _+_, _-_, _≤_, _<_};
-ghost use Rattle.store.specs.Keys.{rowsMax, bucket, Linked, Kin, Chained, Seeks, Sought};
+ghost use Rattle.store.specs.Keys.{rowsMax, bucket, NotIn, Linked, Kin, Chained, Seeks, Sought};
 ghost use Rattle.store.specs.Keys.{seekSays, toldOf, Tells};
 ghost use Rattle.store.specs.Rows.{keyIn};
 
@@ -62,6 +62,33 @@ fn seek(rows: &[u64; CELLS], next: &[u16; ROWS], from: usize, k: usize, most: us
     0
 }
 
+// One less, and 0 for 0.
+fn one_less(c: usize) -> usize
+    ensures { λ r. ⌜ r ≡ c - 1 ⌝ }
+{
+    if c == 0 {
+        return 0;
+    }
+    c - 1
+}
+
+// The first step of `seek` in the chain that starts before `from`, of number k, which is linked: `from` where the key
+// is found, else what comes behind it. An empty chain is not told apart, which could not be foreseen: number 0 is
+// compared then, and nothing comes behind it.
+fn first_step(rows: &[u64; CELLS], next: &[u16; ROWS], from: usize, k: usize) -> usize
+    requires { ⌜ (k < rowsMax) × (from ≤ k) ⌝ }
+    requires { ⌜ Linked (keyIn (now rows)) (now next) (k + 1) ⌝ }
+    requires { ⌜ Kin (keyIn (now rows)) k from ⌝ }
+    ensures { λ r. ⌜ NotIn (keyIn (now (rows .entry))) k r from × (r ≤ from) ⌝ }
+    ensures { λ r. ⌜ Kin (keyIn (now (rows .entry))) k r ⌝ }
+{
+    let at = one_less(from);
+    if same_at(rows, at, k) {
+        return from;
+    }
+    number(next[at])
+}
+
 // Seeks the key of number k among the numbers before it, which are in their chains: one more than the last that has
 // it, or 0.
 pub fn seek_before(rows: &[u64; CELLS], heads: &[u16; ROWS], next: &[u16; ROWS], k: usize) -> usize
@@ -94,8 +121,9 @@ pub fn link(
     let key = key_at(rows, k);
     let h = bucket_of(key);
     let head = heads[h];
-    let r = seek(rows, next, number(head), k, most);
     next[k] = head;
+    let from = first_step(rows, next, number(head), k);
+    let r = seek(rows, next, from, k, most);
     heads[h] = ((k + 1) % 65536) as u16;
     r
 }
@@ -117,6 +145,9 @@ fn shown(n: usize, r: usize) -> Verdict
 pub fn told(known: Verdict, n: usize, r: usize) -> Verdict
     ensures { λ v. ⌜ v ≡ toldOf known n r ⌝ }
 {
+    if r < 1 {
+        return known;
+    }
     match known {
         Verdict::Apart => shown(n, r),
         Verdict::Twice => Verdict::Twice,
