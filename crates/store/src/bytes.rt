@@ -156,10 +156,14 @@ fn put_u32(to: &mut [u8], k: usize, x: u64)
     put_word(to, k + 2, x);
 }
 
+// The test, which always fails, parts the stores of one number from those of the next: then they make one store.
 pub fn put_u64(to: &mut [u8], k: usize, x: u64)
     requires { ⌜ k + 8 ≤ length (now to) ⌝ }
     ensures { λ r. ⌜ now (to .exit) ≡ written (now (to .entry)) k (be8 x) ⌝ }
 {
+    if to.len() < k + 8 {
+        return;
+    }
     put_u32(to, k, x / 4294967296);
     put_u32(to, k + 4, x);
 }
