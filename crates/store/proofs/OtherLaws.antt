@@ -1,23 +1,35 @@
 -- Lines in another form than 32 digits: counted line by line, and those that an insert filed.
 -- Assumes nothing.
+use mathlib.Core.Bool.{Bool, true, false}
 use mathlib.Core.List.{List, [], _∷_, _++_}
 use mathlib.Core.Path.{_≡_, refl, sym, ap, _∙_}
 use Prim.Native.Nat.{ℕ, zero, suc, _+_, _-_, _≤_, _<_}
 use native.Mathlib.Omega.{arith}
 use lib.ListN.{length, take, drop}
-use Rattle.text.specs.Bytes.{firstOf}
+use lib.Seq.{length-take-le}
+use Rattle.text.specs.Bytes.{byte, firstOf}
+use Rattle.text.specs.Uuid.{uuidOf}
+use Rattle.text.specs.Spellings.{formLength}
+use Rattle.text.specs.declared.uuid.Form.{Form}
+use Rattle.text.specs.declared.uuid.Form.the-variants as Fm
+use Rattle.text.specs.declared.uuid.UuidParse.{UuidParse}
+use Rattle.text.specs.declared.uuid.UuidParse.the-variants.{Parsed, Invalid}
+use Rattle.text.proofs.BytesLaws.{first-le}
+use Rattle.text.proofs.SpellingLaws.{reader-forms}
+use Rattle.line.specs.Fields.{firstField}
 use Rattle.text.specs.Search.{lf}
 use Rattle.store.specs.declared.calls.Inserted.{Inserted}
 use Rattle.store.specs.declared.calls.Tally.{Tally}
-use Rattle.store.specs.Book.{otherSpelling, otherSpellings, insertedOf, nobodyInserts}
+use Rattle.store.specs.Book.{otherForm, otherSpelling, otherSpellings, insertedOf, nobodyInserts}
 use Rattle.store.specs.Inner.{firstLine}
-use Rattle.store.specs.Lines.{linesOf, wanted}
+use Rattle.store.specs.Lines.{linesOf, forPlatform, wanted}
 use Rattle.store.specs.Store.{Done, unchanged, storeWalk, ownInsert, storeInsert}
 use Rattle.store.specs.declared.owners.Owner.{Owner}
 use Rattle.store.specs.declared.owners.Owner.the-variants as O
 use Rattle.store.specs.declared.parties.Party.{Party}
 use Rattle.store.specs.Parties.{ownerOf, byOwner}
 use Rattle.store.proofs.LineLaws.{cut-at, lines-end, plus-minus}
+use Rattle.store.proofs.WantedLaws.{wanted-is, wanted-not}
 
 others-cons : (l : List ℕ) (ls : List (List ℕ)) → otherSpellings (l ∷ ls) ≡ otherSpelling (wanted l) + otherSpellings ls
 unfolding otherSpellings
@@ -31,6 +43,28 @@ others-none (suc k) = refl
 others-zero : (ls : List (List ℕ)) → otherSpellings (take 0 ls) ≡ 0
 unfolding otherSpellings
 others-zero ls = refl
+
+-- a first field of 32 bytes is in the form with 32 digits, or in none
+simple-form : (f : Form) → 32 ≡ formLength f → 0 ≡ otherForm f
+simple-form Fm.Simple e = refl
+simple-form Fm.Hyphenated e = absurd (omega (arith, e))
+simple-form Fm.Braced e = absurd (omega (arith, e))
+simple-form Fm.Urn e = absurd (omega (arith, e))
+simple-form Fm.Xinput e = absurd (omega (arith, e))
+
+simple-read : (s : List ℕ) → length s ≡ 32 → (w : UuidParse) → uuidOf s ≡ w → 0 ≡ otherSpelling w
+simple-read s l Invalid e = refl
+simple-read s l (Parsed g) e = simple-form (g .form) (sym l ∙ reader-forms s g e .fits)
+
+pub others-simple : (l : List ℕ) → firstOf (byte ",") l ≡ 32 → 0 ≡ otherSpelling (wanted l)
+others-simple l e = go (forPlatform l) refl
+  where
+    long : length (firstField l) ≡ 32
+    long = length-take-le (firstOf (byte ",") l) l (first-le (byte ",") l) ∙ e
+
+    go : (b : Bool) → forPlatform l ≡ b → 0 ≡ otherSpelling (wanted l)
+    go true p = simple-read (firstField l) long (wanted l) (sym (wanted-is l p))
+    go false p = sym (ap (λ (w : UuidParse). otherSpelling w) (wanted-not l p))
 
 -- the loop of `other_spellings`: what is counted and what is left make up the whole
 pub record Othering (s : List ℕ) (count at left other : ℕ) : Type 0 where

@@ -24,10 +24,13 @@ fn other_form(form: Form) -> usize
     }
 }
 
-// The same of a line; 0 where it is not wanted.
+// The same of a line; 0 where it is not wanted. A first field of 32 bytes has no other form.
 fn other_spelling(line: &[u8]) -> usize
     ensures { λ r. ⌜ (r ≡ otherSpelling (specs.wanted (now (line .entry)))) × (r ≤ 1) ⌝ }
 {
+    if find_far(line, b',') == 32 {
+        return 0;
+    }
     let parsed = wanted(line);
     match parsed {
         UuidParse::Parsed(spelled) => {
