@@ -13,7 +13,9 @@ use line::parser::AxisRange;
 use line::parser::Ranges;
 ghost use mathlib.Core.Path.{_≡_};
 ghost use Rattle.line.specs.Maps.{held};
-ghost use Rattle.pad.specs.Values.{axisValue, partOf, pressedValue, rawValue, entryValue, emittedBy, eventOf};
+ghost use Rattle.pad.specs.Values.{axisValue, partOf, turned, pressedValue, rawValue, entryValue, emittedBy};
+ghost use Rattle.pad.specs.Values.{eventOf};
+ghost use Rattle.pad.specs.Inner.{Proper};
 
 // The value of an element, if there is one.
 pub enum ElementValue {
@@ -27,6 +29,17 @@ pub enum Emitted {
     Nothing,
 }
 
+// The part that counts: the rest of d where it is inverted.
+fn turn(inverted: bool, n: u32, d: u32) -> u32
+    requires { ⌜ Proper n d ⌝ }
+    ensures { λ x. ⌜ (x ≡ turned inverted n d) × Proper x d ⌝ }
+{
+    if inverted {
+        return d - n;
+    }
+    n
+}
+
 // What a raw axis value gives.
 fn axis_value(e: AxisOrBtn, r: Ranges, v: i16) -> ElementValue
     ensures { λ x. ⌜ x ≡ axisValue e (r .output) (r .inverted) (partOf v (r .input)) ⌝ }
@@ -35,12 +48,7 @@ fn axis_value(e: AxisOrBtn, r: Ranges, v: i16) -> ElementValue
     let half = r.output;
     match part_of(v, input) {
         Part::Nothing => ElementValue::Nothing,
-        Part::Of(n, d) => {
-            if r.inverted {
-                return ElementValue::Is(scaled(e, half, d - n, d));
-            }
-            ElementValue::Is(scaled(e, half, n, d))
-        }
+        Part::Of(n, d) => { ElementValue::Is(scaled(e, half, turn(r.inverted, n, d), d)) }
     }
 }
 

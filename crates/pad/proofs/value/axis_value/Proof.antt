@@ -1,7 +1,6 @@
 -- The part that the value is is proper, turned round or not, and its output is the value's. Assumes nothing.
-use Prim.Native.Nat.{ℕ, _-_, _≤_}
+use Prim.Native.Nat.{ℕ}
 use mathlib.Core.Path.{_≡_, sym, ap, subst, _∙_}
-use borrow.Author.Needs.{needs}
 use lib.IntN.{ℤ}
 use mir.Syntax.{w16}
 use mir.Val.{SFits, toZ, ofZ}
@@ -12,7 +11,7 @@ use Rattle.pad.specs.Inner.{Proper, ProperPart}
 use Rattle.pad.specs.declared.numbers.Part.{Part}
 use Rattle.pad.specs.declared.numbers.Part.the-variants as Pt
 use Rattle.pad.specs.declared.value.ElementValue.the-variants as Ev
-use Rattle.pad.proofs.BiasLaws.{turned-proper}
+use borrow.Author.Needs.{needs}
 use Rattle.pad.proofs.value.axis_value.Statement.{statement}
 use Rattle.pad.proofs.value.axis_value.Tie as tie
 
@@ -33,20 +32,24 @@ enum-told c = search needs
 enum-known-n : tie.Need-enum-known-n
 enum-known-n c = search needs
 
-sub-scaled : tie.Need-sub-scaled
-sub-scaled c =
-    let g = c .before .before .n .given in
-    let p = c .before .before .before .before .part-of in
-    proper (p .result) (g .0 .0) (g .0 .1 .0) (p .ensures .1) (g .1) .within
+turn-requires : tie.Need-turn-requires
+turn-requires c κs =
+    let g = c .before .n .given in
+    let p = c .before .before .before .part-of in
+    proper (p .result) (g .0 .0) (g .0 .1 .0) (p .ensures .1) (g .1)
 
 scaled-requires : tie.Need-scaled-requires
-scaled-requires c κs =
-    let g = c .before .before .n .given in
-    let p = c .before .before .before .before .part-of in
-    turned-proper _ _ (proper (p .result) (g .0 .0) (g .0 .1 .0) (p .ensures .1) (g .1))
+scaled-requires c κs = search needs
 
 returns : tie.Need-returns
 returns c =
+    let p = c .before .before .part-of in
+    let s = c .before .before .before in
+    let e = c .enum-told .given .1 in
+    simp (part-is (s .args .v) (s .args .r .input) (p .result) Pt.Nothing (s .fits .v) (p .ensures .0) e)
+
+returns-2 : tie.Need-returns-2
+returns-2 c =
     let g = c .before .before .before .n .given in
     let p = c .before .before .before .before .before .part-of in
     let s = c .before .before .before .before .before .before in
@@ -54,31 +57,7 @@ returns c =
     (p .ensures .0) (g .1) in
     ap (λ (z : ℤ). Ev.Is z)
     (toZ-ofZ w16 (c .scaled .result) (record { sfits = c .scaled .ok }) ∙ c .scaled .ensures)
-    ∙ simp (f, c .before .if1 .taken)
-
-scaled-requires-2 : tie.Need-scaled-requires-2
-scaled-requires-2 c κs =
-    let g = c .before .before .n .given in
-    let p = c .before .before .before .before .part-of in
-    proper (p .result) (g .0 .0) (g .0 .1 .0) (p .ensures .1) (g .1)
-
-returns-2 : tie.Need-returns-2
-returns-2 c =
-    let p = c .before .before .part-of in
-    let s = c .before .before .before in
-    let e = c .enum-told .given .1 in
-    simp (part-is (s .args .v) (s .args .r .input) (p .result) Pt.Nothing (s .fits .v) (p .ensures .0) e)
-
-returns-3 : tie.Need-returns-3
-returns-3 c =
-    let g = c .before .before .before .n .given in
-    let p = c .before .before .before .before .before .part-of in
-    let s = c .before .before .before .before .before .before in
-    let f = part-is (s .args .v) (s .args .r .input) (p .result) (Pt.Of (g .0 .0) (g .0 .1 .0)) (s .fits .v)
-    (p .ensures .0) (g .1) in
-    ap (λ (z : ℤ). Ev.Is z)
-    (toZ-ofZ w16 (c .scaled2 .result) (record { sfits = c .scaled2 .ok }) ∙ c .scaled2 .ensures)
-    ∙ simp (f, c .before .if1 .left)
+    ∙ simp (f, c .before .turn .ensures .0)
 
 pub axis-value-spec : {M : Type 1} → statement M
 axis-value-spec =
@@ -87,9 +66,7 @@ axis-value-spec =
     part-of-requires
     enum-told
     enum-known-n
-    sub-scaled
+    turn-requires
     scaled-requires
     returns
-    scaled-requires-2
-    returns-2
-    returns-3)
+    returns-2)
