@@ -5,7 +5,8 @@ use mathlib.Core.Bool.{Bool, true, false}
 use mathlib.Core.List.{List, [], _∷_}
 use mathlib.Core.Logic.{⊎-elim}
 use native.Mathlib.Omega.{arith}
-use borrow.Author.Tests.{lt-ltb, le-ltb}
+use borrow.Author.Tests.{eqb-true, eqb-false, eq-eqb, lt-ltb, le-ltb}
+use lib.Dec.{eqb, ltb}
 use lib.IntN.{ℤ, pos, negsuc}
 use lib.ListN.{length}
 use Rattle.text.specs.Bytes.{pick}
@@ -20,6 +21,7 @@ use Rattle.pad.specs.declared.events.Held.{Held}
 use Rattle.pad.specs.declared.events.Event.{Event}
 use Rattle.pad.specs.Pads.{ELEMENTS, putHeld, choose, valueIn, valueOf, valuesOf, elementAt, placeOf, sameℤ}
 use Rattle.pad.specs.Pads.{changes}
+use Rattle.pad.specs.declared.telling.Change.{Change}
 use Rattle.pad.specs.Inner.{shifted, unshifted, oneEvent, OnlyOf, Touched}
 use Rattle.pad.proofs.BiasLaws.{lt-or-le}
 use Rattle.pad.proofs.PlaceLaws.{element-place, other-element, place-most}
@@ -118,3 +120,50 @@ module _ (el : AxisOrBtn) (v w : ℤ) (x y : ℕ) (ex : unshifted x ≡ v) (ey :
           let q : unshifted x ≡ unshifted y = ex ∙ same-value v w e ∙ sym ey in
           absurd (d (sym (back x hx) ∙ ap (λ (z : ℤ). shifted z) q ∙ back y hy))
       by false e = rw (e, ey)
+
+  pub told-numbers : x < 65536 → y < 65536 → changeOf el v w ≡ pick (eqb x y) [] (oneEvent el (unshifted y) ∷ [])
+  told-numbers hx hy = by (eqb x y) refl
+    where
+      by : (t : Bool) → eqb x y ≡ t → changeOf el v w ≡ pick t [] (oneEvent el (unshifted y) ∷ [])
+      by true e = equal-numbers (eqb-true x y e)
+      by false e = unlike-numbers hx hy (eqb-false x y e)
+
+-- ---- a change by its numbers
+pub unchanged : (es fs : List Event) (x y : ℕ) → es ≡ [] → x ≡ y → es ≡ pick (eqb x y) [] fs
+unchanged es fs x y e q = e ∙ sym (ap (λ (t : Bool). pick t [] fs) (eq-eqb x y q))
+
+module _ (hs ks : List Held) (es : List Entry) (r : Change) where
+  -- it is the one from hs to ks
+  abbrev pub Tells : Type 0
+  Tells =
+      (changes 0 (valuesOf hs es) (valuesOf ks es)
+      ≡ pick (eqb (r .before) (r .later)) [] (oneEvent (r .element) (unshifted (r .later)) ∷ []))
+      × (unshifted (r .before) ≡ pick (ltb (placeOf (r .element)) ELEMENTS) (valueOf hs es (r .element)) (pos 0))
+      × (r .before < 65536)
+      × (r .later < 65536)
+
+  pub still : changes 0 (valuesOf hs es) (valuesOf ks es) ≡ [] → placeOf (r .element) ≡ ELEMENTS → r .before ≡ 32768
+      → r .later ≡ 32768 → Tells
+  still e at b l = (
+    unchanged (changes 0 (valuesOf hs es) (valuesOf ks es)) _ (r .before) (r .later) e (b ∙ sym l),
+    ap (λ (k : ℕ). unshifted k) b
+        ∙ sym
+        (ap (λ (t : Bool). pick t (valueOf hs es (r .element)) (pos 0))
+        (le-ltb (placeOf (r .element)) 27 (omega (arith, at)))),
+    omega (arith, b),
+    omega (arith, l),
+  )
+
+  pub moved : OnlyOf hs ks es (r .element) → placeOf (r .element) < 27
+      → unshifted (r .before) ≡ valueOf hs es (r .element) → unshifted (r .later) ≡ valueOf ks es (r .element)
+      → r .before < 65536 → r .later < 65536 → Tells
+  moved only at b l hb hl = (
+    at-place hs ks es (r .element) only at
+        ∙ told-numbers (r .element) (valueOf hs es (r .element)) (valueOf ks es (r .element)) (r .before) (r .later)
+        b l hb hl,
+    b
+        ∙ sym
+        (ap (λ (t : Bool). pick t (valueOf hs es (r .element)) (pos 0)) (lt-ltb (placeOf (r .element)) 27 at)),
+    hb,
+    hl,
+  )

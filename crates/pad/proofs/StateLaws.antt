@@ -5,8 +5,8 @@ use mathlib.Core.Bool.{Bool, true, false}
 use mathlib.Core.List.{List, [], _∷_, _++_, map}
 use mathlib.Core.Logic.{⊎-elim}
 use native.Mathlib.Omega.{arith}
-use borrow.Author.Tests.{ltb-true, ltb-false, lt-ltb, le-ltb, le-leb, lt-leb}
-use lib.Dec.{ltb, leb}
+use borrow.Author.Tests.{eq-eqb, ltb-true, ltb-false, lt-ltb, le-ltb, le-leb, lt-leb}
+use lib.Dec.{eqb, ltb, leb}
 use lib.ListN.{length, take, drop, set, replicate, length-map, length-set}
 use lib.Seq.{length-take-le}
 use lib.IntN.{ℤ, pos}
@@ -20,11 +20,13 @@ use Rattle.line.specs.Maps as M
 use Rattle.line.specs.Numbers.{CODE_UNIT, entryNumber, entryIn}
 use Rattle.pad.specs.declared.events.Raw.{Raw}
 use Rattle.pad.specs.declared.events.Held.{Held}
+use Rattle.pad.specs.declared.events.Event.{Event}
 use Rattle.pad.specs.declared.events.Events.{Events}
 use Rattle.pad.specs.declared.state.Pad.{Pad}
 use Rattle.pad.specs.declared.state.Told.{Told}
+use Rattle.pad.specs.declared.state.PadAnswer.{PadAnswer}
 use Rattle.pad.specs.declared.state.PadAnswer.the-variants as Pa
-use Rattle.pad.specs.Pads.{HELD_MAX, putHeld, placeOf, valueOf, valuesOf, changes}
+use Rattle.pad.specs.Pads.{HELD_MAX, ELEMENTS, putHeld, placeOf, valueOf, valuesOf, changes}
 use Rattle.pad.specs.States.{heldNumber, heldIn, heldOf, entriesOf, padValues, padValue, eventsIn, toldOf}
 use Rattle.pad.specs.States.{putNumber}
 use Rattle.pad.specs.States.{withHeld, heldAfter, refusedOf, rawEventOf, entryNumbers, withMap, changeMapOf}
@@ -92,6 +94,12 @@ module _ (p : Pad) (n m : ℕ) (lh : length (p .held) ≡ 256) (le : length (p .
   all-is =
       ap (λ (hs : List Held). valuesOf hs (entriesIn m (p .entries))) held-is
       ∙ ap (λ (es : List Entry). valuesOf (heldOf p) es) entries-is
+
+  pub value-is : (el : AxisOrBtn)
+      → pick (ltb (placeOf el) ELEMENTS) (valueOf (heldsIn n (p .held)) (entriesIn m (p .entries)) el) (pos 0)
+      ≡ padValue p el
+  unfolding padValue
+  value-is el = ap (λ (z : ℤ). pick (ltb (placeOf el) ELEMENTS) z (pos 0)) (values-is el)
 
 -- ---- the value of an element
 pub value-none : (p : Pad) (el : AxisOrBtn) (k : ℕ) → k ≡ placeOf el → k ≡ 27 → pos 0 ≡ padValue p el
@@ -231,6 +239,46 @@ module _ (p : Pad) (c : Code) (raw : Raw) (n i x : ℕ) (lh : length (p .held) �
       ap (λ (y : Events). record { answer = Pa.Done; pad = next; events = y }) v
       ∙ ap (λ (y : Pad). toldOf p y) (next-is l)
       ∙ rw (le-leb (length (heldAfter p c raw)) 256 w)
+
+  -- the same of a state that is lent
+  pub put-told : (m many : ℕ) (ys : List ℕ) (es : List Event) → m ≡ cappedOf (p .«entry_count») → i < 256
+      → many ≡ grownOf i n → ys ≡ set (p .held) i x
+      → changes 0 (valuesOf (heldsIn n (p .held)) (entriesIn m (p .entries)))
+      (valuesOf (heldsIn many (set (p .held) i x)) (entriesIn m (p .entries))) ≡ es
+      → rawEventOf p c raw ≡ record {
+        answer = Pa.Done;
+        pad = record { count = many; held = ys; «entry_count» = p .«entry_count»; entries = p .entries };
+        events = eventsIn es;
+      }
+  put-told m many ys es em l eg ey ee =
+      let told : ℕ → List ℕ → Told =
+      λ k zs. record {
+        answer = Pa.Done;
+        pad = record { count = k; held = zs; «entry_count» = p .«entry_count»; entries = p .entries };
+        events = eventsIn es;
+      } in
+      let e : eventsIn es ≡ eventsIn (changes 0 (valuesOf (heldsIn n (p .held)) (entriesIn m (p .entries)))
+      (valuesOf (heldsIn (grownOf i n) (set (p .held) i x)) (entriesIn m (p .entries)))) =
+      ap (λ (l : List Event). eventsIn l) (sym ee)
+      ∙ ap (λ (k : ℕ). eventsIn (changes 0 (valuesOf (heldsIn n (p .held)) (entriesIn m (p .entries)))
+      (valuesOf (heldsIn k (set (p .held) i x)) (entriesIn m (p .entries))))) eg in
+      sym
+      (ap (λ (k : ℕ). told k ys) eg ∙ ap (λ (zs : List ℕ). told (grownOf i n) zs) ey
+      ∙ answers m (eventsIn es) em l e)
+
+  pub away-told : (b l : ℕ) (fs : List Event) → i ≡ 256 → b ≡ l
+      → rawEventOf p c raw
+      ≡ record { answer = Pa.TooManyCodes; pad = p; events = eventsIn (pick (eqb b l) [] fs) }
+  unfolding refusedOf
+  away-told b l fs e q =
+      sym (turned-away e)
+      ∙ ap (λ (t : Bool). record { answer = Pa.TooManyCodes; pad = p; events = eventsIn (pick t [] fs) })
+      (sym (eq-eqb b l q))
+
+-- an answer with the events that are worked out apart
+pub told-with : {t : Told} {a : PadAnswer} {q : Pad} {e f : Events} → t ≡ record { answer = a; pad = q; events = f }
+    → e ≡ f → record { answer = a; pad = q; events = e } ≡ t
+told-with {t} {a} {q} k h = ap (λ (w : Events). record { answer = a; pad = q; events = w }) h ∙ sym k
 
 -- ---- what a change of map answers
 module _ (p : Pad) (m : Mapping) (n k many : ℕ) (lh : length (p .held) ≡ 256) (le : length (p .entries) ≡ 256)

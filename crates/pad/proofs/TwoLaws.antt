@@ -5,15 +5,16 @@ use mathlib.Core.Bool.{Bool, true, false}
 use mathlib.Core.List.{List, [], _∷_, _++_, append-assoc, append-nil}
 use native.Mathlib.Omega.{arith}
 use native.Mathlib.Numerals.{add-one}
-use borrow.Author.Tests.{lt-ltb, le-ltb}
+use borrow.Author.Tests.{ne-eqb, lt-ltb, le-ltb}
 use mir.Syntax.{w16}
 use mir.Val.{SFits}
 use lib.ListN.{length, take, drop, getD, set, replicate, drop-of-length-le, length-append, length-replicate}
 use lib.Seq.{drop-cons}
-use lib.Dec.{leb, ltb}
-use lib.IntN.{ℤ, natAbs}
+use lib.Dec.{eqb, leb, ltb}
+use lib.IntN.{ℤ, pos, natAbs}
 use Rattle.text.specs.Bytes.{pick}
 use Rattle.line.specs.declared.ev.Code.{Code}
+use Rattle.line.specs.declared.ev.AxisOrBtn.{AxisOrBtn}
 use Rattle.line.specs.declared.mapping.Mapping.{Mapping}
 use Rattle.pad.specs.declared.events.Raw.{Raw}
 use Rattle.pad.specs.declared.events.Event.{Event}
@@ -21,6 +22,7 @@ use Rattle.pad.specs.declared.events.Events.{Events}
 use Rattle.pad.specs.declared.value.Emitted.{Emitted}
 use Rattle.pad.specs.declared.value.Emitted.the-variants as Em
 use Rattle.pad.specs.declared.state.Pad.{Pad}
+use Rattle.pad.specs.declared.state.PadAnswer.{PadAnswer}
 use Rattle.pad.specs.declared.state.Told.{Told}
 use Rattle.pad.specs.declared.two.Pads.{Pads}
 use Rattle.pad.specs.declared.two.PadsTold.{PadsTold}
@@ -54,36 +56,65 @@ module _ (a b : ℤ) (x y : ℕ) (fa : SFits w16 a) (fb : SFits w16 b) (ex : x �
   pub first-farther : y ≤ x → a ≡ farther a b
   first-farther l = sym (ap (λ (t : Bool). pick t b a) (tested ∙ le-ltb x y l))
 
--- ---- an event of a pad, by the numbers of the values before it and after it
-module _ (leads : Bool) (p q : Pad) (e : Event) (was value : ℤ) (x y : ℕ)
-    (ew : was ≡ joinedOf leads (padValue p (e .element)) (padValue q (e .element)))
-    (ev : value ≡ joinedOf leads (e .value) (padValue q (e .element)))
-    (fw : SFits w16 was) (fv : SFits w16 value) (ex : x ≡ shifted was) (ey : y ≡ shifted value) where
+-- ---- an element's event, by its values on a pad before and after, and by its value on the pad beside it
+abbrev pub jointEvent : Bool → AxisOrBtn → ℤ → ℤ → ℤ → Emitted
+jointEvent leads el b l o =
+    pick (sameℤ (joinedOf leads b o) (joinedOf leads l o)) Em.Nothing (Em.Is (oneEvent el (joinedOf leads l o)))
+
+-- by the numbers of the two values of both
+module _ (leads : Bool) (el : AxisOrBtn) (b l o was value : ℤ) (x y : ℕ) (ew : was ≡ joinedOf leads b o)
+    (ev : value ≡ joinedOf leads l o) (fw : SFits w16 was) (fv : SFits w16 value) (ex : x ≡ shifted was)
+    (ey : y ≡ shifted value) where
   abbrev before : ℤ
-  before = joinedOf leads (padValue p (e .element)) (padValue q (e .element))
+  before = joinedOf leads b o
 
   abbrev after : ℤ
-  after = joinedOf leads (e .value) (padValue q (e .element))
+  after = joinedOf leads l o
 
   abbrev answer : Bool → Emitted
-  answer t = pick t Em.Nothing (Em.Is (oneEvent (e .element) after))
+  answer t = pick t Em.Nothing (Em.Is (oneEvent el after))
 
-  pub joined-same : x ≡ y → Em.Nothing ≡ joinedEvent leads p q e
-  unfolding joinedEvent
+  pub joined-same : x ≡ y → Em.Nothing ≡ jointEvent leads el b l o
   joined-same s =
       let same : was ≡ value =
       sym (unshifted-shifted was fw) ∙ ap (λ (k : ℕ). unshifted k) (sym ex ∙ s ∙ ey) ∙ unshifted-shifted value fv in
       sym (ap answer (ap (λ (z : ℤ). sameℤ z after) (sym ew ∙ same ∙ ev) ∙ same-refl after))
 
-  pub joined-other : (x ≡ y → ⊥) → Em.Is (oneEvent (e .element) value) ≡ joinedEvent leads p q e
-  unfolding joinedEvent
+  pub joined-other : (x ≡ y → ⊥) → Em.Is (oneEvent el value) ≡ jointEvent leads el b l o
   joined-other d =
-      ap (λ (z : ℤ). Em.Is (oneEvent (e .element) z)) ev ∙ sym (ap answer (unlike (sameℤ before after) refl))
+      ap (λ (z : ℤ). Em.Is (oneEvent el z)) ev ∙ sym (ap answer (unlike (sameℤ before after) refl))
     where
       unlike : (t : Bool) → sameℤ before after ≡ t → sameℤ before after ≡ false
       unlike true s =
           absurd (d (ex ∙ ap (λ (z : ℤ). shifted z) (ew ∙ same-value before after s ∙ sym ev) ∙ sym ey))
       unlike false s = s
+
+-- of equal values
+pub joint-is : (leads : Bool) (el : AxisOrBtn) {b l o b' l' o' : ℤ} {w : Emitted} → w ≡ jointEvent leads el b l o
+    → b ≡ b' → l ≡ l' → o ≡ o' → w ≡ jointEvent leads el b' l' o'
+joint-is leads el {b} {l} {o} {b'} {l'} {o'} e eb el' eo =
+    e ∙ ap (λ (z : ℤ). jointEvent leads el z l o) eb ∙ ap (λ (z : ℤ). jointEvent leads el b' z o) el'
+    ∙ ap (λ (z : ℤ). jointEvent leads el b' l' z) eo
+
+-- what is told of a change, by the numbers of the pad's own values
+pub joint-told : (x y : ℕ) (w v : Emitted) → w ≡ v → (x ≡ y → ⊥) → caught w [] ≡ pick (eqb x y) [] (caught v [])
+joint-told x y w v e d =
+    ap (λ (u : Emitted). caught u []) e ∙ sym (ap (λ (t : Bool). pick t [] (caught v [])) (ne-eqb x y d))
+
+pub joint-refined : (leads : Bool) (p q : Pad) (el : AxisOrBtn) (x y : ℕ) (o : ℤ) → unshifted x ≡ padValue p el
+    → o ≡ pick (eqb x y) (pos 0) (padValue q el)
+    → pick (eqb x y) [] (caught (jointEvent leads el (unshifted x) (unshifted y) o) [])
+    ≡ refined leads p q (pick (eqb x y) [] (oneEvent el (unshifted y) ∷ []))
+unfolding refined joinedEvent
+joint-refined leads p q el x y o e eo = by (eqb x y) eo
+  where
+    by : (t : Bool) → o ≡ pick t (pos 0) (padValue q el)
+        → pick t [] (caught (jointEvent leads el (unshifted x) (unshifted y) o) [])
+        ≡ refined leads p q (pick t [] (oneEvent el (unshifted y) ∷ []))
+    by true k = refl
+    by false k =
+        ap (λ (z : ℤ). caught (jointEvent leads el z (unshifted y) o) []) e
+        ∙ ap (λ (z : ℤ). caught (jointEvent leads el (padValue p el) (unshifted y) z) []) k
 
 -- ---- the value of an element that has a place
 value-at : (p : Pad) (k : ℕ) → k < 27 → padValue p (elementAt k) ≡ valueOf (heldOf p) (entriesOf p) (elementAt k)
@@ -246,6 +277,40 @@ second-told p q t e h k =
     (k
     ∙ ap (λ (es : List Event). eventsIn (refined false q p es)) (told-is q t h)
     ∙ ap (λ (es : List Event). eventsIn es) (second-events q (t .pad) p))
+
+-- a raw value that was put, of a state that is lent
+module _ (p q : Pad) (t : Told) {a : PadAnswer} {n : Pad} (x y : ℕ) (el : AxisOrBtn) (h : TellsItself p t)
+    (k : t ≡ record {
+      answer = a;
+      pad = n;
+      events = eventsIn (pick (eqb x y) [] (oneEvent el (unshifted y) ∷ []));
+    })
+    (v : unshifted x ≡ padValue p el) {o : ℤ} (w : o ≡ pick (eqb x y) (pos 0) (padValue q el)) where
+  told-one : toldEvents (t .events) ≡ pick (eqb x y) [] (oneEvent el (unshifted y) ∷ [])
+  told-one =
+      ap (λ (u : Told). toldEvents (u .events)) k
+      ∙ told-back (pick (eqb x y) [] (oneEvent el (unshifted y) ∷ []))
+
+  joint-events : (leads : Bool) (e : Events)
+      → e ≡ eventsIn (pick (eqb x y) [] (caught (jointEvent leads el (unshifted x) (unshifted y) o) []))
+      → e ≡ eventsIn (refined leads p q (toldEvents (t .events)))
+  joint-events leads e ee =
+      ee ∙ ap (λ (l : List Event). eventsIn l) (joint-refined leads p q el x y o v w)
+      ∙ ap (λ (l : List Event). eventsIn (refined leads p q l)) (sym told-one)
+
+  pub first-put : (e : Events)
+      → e ≡ eventsIn (pick (eqb x y) [] (caught (jointEvent true el (unshifted x) (unshifted y) o) []))
+      → record { answer = a; pads = two n q; events = e } ≡ firstTold p q t
+  first-put e ee =
+      sym (ap (λ (u : Told). record { answer = u .answer; pads = two (u .pad) q; events = e }) k)
+      ∙ first-told p q t e h (joint-events true e ee)
+
+  pub second-put : (e : Events)
+      → e ≡ eventsIn (pick (eqb x y) [] (caught (jointEvent false el (unshifted x) (unshifted y) o) []))
+      → record { answer = a; pads = two q n; events = e } ≡ secondTold q p t
+  second-put e ee =
+      sym (ap (λ (u : Told). record { answer = u .answer; pads = two q (u .pad); events = e }) k)
+      ∙ second-told q p t e h (joint-events false e ee)
 
 -- ---- the loop over a pad's events
 pub refining-none : (leads : Bool) (p q : Pad) (es : List Event) → Refining leads p q es (replicate 27 unusedEvent) 0 0

@@ -1,16 +1,12 @@
 // A pad while a game runs: the codes that it has reported with their last raw values, and the current map.
-use crate::choice::element_number;
-use crate::choice::held_place;
-use crate::events::ELEMENTS;
 use crate::events::Events;
 use crate::events::Raw;
-use crate::numbers::held_number;
-use crate::numbers::unbiased;
+use crate::lent::capped;
+use crate::lent::put_code;
+use crate::lent::value_of;
 use crate::telling::all_numbers;
-use crate::telling::code_events;
+use crate::telling::change_events;
 use crate::telling::differences;
-use crate::telling::no_events;
-use crate::telling::place_of;
 use line::ev::AxisOrBtn;
 use line::ev::Code;
 use line::mapping::CODES_MAX;
@@ -18,14 +14,11 @@ use line::mapping::Mapping;
 use line::refusal::Outcome;
 use line::refusal::Refusal;
 ghost use mathlib.Core.Path.{_≡_};
-ghost use Prim.Native.Nat.{_≤_};
 ghost use Rattle.pad.specs.ValueClaims.{RawWithin};
-ghost use Rattle.pad.specs.Pads.{HELD_MAX};
-ghost use Rattle.pad.specs.States.{newPad, rawEventOf, changeMapOf, refusedOf, padValue, entryNumbers};
+ghost use Rattle.pad.specs.States.{newPad, rawEventOf, changeMapOf, padValue, entryNumbers};
 ghost use Rattle.pad.specs.PadGuarantee.{ShortAll};
 ghost use Rattle.pad.specs.Refusals.{padOutcome};
 ghost use Rattle.line.specs.Maps as specs;
-ghost use Rattle.pad.specs.Inner.{cappedOf, grownOf};
 
 // The most codes that a pad holds.
 pub const HELD_MAX: usize = 256;
@@ -81,24 +74,17 @@ impl Pad {
     pub fn raw_event(self, code: Code, raw: Raw) -> Told
         ensures { λ r. ⌜ (r ≡ rawEventOf self code raw) × RawWithin raw ⌝ }
     {
-        let x = held_number(code, raw);
-        let held = self.held;
+        let mut held = self.held;
         let entries = self.entries;
-        let n = capped(self.count);
-        let i = held_place(&held, n, code);
-        if i == HELD_MAX {
-            return refused(self);
-        }
-        let mut later = held;
-        later[i] = x;
-        let many = grown(i, n);
-        let m = capped(self.entry_count);
-        let events = code_events(&held, n, &later, many, &entries, m, code);
+        let put = put_code(&mut held, self.count, &entries, self.entry_count, code, raw);
+        let answer = put.answer;
+        let change = put.change;
+        let events = change_events(change);
         Told {
-            answer: PadAnswer::Done,
+            answer,
             pad: Pad {
-                count: many,
-                held: later,
+                count: put.count,
+                held,
                 entry_count: self.entry_count,
                 entries,
             },
@@ -133,46 +119,9 @@ impl Pad {
     pub fn value(self, element: AxisOrBtn) -> i16
         ensures { λ r. ⌜ r ≡ padValue self element ⌝ }
     {
-        if place_of(element) == ELEMENTS {
-            return 0;
-        }
         let held = self.held;
         let entries = self.entries;
-        let n = capped(self.count);
-        let m = capped(self.entry_count);
-        unbiased(element_number(&held, n, &entries, m, element))
-    }
-}
-
-// A count over the most is read as the most.
-fn capped(count: usize) -> usize
-    ensures { λ r. ⌜ (r ≡ cappedOf count) × (r ≤ HELD_MAX) ⌝ }
-{
-    if count < HELD_MAX {
-        return count;
-    }
-    HELD_MAX
-}
-
-// How many codes are held after a put at place i of n.
-fn grown(i: usize, n: usize) -> usize
-    requires { ⌜ n ≤ HELD_MAX ⌝ }
-    ensures { λ r. ⌜ r ≡ grownOf i n ⌝ }
-{
-    if i < n {
-        return n;
-    }
-    n + 1
-}
-
-// A 257th code.
-fn refused(pad: Pad) -> Told
-    ensures { λ r. ⌜ r ≡ refusedOf pad ⌝ }
-{
-    Told {
-        answer: PadAnswer::TooManyCodes,
-        pad,
-        events: no_events(),
+        value_of(&held, self.count, &entries, self.entry_count, element)
     }
 }
 

@@ -13,15 +13,28 @@ use line::mapping::Entered;
 ghost use mathlib.Core.Path.{_≡_};
 ghost use mathlib.Core.List.{[], _∷_, map};
 ghost use Prim.Native.Nat.{_≤_, _<_};
-ghost use lib.ListN.{length};
-ghost use Rattle.pad.specs.Pads.{placeFrom, placeOf, elementAt, valuesOf, changes};
+ghost use lib.ListN.{length, set};
+ghost use lib.Dec.{eqb, ltb};
+ghost use lib.IntN.{pos};
+ghost use Rattle.text.specs.Bytes.{pick};
+ghost use Rattle.pad.specs.Pads.{ELEMENTS, placeFrom, placeOf, elementAt, valueOf, valuesOf, changes};
 ghost use Rattle.pad.specs.States.{eventsIn};
-ghost use Rattle.pad.specs.Inner.{unshifted, heldsIn, entriesIn, oneEvent, OnlyOf, Touched, Small};
+ghost use Rattle.pad.specs.Inner.{unshifted, heldsIn, entriesIn, oneEvent, Touched, Small};
 
 // The last button and the last axis that have a place.
 const BUTTON_LAST: u16 = 19;
 
 const AXIS_LAST: u16 = 8;
+
+// The number of the value 0.
+const ZERO: u32 = 32768;
+
+// The values of an element before and after, as numbers.
+pub struct Change {
+    pub element: AxisOrBtn,
+    pub before: u32,
+    pub later: u32,
+}
 
 // The place of a number of 1 up to the last, those before it passed over.
 fn place_from(first: usize, last: u16, n: u16) -> usize
@@ -66,66 +79,84 @@ pub fn no_events() -> Events
 }
 
 // One event.
-fn one_event(element: AxisOrBtn, x: u32) -> Events
-    requires { ⌜ x < 65536 ⌝ }
-    ensures { λ r. ⌜ r ≡ eventsIn (oneEvent element (unshifted x) ∷ []) ⌝ }
+pub fn one_event(e: Event) -> Events
+    ensures { λ r. ⌜ r ≡ eventsIn (e ∷ []) ⌝ }
 {
-    let value = unbiased(x);
     let mut list = [Event::UNUSED; ELEMENTS];
-    list[0] = Event { element, value };
+    list[0] = e;
     Events { count: 1, list }
 }
 
-// The events of an element alone.
-fn element_events(
-    held: &[u64],
-    n: usize,
-    after: &[u64],
-    many: usize,
-    entries: &[u64],
-    m: usize,
-    el: AxisOrBtn,
-) -> Events
-    requires { ⌜ (n ≤ length (now held)) × (many ≤ length (now after)) × (m ≤ length (now entries))
-        × OnlyOf (heldsIn n (now held)) (heldsIn many (now after)) (entriesIn m (now entries)) el × (m ≤ 256) ⌝ }
-    ensures { λ r. ⌜ r ≡ eventsIn (changes 0 (valuesOf (heldsIn n (now (held .entry)))
-        (entriesIn m (now (entries .entry))))
-        (valuesOf (heldsIn many (now (after .entry))) (entriesIn m (now (entries .entry))))) ⌝ }
+// No element takes another value.
+pub fn no_change() -> Change
+    ensures { λ r. ⌜ (placeOf (r .element) ≡ ELEMENTS) × (r .before ≡ 32768) × (r .later ≡ 32768) ⌝ }
 {
-    if place_of(el) == ELEMENTS {
-        return no_events();
+    Change {
+        element: AxisOrBtn::Btn(Button::Unknown),
+        before: ZERO,
+        later: ZERO,
     }
-    let before = element_number(held, n, entries, m, el);
-    let later = element_number(after, many, entries, m, el);
-    if before == later {
-        return no_events();
-    }
-    one_event(el, later)
 }
 
-// The events of a raw value that was put: at most one, of the element of its code.
-pub fn code_events(
-    held: &[u64],
+// A number x put at place i of the held codes, so that `many` are held then, and the change: at most that of the
+// element of its code.
+pub fn code_change(
+    held: &mut [u64],
     n: usize,
-    after: &[u64],
+    i: usize,
+    x: u64,
     many: usize,
     entries: &[u64],
     m: usize,
     code: Code,
-) -> Events
-    requires { ⌜ (n ≤ length (now held)) × (many ≤ length (now after)) × (m ≤ length (now entries))
-        × Touched (heldsIn n (now held)) (heldsIn many (now after)) code × (m ≤ 256) ⌝ }
-    ensures { λ r. ⌜ r ≡ eventsIn (changes 0 (valuesOf (heldsIn n (now (held .entry)))
-        (entriesIn m (now (entries .entry))))
-        (valuesOf (heldsIn many (now (after .entry))) (entriesIn m (now (entries .entry))))) ⌝ }
+) -> Change
+    requires { ⌜ (n ≤ length (now held)) × (many ≤ length (now held)) × (i < length (now held))
+        × (m ≤ length (now entries)) × (m ≤ 256)
+        × Touched (heldsIn n (now held)) (heldsIn many (set (now held) i x)) code ⌝ }
+    ensures { λ r. ⌜ (now (held .exit) ≡ set (now (held .entry)) i x)
+        × (changes 0 (valuesOf (heldsIn n (now (held .entry))) (entriesIn m (now (entries .entry))))
+        (valuesOf (heldsIn many (set (now (held .entry)) i x)) (entriesIn m (now (entries .entry))))
+        ≡ pick (eqb (r .before) (r .later)) [] (oneEvent (r .element) (unshifted (r .later)) ∷ []))
+        × (unshifted (r .before) ≡ pick (ltb (placeOf (r .element)) ELEMENTS)
+        (valueOf (heldsIn n (now (held .entry))) (entriesIn m (now (entries .entry))) (r .element)) (pos 0))
+        × (r .before < 65536) × (r .later < 65536) ⌝ }
 {
     match first_entry(entries, m, code) {
         Entered::Is(e) => {
-            let el = e.element;
-            element_events(held, n, after, many, entries, m, el)
+            let element = e.element;
+            if place_of(element) == ELEMENTS {
+                held[i] = x;
+                return no_change();
+            }
+            let before = element_number(held, n, entries, m, element);
+            held[i] = x;
+            let later = element_number(held, many, entries, m, element);
+            Change {
+                element,
+                before,
+                later,
+            }
         }
-        Entered::Absent => no_events(),
+        Entered::Absent => {
+            held[i] = x;
+            no_change()
+        }
     }
+}
+
+// The events of a change.
+pub fn change_events(c: Change) -> Events
+    requires { ⌜ c .later < 65536 ⌝ }
+    ensures { λ r. ⌜ r ≡ eventsIn (pick (eqb (c .before) (c .later)) []
+        (oneEvent (c .element) (unshifted (c .later)) ∷ [])) ⌝ }
+{
+    if c.before == c.later {
+        return no_events();
+    }
+    let element = c.element;
+    let value = unbiased(c.later);
+    let e = Event { element, value };
+    one_event(e)
 }
 
 // The values of all elements, as numbers.

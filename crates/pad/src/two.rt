@@ -4,23 +4,36 @@ use crate::events::ELEMENTS;
 use crate::events::Event;
 use crate::events::Events;
 use crate::events::Raw;
+use crate::lent::put_code;
+use crate::lent::value_of;
 use crate::numbers::biased;
+use crate::numbers::unbiased;
 use crate::state::Pad;
 use crate::state::PadAnswer;
 use crate::state::Told;
+use crate::telling::Change;
+use crate::telling::no_events;
+use crate::telling::one_event;
 use crate::value::Emitted;
 use line::ev::AxisOrBtn;
 use line::ev::Code;
 use line::mapping::Mapping;
 ghost use mathlib.Core.Path.{_≡_};
-ghost use Prim.Native.Nat.{_≤_};
+ghost use mathlib.Core.List.{[]};
+ghost use Prim.Native.Nat.{_≤_, _<_};
 ghost use lib.ListN.{length};
+ghost use lib.Dec.{eqb, ltb};
+ghost use lib.IntN.{pos};
+ghost use Rattle.text.specs.Bytes.{pick};
+ghost use Rattle.pad.specs.declared.value.Emitted.the-variants as Em;
+ghost use Rattle.pad.specs.Pads.{ELEMENTS, placeOf, valueOf, sameℤ};
 ghost use Rattle.line.specs.Maps.{held};
 ghost use Rattle.pad.specs.ValueClaims.{RawWithin};
-ghost use Rattle.pad.specs.States.{eventsIn};
+ghost use Rattle.pad.specs.States.{eventsIn, rawEventOf};
 ghost use Rattle.pad.specs.PadGuarantee.{ShortAll, toldEvents};
 ghost use Rattle.pad.specs.TwoPads.{farther, padsValue, newPads, padsToldOf, padsRawEventOf, padsChangeMapOf};
-ghost use Rattle.pad.specs.Inner.{joinedOf, joinedEvent, refined, TellsItself, firstTold, secondTold};
+ghost use Rattle.pad.specs.Inner.{unshifted, heldsIn, entriesIn, oneEvent, joinedOf, joinedEvent, caught};
+ghost use Rattle.pad.specs.Inner.{refined, TellsItself, firstTold, secondTold};
 
 // The pads of one player.
 pub struct Pads {
@@ -60,8 +73,8 @@ impl Pads {
         let first = self.first;
         let second = self.second;
         match which {
-            Which::First => told_first(first, second, first.raw_event(code, raw)),
-            Which::Second => told_second(first, second, second.raw_event(code, raw)),
+            Which::First => first_event(first, second, code, raw),
+            Which::Second => second_event(first, second, code, raw),
         }
     }
 
@@ -107,19 +120,136 @@ fn joined(leads: bool, own: i16, beside: i16) -> i16
     farthest(beside, own)
 }
 
-// What becomes of an event of a pad, as it was before, when another pad plays along.
-fn joined_event(leads: bool, own: Pad, beside: Pad, e: Event) -> Emitted
-    ensures { λ r. ⌜ r ≡ joinedEvent leads own beside e ⌝ }
+// An element's event by its value on a pad before and after, and by its value on the pad beside it.
+fn joined_values(leads: bool, element: AxisOrBtn, before: i16, later: i16, other: i16) -> Emitted
+    ensures { λ r. ⌜ r ≡ pick (sameℤ (joinedOf leads before other) (joinedOf leads later other)) Em.Nothing
+        (Em.Is (oneEvent element (joinedOf leads later other))) ⌝ }
 {
-    let element = e.element;
-    let other = beside.value(element);
-    let was = joined(leads, own.value(element), other);
-    let value = joined(leads, e.value, other);
+    let was = joined(leads, before, other);
+    let value = joined(leads, later, other);
     if biased(was) == biased(value) {
         return Emitted::Nothing;
     }
     let told = Event { element, value };
     Emitted::Is(told)
+}
+
+// What becomes of an event of a pad, as it was before, when another pad plays along.
+fn joined_event(leads: bool, own: Pad, beside: Pad, e: Event) -> Emitted
+    ensures { λ r. ⌜ r ≡ joinedEvent leads own beside e ⌝ }
+{
+    let element = e.element;
+    joined_values(
+        leads,
+        element,
+        own.value(element),
+        e.value,
+        beside.value(element),
+    )
+}
+
+// The value of an element on the other pad, whose state is lent; it is not asked for where nothing changed.
+fn value_beside(c: Change, held: &[u64], count: usize, entries: &[u64], entry_count: usize) -> i16
+    requires { ⌜ (length (now held) ≡ 256) × (length (now entries) ≡ 256) ⌝ }
+    ensures { λ r. ⌜ r ≡ pick (eqb (c .before) (c .later)) (pos 0) (pick (ltb (placeOf (c .element)) ELEMENTS)
+        (valueOf (heldsIn count (now (held .entry))) (entriesIn «entry_count» (now (entries .entry))) (c .element))
+        (pos 0)) ⌝ }
+{
+    if c.before == c.later {
+        return 0;
+    }
+    let element = c.element;
+    value_of(held, count, entries, entry_count, element)
+}
+
+// What becomes of a pad's change by the value of its element on the other pad.
+fn joined_change(leads: bool, c: Change, other: i16) -> Events
+    requires { ⌜ (c .before < 65536) × (c .later < 65536) ⌝ }
+    ensures { λ r. ⌜ r ≡ eventsIn (pick (eqb (c .before) (c .later)) []
+        (caught (pick (sameℤ (joinedOf leads (unshifted (c .before)) other)
+        (joinedOf leads (unshifted (c .later)) other)) Em.Nothing
+        (Em.Is (oneEvent (c .element) (joinedOf leads (unshifted (c .later)) other)))) [])) ⌝ }
+{
+    if c.before == c.later {
+        return no_events();
+    }
+    let element = c.element;
+    match joined_values(leads, element, unbiased(c.before), unbiased(c.later), other) {
+        Emitted::Is(e) => one_event(e),
+        Emitted::Nothing => no_events(),
+    }
+}
+
+// A raw value of a code of the first pad.
+fn first_event(first: Pad, second: Pad, code: Code, raw: Raw) -> PadsTold
+    ensures { λ r. ⌜ (r ≡ firstTold first second (rawEventOf first code raw)) × RawWithin raw ⌝ }
+{
+    let mut held = first.held;
+    let entries = first.entries;
+    let beside = second.held;
+    let others = second.entries;
+    let put = put_code(
+        &mut held,
+        first.count,
+        &entries,
+        first.entry_count,
+        code,
+        raw,
+    );
+    let answer = put.answer;
+    let change = put.change;
+    let other = value_beside(change, &beside, second.count, &others, second.entry_count);
+    let events = joined_change(true, change, other);
+    let after = Pad {
+        count: put.count,
+        held,
+        entry_count: first.entry_count,
+        entries,
+    };
+    PadsTold {
+        answer,
+        pads: Pads {
+            first: after,
+            second,
+        },
+        events,
+    }
+}
+
+// A raw value of a code of the second pad.
+fn second_event(first: Pad, second: Pad, code: Code, raw: Raw) -> PadsTold
+    ensures { λ r. ⌜ (r ≡ secondTold first second (rawEventOf second code raw)) × RawWithin raw ⌝ }
+{
+    let mut held = second.held;
+    let entries = second.entries;
+    let beside = first.held;
+    let others = first.entries;
+    let put = put_code(
+        &mut held,
+        second.count,
+        &entries,
+        second.entry_count,
+        code,
+        raw,
+    );
+    let answer = put.answer;
+    let change = put.change;
+    let other = value_beside(change, &beside, first.count, &others, first.entry_count);
+    let events = joined_change(false, change, other);
+    let after = Pad {
+        count: put.count,
+        held,
+        entry_count: second.entry_count,
+        entries,
+    };
+    PadsTold {
+        answer,
+        pads: Pads {
+            first,
+            second: after,
+        },
+        events,
+    }
 }
 
 // What becomes of a pad's events.

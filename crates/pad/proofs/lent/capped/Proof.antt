@@ -2,8 +2,8 @@
 use mathlib.Core.Path.{_≡_, refl, sym, ap, subst, _∙_}
 use native.Mathlib.Omega.{arith}
 use borrow.Author.Tests.{eq-eqb, ne-eqb, lt-ltb, le-ltb, le-leb, lt-leb}
-use Rattle.pad.proofs.state.capped.Statement.{statement}
-use Rattle.pad.proofs.state.capped.Tie as tie
+use Rattle.pad.proofs.lent.capped.Statement.{statement}
+use Rattle.pad.proofs.lent.capped.Tie as tie
 
 returns : tie.Need-returns
 returns c = (simp (lt-ltb _ _ (c .if1 .taken)), omega arith)

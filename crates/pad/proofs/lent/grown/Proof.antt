@@ -2,8 +2,8 @@
 use mathlib.Core.Path.{_≡_, refl, sym, ap, subst, _∙_}
 use borrow.Author.Tests.{eq-eqb, ne-eqb, lt-ltb, le-ltb, le-leb, lt-leb}
 use borrow.Author.Needs.{needs}
-use Rattle.pad.proofs.state.grown.Statement.{statement}
-use Rattle.pad.proofs.state.grown.Tie as tie
+use Rattle.pad.proofs.lent.grown.Statement.{statement}
+use Rattle.pad.proofs.lent.grown.Tie as tie
 
 returns : tie.Need-returns
 returns c = simp (lt-ltb _ _ (c .if1 .taken))
