@@ -24,7 +24,7 @@ use Rattle.store.specs.Layout.{Bytes}
 use Rattle.store.specs.Inner.{Sized, sizes}
 use Rattle.store.specs.Keys.{rowsMax}
 use Rattle.store.specs.Rows.{keyIn, startIn, lenIn}
-use Rattle.store.specs.Layout.{recordBytes, records, texts, encodeIndex, encodeText}
+use Rattle.store.specs.Layout.{recordBytes, records, texts, encodeRecords, encodeText}
 use Rattle.store.specs.Table.{living, lineAt, Whole, Tabled, Takes-up, Keepable, Keeps, Extends, keptLines}
 use Rattle.store.specs.Table.{behindKept, Lent, Closes, Closed, Settles, Settled}
 use Rattle.store.proofs.BufferLaws.{tail-written}
@@ -360,6 +360,6 @@ module _ (i t s : List ℕ) (a : List ℕ) (was : Fill) (c : ℕ) (b : Bytes i) 
         let part : List ℕ = midOf (r .at) (length i - r .at) i in
         let v = w hs (lent hs T part refl) in (
           tail-back (r .at) i ys ∙ ap (λ (y : List ℕ). y ++ ys) (kept-index hs T) ∙ v .0
-              ∙ ap (λ (y : List ℕ). encodeIndex (length y) hs) (sym (whole-is hs T part refl)),
+              ∙ ap (λ (y : List ℕ). encodeRecords (length y) hs) (sym (whole-is hs T part refl)),
           v .1,
         )

@@ -17,7 +17,7 @@ use Rattle.store.specs.Inner.{Good, known, sizes}
 use Rattle.store.specs.Held.{Key, Held, distinct, indexMax, textMax}
 use Rattle.store.specs.Layout.{Bytes}
 use Rattle.store.specs.Inner.{headOf, Lies}
-use Rattle.store.specs.Layout.{Shapes, recordOf, records, texts, padded, encodeIndex, encodeText}
+use Rattle.store.specs.Layout.{Shapes, recordOf, records, texts, padded, encodeRecords, encodeText}
 use Rattle.store.proofs.BoolLaws.{and-left, and-right, and-both}
 use Rattle.store.proofs.HeldLaws.{zeroes-replicate}
 use Rattle.store.proofs.RecordLaws.{size-some, head-proper, read-back, Fits, fits-of, fits-all}
@@ -227,8 +227,8 @@ lines-of none e = let z : _≡_ {A = ℕ} 0 1 = cc in absurd (omega arith)
 lines-of (some hs) e = (hs, refl)
 
 module _ (i t : List ℕ) (hs : List Held) (l : Laid i t hs) where
-  pub index-kept : i ≡ encodeIndex (length i) hs
-  unfolding encodeIndex
+  pub index-kept : i ≡ encodeRecords (length i) hs
+  unfolding encodeRecords
   index-kept = padded-is (length i) i (records 0 hs) (l .rows .lies .more) (l .rows .lies .is) refl
 
   pub text-kept : t ≡ encodeText (length t) hs
@@ -260,29 +260,29 @@ length-padded n s l = simp (length-append, length-replicate) (omega arith)
 
 -- what is encoded is decoded
 module _ (n m : ℕ) (hs : List Held) (g : Good n m hs) where
-  pub length-index : length (encodeIndex n hs) ≡ n
-  unfolding encodeIndex
+  pub length-index : length (encodeRecords n hs) ≡ n
+  unfolding encodeRecords
   length-index = length-padded n (records 0 hs) (g .index)
 
   pub length-text : length (encodeText m hs) ≡ m
   unfolding encodeText
   length-text = length-padded m (texts hs) (g .text)
 
-  pub lies-encoded : m ≤ textMax → Lies 0 hs (encodeIndex n hs)
+  pub lies-encoded : m ≤ textMax → Lies 0 hs (encodeRecords n hs)
   lies-encoded lm = record {
     more = n - sizes 0 hs;
-    is = unfold encodeIndex padded in refl;
+    is = unfold encodeRecords padded in refl;
     shapes =
         g .shapes;
     below = omega (arith, g .text);
   }
 
-  pub decode-encoded : n ≤ indexMax → m ≤ textMax → decode (encodeIndex n hs) (encodeText m hs) ≡ some hs
+  pub decode-encoded : n ≤ indexMax → m ≤ textMax → decode (encodeRecords n hs) (encodeText m hs) ≡ some hs
   unfolding decode
   decode-encoded ln lm =
       rw (length-index, length-text, and-both _ _ (le-leb n indexMax ln) (le-leb m textMax lm))
       (ap guarded walked ∙ ap (λ (b : Bool). pick b (some hs) none) (g .once))
     where
-      walked : walk (suc n) 0 (encodeIndex n hs) (encodeText m hs) ≡ some hs
-      walked = walk-lies (suc n) 0 hs (encodeIndex n hs) (encodeText m hs) (m - length (texts hs))
+      walked : walk (suc n) 0 (encodeRecords n hs) (encodeText m hs) ≡ some hs
+      walked = walk-lies (suc n) 0 hs (encodeRecords n hs) (encodeText m hs) (m - length (texts hs))
           (omega (arith, g .index)) (lies-encoded lm) (unfold encodeText padded in refl)

@@ -10,7 +10,7 @@ use Rattle.store.specs.Decode.{decode}
 use Rattle.store.specs.Held.{Held}
 use Rattle.store.specs.Layout.{Bytes}
 use Rattle.store.specs.Inner.{Good}
-use Rattle.store.specs.Layout.{records, texts, padded, encodeIndex, encodeText, Encodes}
+use Rattle.store.specs.Layout.{records, texts, padded, encodeRecords, encodeText, Encodes}
 use Rattle.store.proofs.DecodeLaws.{Laid, laid, index-kept, text-kept, decode-encoded}
 
 -- what fills a buffer up fits in it
@@ -39,6 +39,6 @@ encodes-decode i t hs e =
     fits = record {
       shapes = e .shapes;
       once = e .once;
-      index = padded-fits (length i) (records 0 hs) i (e .index ∙ unfold encodeIndex in refl) refl;
+      index = padded-fits (length i) (records 0 hs) i (e .index ∙ unfold encodeRecords in refl) refl;
       text = padded-fits (length t) (texts hs) t (e .text ∙ unfold encodeText in refl) refl;
     }

@@ -12,7 +12,7 @@ use Rattle.text.specs.Search.{firstText}
 use Rattle.store.specs.declared.parties.Party.the-variants as P
 use Rattle.store.specs.Parties.{Named}
 use Rattle.store.specs.Held.{keyBy, sameKey, strike, file, find, holds, distinct}
-use Rattle.store.specs.Layout.{recordBytes, records, texts, padded, encodeIndex, encodeText}
+use Rattle.store.specs.Layout.{recordBytes, records, texts, padded, encodeRecords, encodeText}
 use Rattle.store.specs.Decode.{bodyAt, ownerAt, headAt, headFits, zeroes, walk, decode}
 use Rattle.store.specs.Lines.{linesOf, forPlatform, wanted}
 use Rattle.store.specs.Book.{recordSizes, lengths, noRoom, reach, insertLines, bookWalk, bookInsert, insert, clear, bookTurn, numberOf}
@@ -35,7 +35,7 @@ twice = insert hall u ∷ insert hall (u ++ ascii ",x") ∷ []
 
 last-found : lookUp P.Hall nil (stored 42 40 twice .index) (stored 42 40 twice .text) ≡ found (u ++ ascii ",x")
 unfolding runStore storeCall storeInsert ownInsert storeWalk decode walk headAt ownerAt headFits bodyAt zeroes distinct holds sameKey bookWalk
-    isUtf8 validRun runOf charLength firstLength begins encodeIndex encodeText records recordBytes texts padded
+    isUtf8 validRun runOf charLength firstLength begins encodeRecords encodeText records recordBytes texts padded
     bigEndian linesOf insertLines reach wanted forPlatform firstText uuidOf readHex hexDigit firstOf same noRoom recordSizes strike
     lengths file lookUp lookBy find nil hall u twice
 last-found = refl
@@ -52,7 +52,7 @@ thenCleared = twice ++ (clear ∷ [])
 
 cleared : lookUp P.Hall nil (stored 42 40 thenCleared .index) (stored 42 40 thenCleared .text) ≡ nothing
 unfolding runStore storeCall storeInsert ownInsert storeWalk storeClear decode walk headAt ownerAt headFits bodyAt zeroes distinct holds sameKey
-    bookWalk isUtf8 validRun runOf charLength firstLength begins encodeIndex encodeText records recordBytes texts
+    bookWalk isUtf8 validRun runOf charLength firstLength begins encodeRecords encodeText records recordBytes texts
     padded bigEndian linesOf insertLines reach wanted forPlatform firstText uuidOf readHex hexDigit firstOf same noRoom recordSizes
     strike lengths file lookUp lookBy find nil hall u twice thenCleared
 cleared = refl
@@ -63,7 +63,7 @@ others = insert hall u ∷ insert hall (ascii "00000000000000000000000000000001"
 
 numbers : map numberOf (stored 21 80 others .answers) ≡ 0 ∷ 21 ∷ []
 unfolding runStore storeCall storeInsert ownInsert storeWalk decode walk headAt ownerAt headFits bodyAt zeroes distinct holds sameKey bookWalk
-    isUtf8 validRun runOf charLength firstLength begins encodeIndex encodeText records recordBytes texts padded
+    isUtf8 validRun runOf charLength firstLength begins encodeRecords encodeText records recordBytes texts padded
     bigEndian linesOf insertLines reach wanted forPlatform firstText uuidOf readHex hexDigit firstOf same noRoom recordSizes strike
     lengths file nil hall u others
 numbers = refl

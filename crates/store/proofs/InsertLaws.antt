@@ -21,7 +21,7 @@ use Rattle.store.specs.Book.{insertLines, bookWalk}
 use Rattle.store.specs.Decode.{decode}
 use Rattle.store.specs.Held.{Held, file, indexMax, textMax, lineMax}
 use Rattle.store.specs.Layout.{Bytes}
-use Rattle.store.specs.Layout.{encodeIndex, encodeText}
+use Rattle.store.specs.Layout.{encodeRecords, encodeText}
 use Rattle.store.specs.Lines.{linesOf, wanted}
 use Rattle.store.specs.Store.{Done, holding, onLines, storeWalk}
 use Rattle.store.proofs.DecodeLaws.{Laid, laid, good, lines-of, index-kept, text-kept, length-index}
@@ -82,7 +82,7 @@ module _ (own : ℕ) (i t s : List ℕ) (hs : List Held) (d : decode i t ≡ som
       (sym (index-kept i t hs l)) (sym (text-kept i t hs l))))
 
   pub insert-done : isUtf8 s ≡ true → (r : Turn Tally) → insertLines (caller (length i) (length t) own) hs 0 (linesOf s) ≡ r
-      → (i′ t′ : List ℕ) → i′ ≡ encodeIndex (length i) (r .held) → t′ ≡ encodeText (length t) (r .held)
+      → (i′ t′ : List ℕ) → i′ ≡ encodeRecords (length i) (r .held) → t′ ≡ encodeText (length t) (r .held)
       → record { answer = r .answer; index = i′; text = t′ } ≡ storeWalk i t own s
   unfolding bookWalk
   insert-done u r e i′ t′ ei et =
@@ -101,7 +101,7 @@ insert-not-utf8 own i t s b k e p q =
 pub record Inserts (own : ℕ) (i₀ t₀ s i t : List ℕ) (at count : ℕ) (hs₀ : List Held) : Type 0 where
   pub hs : List Held
   pub good : Good (length i₀) (length t₀) hs
-  pub index : i ≡ encodeIndex (length i₀) hs
+  pub index : i ≡ encodeRecords (length i₀) hs
   pub text : t ≡ encodeText (length t₀) hs
   pub run : insertLines (caller (length i₀) (length t₀) own) hs₀ 0 (linesOf s)
       ≡ insertLines (caller (length i₀) (length t₀) own) hs count (linesOf (drop at s))

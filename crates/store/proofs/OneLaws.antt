@@ -14,7 +14,7 @@ use Rattle.store.specs.Decode.{decode}
 use Rattle.store.specs.Held.{Key, Held, file, lineMax}
 use Rattle.store.specs.Layout.{Bytes}
 use Rattle.store.specs.Inner.{known, room, Files}
-use Rattle.store.specs.Layout.{encodeIndex, encodeText}
+use Rattle.store.specs.Layout.{encodeRecords, encodeText}
 use Rattle.store.specs.Table.{Loads, Tabled, InRows, Files′, Filed, fits, full, Fileable, FilesRow}
 use Rattle.store.specs.Table.{Settles, Settled}
 use Rattle.store.proofs.DecodeLaws.{laid, lines-of, index-kept, text-kept}
@@ -52,7 +52,7 @@ module _ (i t s : List ℕ) (a : List ℕ) (heads next : List ℕ) (f : Fill) (l
     pub one-full : r .count ≡ f .count → Bytes i → Files i t (record { key = k; line = s }) false i t
     one-full e b hs d = go (filed hs d)
       where
-        go : By hs → (false ≡ room (length i) (length t) (record { key = k; line = s }) hs) × (i ≡ encodeIndex (length i) hs)
+        go : By hs → (false ≡ room (length i) (length t) (record { key = k; line = s }) hs) × (i ≡ encodeRecords (length i) hs)
             × (t ≡ encodeText (length t) hs)
         go (fits q c y) = absurd (omega (arith, c, e))
         go (full q c y) = (

@@ -19,7 +19,7 @@ use Rattle.store.specs.declared.calls.SaveAnswer.the-variants as Sv
 use Rattle.store.specs.declared.parties.Party.the-variants as P
 use Rattle.store.specs.Parties.{Named}
 use Rattle.store.specs.Held.{keyBy, sameKey, strike, file, find, holds, distinct}
-use Rattle.store.specs.Layout.{recordBytes, records, texts, padded, encodeIndex, encodeText}
+use Rattle.store.specs.Layout.{recordBytes, records, texts, padded, encodeRecords, encodeText}
 use Rattle.store.specs.Decode.{bodyAt, ownerAt, headAt, headFits, zeroes, walk, decode}
 use Rattle.store.specs.Lines.{linesOf, forPlatform, wanted}
 use Rattle.store.specs.Book.{caller, under, recordSizes, lengths, noRoom, reach, insertLines, bookWalk, numberOf}
@@ -202,21 +202,21 @@ shared = insert hall u ∷ insert seven (u ++ ascii ",7") ∷ insert zero u ∷ 
 seven-finds : lookUp (P.Organiser 7) nil (stored 43 68 shared .index) (stored 43 68 shared .text)
     ≡ found (u ++ ascii ",7")
 unfolding runStore storeCall storeInsert ownInsert storeWalk otherSpellings decode walk headAt ownerAt headFits bodyAt
-    zeroes distinct holds sameKey bookWalk isUtf8 validRun runOf charLength firstLength begins encodeIndex encodeText
+    zeroes distinct holds sameKey bookWalk isUtf8 validRun runOf charLength firstLength begins encodeRecords encodeText
     records texts padded linesOf insertLines reach wanted forPlatform firstText uuidOf readHex hexDigit firstOf same
     noRoom recordSizes strike lengths file recordBytes bigEndian lookUp lookBy find shared hall seven zero u nil
 seven-finds = refl
 
 hall-finds-last : lookUp P.Hall nil (stored 43 68 shared .index) (stored 43 68 shared .text) ≡ found (u ++ ascii ",x")
 unfolding runStore storeCall storeInsert ownInsert storeWalk otherSpellings decode walk headAt ownerAt headFits bodyAt
-    zeroes distinct holds sameKey bookWalk isUtf8 validRun runOf charLength firstLength begins encodeIndex encodeText
+    zeroes distinct holds sameKey bookWalk isUtf8 validRun runOf charLength firstLength begins encodeRecords encodeText
     records texts padded linesOf insertLines reach wanted forPlatform firstText uuidOf readHex hexDigit firstOf same
     noRoom recordSizes strike lengths file recordBytes bigEndian lookUp lookBy find shared hall seven zero u nil
 hall-finds-last = refl
 
 shared-numbers : map numberOf (stored 43 68 shared .answers) ≡ 0 ∷ 0 ∷ 24 ∷ 0 ∷ []
 unfolding runStore storeCall storeInsert ownInsert storeWalk otherSpellings decode walk headAt ownerAt headFits bodyAt
-    zeroes distinct holds sameKey bookWalk isUtf8 validRun runOf charLength firstLength begins encodeIndex encodeText
+    zeroes distinct holds sameKey bookWalk isUtf8 validRun runOf charLength firstLength begins encodeRecords encodeText
     records texts padded linesOf insertLines reach wanted forPlatform firstText uuidOf readHex hexDigit firstOf same
     noRoom recordSizes strike lengths file recordBytes bigEndian shared hall seven zero u nil
 shared-numbers = refl
@@ -225,7 +225,7 @@ shared-numbers = refl
 cleared-all : lookUp (P.Organiser 7) nil (stored 43 68 (shared ++ (clear ∷ [])) .index)
     (stored 43 68 (shared ++ (clear ∷ [])) .text) ≡ nothing
 unfolding runStore storeCall storeInsert ownInsert storeWalk otherSpellings decode walk headAt ownerAt headFits bodyAt
-    zeroes distinct holds sameKey bookWalk isUtf8 validRun runOf charLength firstLength begins encodeIndex encodeText
+    zeroes distinct holds sameKey bookWalk isUtf8 validRun runOf charLength firstLength begins encodeRecords encodeText
     records texts padded linesOf insertLines reach wanted forPlatform firstText uuidOf readHex hexDigit firstOf same
     noRoom recordSizes strike lengths file recordBytes bigEndian lookUp lookBy find storeClear shared hall seven zero u
     nil

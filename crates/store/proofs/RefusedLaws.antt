@@ -25,7 +25,7 @@ use Rattle.store.specs.declared.calls.Answer.the-variants as A
 use Rattle.store.specs.declared.calls.Tally.{Tally}
 use Rattle.store.specs.declared.calls.SaveAnswer.the-variants as Sv
 use Rattle.store.specs.declared.calls.Saved.{Saved}
-use Rattle.store.specs.Layout.{Bytes, encodeIndex, encodeText}
+use Rattle.store.specs.Layout.{Bytes, encodeRecords, encodeText}
 use Rattle.store.specs.Decode.{decode}
 use Rattle.store.specs.Lines.{linesOf, wanted}
 use Rattle.store.specs.Refusals.{number, saveNumber}

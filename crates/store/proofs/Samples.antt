@@ -15,7 +15,7 @@ use Rattle.text.specs.declared.uuid.UuidParse.the-variants.{Parsed, Invalid}
 use Rattle.store.specs.declared.calls.Answer.the-variants as A
 use Rattle.store.specs.declared.parties.Party.the-variants as P
 use Rattle.store.specs.Held.{keyBy, sameKey, strike, file, holds, distinct}
-use Rattle.store.specs.Layout.{recordBytes, records, texts, padded, encodeIndex, encodeText}
+use Rattle.store.specs.Layout.{recordBytes, records, texts, padded, encodeRecords, encodeText}
 use Rattle.store.specs.Decode.{bodyAt, ownerAt, headAt, headFits, zeroes, walk, decode}
 use Rattle.store.specs.Lines.{linesOf, forPlatform, wanted}
 use Rattle.text.specs.Search.{firstText}
@@ -231,7 +231,7 @@ module _ where
   not-utf8 : storeInsert (0 ∷ []) [] P.Hall (65 ∷ 195 ∷ [])
       ≡ record { answer = record { answer = A.NotUtf8 1; count = 0; «not_simple» = 0 }; index = 0 ∷ []; text = [] }
   unfolding storeInsert ownInsert storeWalk otherSpellings decode walk headAt ownerAt zeroes distinct bookWalk isUtf8 validRun runOf charLength firstLength
-      begins encodeIndex encodeText records texts padded
+      begins encodeRecords encodeText records texts padded
   not-utf8 = refl
 
   -- an unwanted line is counted, a wanted one filed without its CR
@@ -243,7 +243,7 @@ module _ where
             u ++ (0 ∷ []);
       }
   unfolding storeInsert ownInsert storeWalk otherSpellings decode walk headAt ownerAt zeroes distinct bookWalk isUtf8 validRun runOf charLength firstLength
-      begins encodeIndex encodeText records texts padded linesOf insertLines reach wanted forPlatform firstText uuidOf
+      begins encodeRecords encodeText records texts padded linesOf insertLines reach wanted forPlatform firstText uuidOf
       readHex hexDigit firstOf same noRoom recordSizes strike lengths file recordBytes bigEndian rec u nil
   filed = refl
 
@@ -255,7 +255,7 @@ module _ where
         text = replicate 33 0;
       }
   unfolding storeInsert ownInsert storeWalk otherSpellings decode walk headAt ownerAt zeroes distinct bookWalk isUtf8 validRun runOf charLength firstLength
-      begins encodeIndex encodeText records texts padded linesOf insertLines reach wanted forPlatform firstText uuidOf
+      begins encodeRecords encodeText records texts padded linesOf insertLines reach wanted forPlatform firstText uuidOf
       readHex hexDigit firstOf same noRoom recordSizes strike lengths u nil
   full = refl
 

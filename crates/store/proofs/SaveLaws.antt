@@ -14,7 +14,7 @@ use Rattle.store.specs.Inner.{room, bookFile, known, storeFile}
 use Rattle.store.specs.Decode.{decode}
 use Rattle.store.specs.Held.{Held, file}
 use Rattle.store.specs.Inner.{Files}
-use Rattle.store.specs.Layout.{encodeIndex, encodeText}
+use Rattle.store.specs.Layout.{encodeRecords, encodeText}
 use Rattle.store.specs.Store.{Done, holding, onLines, storeAttempt}
 use Rattle.store.proofs.DecodeLaws.{lines-of}
 use Rattle.store.specs.declared.calls.Answer.the-variants as A
@@ -51,7 +51,7 @@ module _ (i t : List ℕ) (h : Held) where
     file-sound =
         let q : (hs : List Held) × (decode i t ≡ some hs) = lines-of (decode i t) k in
         let z : (r ≡ room (length i) (length t) h (q .0))
-        × (i′ ≡ encodeIndex (length i) (pick r (file h (q .0)) (q .0)))
+        × (i′ ≡ encodeRecords (length i) (pick r (file h (q .0)) (q .0)))
         × (t′ ≡ encodeText (length t) (pick r (file h (q .0)) (q .0))) = f (q .0) (q .1) in
         ap₂ (λ (x y : List ℕ). record { answer = said r; index = x; text = y }) (z .1) (z .2)
         ∙ sym (ap (λ (o : Option (List Held)). onLines i t o A.Unsound (λ hs. bookFile (length i) (length t) hs h))

@@ -14,7 +14,7 @@ use Rattle.text.specs.Bytes.{pick, written, writeBuffer}
 use Rattle.text.proofs.BytesLaws.{buffer-fits, written-length}
 use Rattle.store.specs.Held.{Key, Held}
 use Rattle.store.specs.Inner.{sizes, Sized}
-use Rattle.store.specs.Layout.{recordBytes, recordOf, records, texts, padded, encodeIndex, encodeText}
+use Rattle.store.specs.Layout.{recordBytes, recordOf, records, texts, padded, encodeRecords, encodeText}
 use Rattle.store.specs.Table.{living, heldAt, lineAt, Tabled}
 use Rattle.store.specs.Rows.{keyIn, startIn, lenIn}
 use Rattle.store.proofs.BufferLaws.{written-part}
@@ -255,8 +255,8 @@ module _ {i t s : List ℕ} {a : List ℕ} {old c : ℕ} {i′ t′ : List ℕ} 
   all = let e : k ≡ c = omega (arith, w .most) in ap (living (lineAt t s a old)) e ∙ sym (T .is)
 
   pub settled-index : (end : ℕ) → end ≤ length i → drop end i ≡ replicate (length i - end) 0 → (q : List ℕ)
-      → q ≡ written i′ at (replicate (end - at) 0) → q ≡ encodeIndex (length i) hs
-  unfolding encodeIndex
+      → q ≡ written i′ at (replicate (end - at) 0) → q ≡ encodeRecords (length i) hs
+  unfolding encodeRecords
   settled-index end b f q e = zeroed i i′ (records 0 hs) at end q (w .index-long) (at-within w) b
       (w .index ∙ ap (records 0) all) (w .index-rest) f e
 

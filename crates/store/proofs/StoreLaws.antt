@@ -17,7 +17,7 @@ use Rattle.store.specs.Decode.{decode}
 use Rattle.store.specs.Guarantee.{fresh}
 use Rattle.store.specs.Inner.{Good, Builds}
 use Rattle.store.specs.Held.{Key, Held, find, indexMax, textMax}
-use Rattle.store.specs.Layout.{records, texts, padded, encodeIndex, encodeText}
+use Rattle.store.specs.Layout.{records, texts, padded, encodeRecords, encodeText}
 use Rattle.store.specs.Store.{Done, unchanged, onLines, storeClear, storeWalk, ownInsert, storeInsert}
 use Rattle.store.specs.Store.{storeAttempt, answered, storeCall, Runs, andRuns, runStore, lookBy, lookedAt, lookedIn}
 use Rattle.store.proofs.BookLaws.{keeps-none, keeps-turn, keeps-run}
@@ -29,13 +29,13 @@ use Rattle.store.specs.declared.calls.Tally.{Tally}
 module _ (n m : ℕ) where
   -- a turn and a run of the book, with the buffers that encode its lines
   abbrev done : {A : Type 0} → Turn A → Done A
-  done r = record { answer = r .answer; index = encodeIndex n (r .held); text = encodeText m (r .held) }
+  done r = record { answer = r .answer; index = encodeRecords n (r .held); text = encodeText m (r .held) }
 
   abbrev ended : {S : Saving} → Run S → Runs S
-  ended r = record { answers = r .answers; index = encodeIndex n (r .held); text = encodeText m (r .held) }
+  ended r = record { answers = r .answers; index = encodeRecords n (r .held); text = encodeText m (r .held) }
 
-  fresh-index : fresh n ≡ encodeIndex n []
-  unfolding encodeIndex records padded
+  fresh-index : fresh n ≡ encodeRecords n []
+  unfolding encodeRecords records padded
   fresh-index = rw sub-zero
 
   fresh-text : fresh m ≡ encodeText m []
@@ -45,12 +45,12 @@ module _ (n m : ℕ) where
   module _ (ln : n ≤ indexMax) (lm : m ≤ textMax) where
     module _ (hs : List Held) (g : Good n m hs) where
       on-lines : {A : Type 0} (e : A) (f : ℕ → ℕ → List Held → Turn A)
-          → onLines (encodeIndex n hs) (encodeText m hs) (decode (encodeIndex n hs) (encodeText m hs)) e
-          (λ ks. f (length (encodeIndex n hs)) (length (encodeText m hs)) ks)
+          → onLines (encodeRecords n hs) (encodeText m hs) (decode (encodeRecords n hs) (encodeText m hs)) e
+          (λ ks. f (length (encodeRecords n hs)) (length (encodeText m hs)) ks)
           ≡ done (f n m hs)
       on-lines e f = rw (decode-encoded n m hs g ln lm, length-index n m hs g, length-text n m hs g)
 
-      clears : storeClear (encodeIndex n hs) (encodeText m hs) ≡ done bookClear
+      clears : storeClear (encodeRecords n hs) (encodeText m hs) ≡ done bookClear
       unfolding storeClear
       clears =
           rw (
@@ -62,34 +62,34 @@ module _ (n m : ℕ) where
           )
 
       walks : (o : ℕ) (s : List ℕ)
-          → storeWalk (encodeIndex n hs) (encodeText m hs) o s ≡ done (bookWalk (caller n m o) hs s)
+          → storeWalk (encodeRecords n hs) (encodeText m hs) o s ≡ done (bookWalk (caller n m o) hs s)
       unfolding storeWalk
       walks o s = on-lines (record { answer = A.Unsound; count = 0 }) (λ a b ks. bookWalk (caller a b o) ks s)
 
       inserts : (o : ℕ) (s : List ℕ)
-          → ownInsert (encodeIndex n hs) (encodeText m hs) o s ≡ done (bookInsert (caller n m o) hs s)
+          → ownInsert (encodeRecords n hs) (encodeText m hs) o s ≡ done (bookInsert (caller n m o) hs s)
       unfolding ownInsert bookInsert
       inserts o s =
           ap (λ (d : Done Tally). record { answer = insertedOf s (d .answer); index = d .index; text = d .text })
           (walks o s)
 
       saves : {B : Type 0} (unsound full : B) (o : ℕ) (x : Attempt B)
-          → storeAttempt unsound full (encodeIndex n hs) (encodeText m hs) o x
+          → storeAttempt unsound full (encodeRecords n hs) (encodeText m hs) o x
           ≡ done (bookAttempt full (caller n m o) hs x)
       saves unsound full o (refused v) = refl
       saves unsound full o (files h v) =
           on-lines unsound (λ a b ks. bookAttempt full (caller a b o) ks (files h v))
 
       pub one-call : {S : Saving} (x : Call S)
-          → storeCall (encodeIndex n hs) (encodeText m hs) x ≡ done (bookTurn n m hs x)
+          → storeCall (encodeRecords n hs) (encodeText m hs) x ≡ done (bookTurn n m hs x)
       unfolding storeCall storeInsert bookTurn
       one-call clear = ap (answered Reply.cleared) clears
       one-call {S} (insert p s) = go (ownerOf (p .party))
         where
           go : (w : Owner)
               → answered {S = S} inserted (byOwner w
-              (unchanged (encodeIndex n hs) (encodeText m hs) nobodyInserts)
-              (λ o. ownInsert (encodeIndex n hs) (encodeText m hs) o s))
+              (unchanged (encodeRecords n hs) (encodeText m hs) nobodyInserts)
+              (λ o. ownInsert (encodeRecords n hs) (encodeText m hs) o s))
               ≡ done (byOwner w (turn (inserted nobodyInserts) hs)
               (λ o. replied inserted (bookInsert (caller n m o) hs s)))
           go O.Nobody = refl
@@ -97,8 +97,8 @@ module _ (n m : ℕ) where
       one-call {S} (save p a) = go (ownerOf (p .party))
         where
           go : (w : Owner)
-              → answered {S = S} saved (byOwner w (unchanged (encodeIndex n hs) (encodeText m hs) (S .nobody))
-              (λ o. storeAttempt (S .unsound) (S .full) (encodeIndex n hs) (encodeText m hs) o (S .attempt o a)))
+              → answered {S = S} saved (byOwner w (unchanged (encodeRecords n hs) (encodeText m hs) (S .nobody))
+              (λ o. storeAttempt (S .unsound) (S .full) (encodeRecords n hs) (encodeText m hs) o (S .attempt o a)))
               ≡ done (byOwner w (turn (saved (S .nobody)) hs)
               (λ o. replied saved (bookAttempt (S .full) (caller n m o) hs (S .attempt o a))))
           go O.Nobody = refl
@@ -106,7 +106,7 @@ module _ (n m : ℕ) where
 
     module _ (S : Saving) (owed : Builds S) where
       from : (xs : List (Call S)) (hs : List Held) → Good n m hs
-          → runStore (encodeIndex n hs) (encodeText m hs) xs ≡ ended (runBook n m hs xs)
+          → runStore (encodeRecords n hs) (encodeText m hs) xs ≡ ended (runBook n m hs xs)
       unfolding runStore runBook
       from [] hs g = refl
       from (x ∷ xs) hs g =

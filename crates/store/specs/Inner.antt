@@ -16,7 +16,7 @@ use Rattle.store.specs.declared.calls.Answer.the-variants as A
 use Rattle.store.specs.declared.calls.SaveAnswer.the-variants as Sv
 use Rattle.store.specs.declared.calls.Saved.{Saved}
 use Rattle.store.specs.Held.{Key, Held, file, distinct, textMax, recordSize}
-use Rattle.store.specs.Layout.{Shape, Shapes, recordBytes, recordOf, records, texts, padded, encodeIndex}
+use Rattle.store.specs.Layout.{Shape, Shapes, recordBytes, recordOf, records, texts, padded, encodeRecords}
 use Rattle.store.specs.Layout.{encodeText}
 use Rattle.store.specs.Decode.{ownerAt, decode}
 use Rattle.store.specs.Lines.{cr}
@@ -115,7 +115,7 @@ abbrev pub Files : List ℕ → List ℕ → Held → Bool → List ℕ → List
 Files i t h r i′ t′ =
     (hs : List Held) → decode i t ≡ some hs
     → (r ≡ room (length i) (length t) h hs)
-    × (i′ ≡ encodeIndex (length i) (pick r (file h hs) hs))
+    × (i′ ≡ encodeRecords (length i) (pick r (file h hs) hs))
     × (t′ ≡ encodeText (length t) (pick r (file h hs) hs))
 
 -- ---- saving

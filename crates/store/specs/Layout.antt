@@ -43,8 +43,8 @@ unfoldable pub padded : ℕ → List ℕ → List ℕ
 padded n s = s ++ replicate (n - length s) 0
 
 -- the index of n bytes and the text of m bytes that encode a list of lines
-unfoldable pub encodeIndex : ℕ → List Held → List ℕ
-encodeIndex n hs = padded n (records 0 hs)
+unfoldable pub encodeRecords : ℕ → List Held → List ℕ
+encodeRecords n hs = padded n (records 0 hs)
 
 unfoldable pub encodeText : ℕ → List Held → List ℕ
 encodeText m hs = padded m (texts hs)
@@ -67,7 +67,7 @@ ShapesWithin limit (h ∷ hs) = ShapeWithin limit h × ShapesWithin limit hs
 -- "A store is sound exactly when it encodes some list with no UUID twice" for any party "and each length from 1 to"
 -- the limit, "index and text, each of at most" so many bytes: within these limits it encodes this list
 pub record EncodesWithin (w : Limits) (i t : List ℕ) (hs : List Held) : Type 0 where
-  pub index : i ≡ encodeIndex (length i) hs
+  pub index : i ≡ encodeRecords (length i) hs
   pub text : t ≡ encodeText (length t) hs
   pub once : distinct hs ≡ true
   pub shapes : ShapesWithin (w .line) hs

@@ -17,7 +17,7 @@ use Rattle.text.specs.declared.uuid.Uuid.{Uuid}
 use Rattle.store.specs.declared.parties.Party.{Party}
 use Rattle.store.specs.Parties.{ownerOf, byOwner}
 use Rattle.store.specs.Held.{Key, Held, keyBy, find, indexMax, textMax}
-use Rattle.store.specs.Layout.{encodeIndex, encodeText}
+use Rattle.store.specs.Layout.{encodeRecords, encodeText}
 use Rattle.store.specs.Decode.{decode}
 use Rattle.store.specs.Book.{caller, Turn, bookWalk, insertedOf, nobodyInserts, bookAttempt, Attempt, refused}
 use Rattle.store.specs.Book.{files, Saving, Call, clear, insert, save, Reply, cleared, inserted, saved}
@@ -35,7 +35,7 @@ unchanged i t a = record { answer = a; index = i; text = t }
 abbrev pub holding : {A : Type 0} → List ℕ → List ℕ → Turn A → Done A
 holding i t r = record {
   answer = r .answer;
-  index = encodeIndex (length i) (r .held);
+  index = encodeRecords (length i) (r .held);
   text =
       encodeText (length t) (r .held);
 }

@@ -20,7 +20,7 @@ use Rattle.store.specs.Held.{Key, Held, file, indexMax, textMax, lineMax
 use Rattle.store.specs.Decode.{walk, decode}
 use Rattle.store.specs.Book.{Caller, caller, after, stopped, reach, insertTurn, insertLines}
 use Rattle.store.specs.Lines.{linesOf}
-use Rattle.store.specs.Layout.{recordBytes, records, texts, encodeIndex, encodeText}
+use Rattle.store.specs.Layout.{recordBytes, records, texts, encodeRecords, encodeText}
 use Rattle.store.specs.Keys.{rowsMax, Says, Lists, Chained}
 use Rattle.store.specs.Rows.{keyIn, startIn, lenIn, lenPut, Long}
 use Rattle.store.specs.Inner.{known, Good, Fitted, room, sizes}
@@ -115,7 +115,7 @@ Closes part t s a kept was c = (hs : List Held) × Lent part t s a kept was c hs
 abbrev pub Closed : List ℕ → List ℕ → List ℕ → List ℕ → Kept → Fill → ℕ → List ℕ → List ℕ → Type 0
 Closed part t s a kept was c part′ t′ =
     (hs : List Held) → Lent part t s a kept was c hs
-    → (behindKept t s a kept was part′ ≡ encodeIndex (length (behindKept t s a kept was part)) hs)
+    → (behindKept t s a kept was part′ ≡ encodeRecords (length (behindKept t s a kept was part)) hs)
     × (t′ ≡ encodeText (length t) hs)
 
 -- `settle`: the lines that are still held, written out
@@ -125,7 +125,7 @@ Settles i t s a was c = (hs : List Held) × Tabled i t s a (was .count) c hs
 abbrev pub Settled : List ℕ → List ℕ → List ℕ → List ℕ → Fill → ℕ → List ℕ → List ℕ → Type 0
 Settled i t s a was c i′ t′ =
     (hs : List Held) → Tabled i t s a (was .count) c hs
-    → (i′ ≡ encodeIndex (length i) hs) × (t′ ≡ encodeText (length t) hs)
+    → (i′ ≡ encodeRecords (length i) hs) × (t′ ≡ encodeText (length t) hs)
 
 -- such numbers, in chains by their keys; of two with one key the first is struck out; and how much is in use
 pub record InRows (i t s : List ℕ) (a : List ℕ) (heads next : List ℕ) (old : ℕ) (f : Fill) (hs : List Held)
@@ -246,7 +246,7 @@ TakesLines i t s a heads next o from f a′ r =
 
 -- the buffers encode those lines
 pub record Encoded (n m : ℕ) (i t : List ℕ) (hs : List Held) : Type 0 where
-  pub index : i ≡ encodeIndex n hs
+  pub index : i ≡ encodeRecords n hs
   pub text : t ≡ encodeText m hs
 
 abbrev pub Batches : List ℕ → List ℕ → ℕ → List ℕ → ℕ → Walked → List ℕ → List ℕ → Type 0
