@@ -20,7 +20,7 @@
  *   A code is an event code of the pad, 32 bits (10130 hexadecimal is the first gamepad button of Linux).
  *   A button number is 0 to 19 and an axis number 0 to 8; 0 is unknown. An element is a button or an axis.
  *   raspteal_numbers.h has them by name, and the native codes.
- *   A refusal number is one of 1 to 24, or 27; 0 means that nothing was refused. raspteal_meaning says what it means.
+ *   A refusal number is one of 1 to 27; 0 means that nothing was refused. raspteal_meaning says what it means.
  *   Where a struct has a flag beside a value (`found`, `valid`, `has_place`), the value is 0 while the flag is false.
  */
 #ifndef RASPTEAL_H
@@ -47,7 +47,7 @@ extern "C" {
 #define RASPTEAL_IDENT_MAX 13     /* bytes of a key name */
 #define RASPTEAL_KEYS 512         /* key codes in the table of buttons */
 #define RASPTEAL_KEY_FIRST 0x10100 /* the first of them */
-#define RASPTEAL_STACK 262144     /* bytes of stack that a call takes at most */
+#define RASPTEAL_STACK 294912     /* bytes of stack that a call takes at most */
 #define RASPTEAL_HELD_MAX 256     /* codes that a pad holds */
 #define RASPTEAL_ELEMENTS 27      /* elements that have events: buttons 1 to 19, axes 1 to 8 */
 
@@ -319,6 +319,13 @@ typedef struct {
     uint8_t how;
 } raspteal_near_look;
 
+/* A party's share of the text, 0 where it has none, and the bytes of its lines; 19 where the store is not sound. */
+typedef struct {
+    raspteal_refusal refusal;
+    size_t share;
+    size_t used;
+} raspteal_share;
+
 /* ---- Text ------------------------------------------------------------------------------------------------------ */
 
 /* Whether two byte strings are the same. */
@@ -490,26 +497,38 @@ raspteal_keys raspteal_key_table(void);
 raspteal_answer raspteal_default(const uint32_t *buttons, size_t buttons_len, const uint32_t *axes, size_t axes_len);
 
 /* ---- The store: an index and a text, at most 65535 bytes each, all 0 when fresh -----------------------------------
- * Each line takes 21 bytes of the index, an organiser's 22, and its own length of the text. Lend the same two buffers,
- * of the same lengths, to each call, and let nothing else write there.
+ * Each line takes 21 bytes of the index, an organiser's 22, and its own length of the text; a party's share takes 4
+ * bytes of the index. Lend the same two buffers, of the same lengths, to each call, and let nothing else write there.
  * The hall and the organisers share the two. A call names its party (RASPTEAL_HALL, or {true, 7}), and files and finds
  * lines of that party alone; each may hold a line under the same UUID. Refusal of each such call, before any other and
  * with nothing changed: 24. */
 
-/* Sets every byte of both buffers to 0: no party has a line then. Refusal: 23, nothing changed. */
+/* Sets every byte of both buffers to 0: no party has a line or a share then. Refusal: 23, nothing changed. */
 raspteal_refusal raspteal_store_clear(uint8_t *index, size_t index_len, uint8_t *text, size_t text_len);
 
 /* Files the lines of a text that are for Linux and start with a UUID, each in place of the party's one under its UUID.
- * Refusals: 24, 19 and 10 with nothing changed; 20 and 21 stop at one line, and those before it are filed. */
+ * Refusals: 24, 19 and 10 with nothing changed; 20, 21 and 25 stop at one line, and those before it are filed. 21 is
+ * for the index, 25 for the text: with that line the sum over all parties of the larger of use and share exceeds it. */
 raspteal_inserted raspteal_store_insert(uint8_t *index, size_t index_len, uint8_t *text, size_t text_len,
                                         raspteal_party party, const uint8_t *lines, size_t lines_len);
 
 /* Builds a line, as raspteal_from_data does, and files it. Refusals, with nothing changed: 24, build's without 18,
- * then 22, 19, 21. */
+ * then 22, 19, 21, 25. */
 raspteal_answer raspteal_store_save(uint8_t *index, size_t index_len, uint8_t *text, size_t text_len,
                                     raspteal_party party, raspteal_data data, const uint32_t *buttons,
                                     size_t buttons_len, const uint32_t *axes, size_t axes_len, const uint8_t *name,
                                     size_t name_len, raspteal_uuid id);
+
+/* Gives a party a share of the text, in bytes; 0 takes it away. The owner byte names it, 0 is the hall. A line that
+ * leaves its party within its share is never refused for text (25), whatever the others file. A share takes 4 bytes of
+ * the index. Refusals, with nothing changed: 19; 26, where the sum over all parties of the larger of use and share
+ * would exceed the text; 21. */
+raspteal_refusal raspteal_store_set_share(uint8_t *index, size_t index_len, const uint8_t *text, size_t text_len,
+                                          uint8_t owner, size_t bytes);
+
+/* The share and the use of the party with that owner byte. Refusal: 19. */
+raspteal_share raspteal_store_share(const uint8_t *index, size_t index_len, const uint8_t *text, size_t text_len,
+                                    uint8_t owner);
 
 /* Whether the party holds a line under a UUID. Refusals: 24, 19. */
 raspteal_look raspteal_store_found(const uint8_t *index, size_t index_len, const uint8_t *text, size_t text_len,

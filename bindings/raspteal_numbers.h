@@ -106,10 +106,12 @@ static inline const char *raspteal_meaning(uint8_t number) {
     case 18: return "the output is too short";
     case 19: return "not a sound store";
     case 20: return "a wanted line of more than 16384 bytes";
-    case 21: return "no room in the store";
+    case 21: return "no room in the index";
     case 22: return "the name has a line end or platform:";
     case 23: return "a buffer of more than 65535 bytes";
     case 24: return "an organiser's owner is 1 to 255, not 0";
+    case 25: return "no room in the text, the parties' shares counted";
+    case 26: return "the text is too small for that share";
     case 27: return "more than 256 codes held by a pad";
     default: return "no refusal has this number";
     }

@@ -34,11 +34,12 @@ CROSSES_AS = {
     "SaveAnswer::outcome": "raspteal_store_save",
     "Look::outcome": "raspteal_store_found",
     "NearLook::outcome": "raspteal_store_found_near",
+    "ShareTold::outcome": "raspteal_store_share",
     "PadAnswer::outcome": "raspteal_pad_raw_event",
 }
 
 # Calls whose C function has another name.
-NAMED = {"event": "raspteal_mapping_event"}
+NAMED = {"event": "raspteal_mapping_event", "share_of": "raspteal_store_share"}
 
 # The definitions that give an answer its number.
 REFUSING = re.compile(r"^(kindNumber|\w+Outcome|readingRefusal|mappingRefusal) :")
@@ -61,7 +62,7 @@ How to read an entry:
 
 REFUSALS = """## Refusals
 
-Document 01's number of each refusal, its words in the header, and the answers of the layers that say it; the definitions that give each answer its number, place and code are `kindNumber`, `putOutcome`, `readingRefusal` (`crates/line/specs/Refusals.antt`), `mappingRefusal` (`crates/map/specs/Refusals.antt`), `storeOutcome`, `saveOutcome`, `lookOutcome` (`crates/store/specs/Refusals.antt`) and `nearOutcome` (`crates/store/specs/Near.antt`).
+Document 01's number of each refusal, its words in the header, and the answers of the layers that say it; the definitions that give each answer its number, place and code are `kindNumber`, `putOutcome`, `readingRefusal` (`crates/line/specs/Refusals.antt`), `mappingRefusal` (`crates/map/specs/Refusals.antt`), `storeOutcome`, `saveOutcome`, `lookOutcome`, `toldOutcome` (`crates/store/specs/Refusals.antt`) and `nearOutcome` (`crates/store/specs/Near.antt`).
 
 | No. | Means | Answers that say it |
 |---|---|---|"""

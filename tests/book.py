@@ -1,7 +1,7 @@
 """Works the answers of samples_store's cases out from document 01, apart from the library, and compares them with
-those that data/ expects. A store is its two buffers; a call takes the list that they encode, goes by the book, and
-writes the encoding of the list that results. A line is held under its owner, 0 being the hall, and its UUID (document
-02, P9). The last line is 'N passed, M failed'."""
+those that data/ expects. A store is its two buffers; a call takes the shares and the list that they encode, goes by the
+book, and writes the encoding of what results. A line is held under its owner, 0 being the hall, and its UUID (document
+02, P9); shares are a table by owner, without those of 0 bytes (P10). The last line is 'N passed, M failed'."""
 import re
 import sys
 
@@ -36,9 +36,10 @@ def uuid_of(field):
     return int(digits, 16) if re.fullmatch(rb"[0-9a-fA-F]{32}", digits) else None
 
 
-# ---- the list of lines that two buffers encode
-def encode(held):
-    index, text = b"", b""
+# ---- the shares and the list of lines that two buffers encode
+def encode(shares, held):
+    index = b"".join(b"\4" + bytes([o]) + shares[o].to_bytes(2, "big") for o in sorted(shares) if shares[o])
+    text = b""
     for (owner, uuid), line in held:
         index += b"\3" + bytes([owner]) if owner else b"\1"
         index += uuid.to_bytes(16, "big") + len(text).to_bytes(2, "big") + len(line).to_bytes(2, "big")
@@ -55,10 +56,14 @@ def padded(s, n):
 
 
 def decode(index, text):
-    """The list, or None where the store is not sound."""
+    """The shares and the list, or None where the store is not sound."""
     if len(index) > INDEX_MAX or len(text) > TEXT_MAX:
         return None
-    held, at, used = [], 0, 0
+    shares, held, at, used = {}, [], 0, 0
+    while index[at:at + 1] == b"\4":
+        record = padded(index[at:at + 4], 4)
+        shares[record[1]] = int.from_bytes(record[2:], "big")
+        at += 4
     while index[at:at + 1] in (b"\1", b"\3"):
         size = 22 if index[at] == 3 else 21
         record = padded(index[at:at + size], size)
@@ -66,10 +71,10 @@ def decode(index, text):
         n = int.from_bytes(body[18:20], "big")
         held.append(((owner, int.from_bytes(body[:16], "big")), text[used:used + n]))
         at, used = at + size, used + n
-    i, t = encode(held) if used <= len(text) else (b"", b"\1")
+    i, t = encode(shares, held) if used <= len(text) else (b"", b"\1")
     fits = len(i) <= len(index) and padded(i, len(index)) == index and padded(t, len(text)) == text
     unlike = len({key for key, _ in held}) == len(held)
-    return held if fits and unlike and all(1 <= len(line) <= LINE_MAX for _, line in held) else None
+    return (shares, held) if fits and unlike and all(1 <= len(line) <= LINE_MAX for _, line in held) else None
 
 
 # ---- the book
@@ -87,20 +92,37 @@ def wanted(line):
     return uuid_of(line.split(b",")[0])
 
 
-def no_room(held, key, line, index_len, text_len):
-    after = filed(held, key, line)
-    return sum(record_size(k) for k, _ in after) > index_len or sum(len(l) for _, l in after) > text_len
+def use_of(held, owner):
+    return sum(len(line) for (o, _), line in held if o == owner)
+
+
+def claims(shares, held):
+    """The sum over all parties of the larger of use and share."""
+    return sum(max(use_of(held, o), shares.get(o, 0)) for o in range(256))
+
+
+def index_sum(shares, held):
+    return sum(4 for b in shares.values() if b) + sum(record_size(key) for key, _ in held)
+
+
+def no_room(shares, after, index_len, text_len):
+    """21 or 25 of what would then be held, or None."""
+    if index_sum(shares, after) > index_len:
+        return "21"
+    return "25" if claims(shares, after) > text_len else None
 
 
 def filed(held, key, line):
     return [h for h in held if h[0] != key] + [(key, line)]
 
 
-def insert(held, owner, text, index_len, text_len):
+def insert(content, owner, text, index_len, text_len):
+    """The answer, the lines walked, and the list that is then held, None where nothing is to be written."""
     if owner is None:
-        return "24", 0, held
-    if held is None:
-        return "19", 0, held
+        return "24", 0, None
+    if content is None:
+        return "19", 0, None
+    shares, held = content
     run = valid_run(text)
     if run < len(text):
         return "10@%d" % run, 0, held
@@ -110,10 +132,25 @@ def insert(held, owner, text, index_len, text_len):
             continue
         if len(line) > LINE_MAX:
             return "20", count, held
-        if no_room(held, (owner, uuid), line, index_len, text_len):
-            return "21", count, held
-        held = filed(held, (owner, uuid), line)
+        after = filed(held, (owner, uuid), line)
+        full = no_room(shares, after, index_len, text_len)
+        if full:
+            return full, count, held
+        held = after
     return "0", len(lines_of(text)), held
+
+
+def set_share(content, owner, share, index_len, text_len):
+    """Document 02, P10: the answer, and the shares that are then set."""
+    if content is None:
+        return "19", None
+    shares, held = content
+    after = {**shares, owner: share}
+    if claims(after, held) > text_len:
+        return "26", shares
+    if index_sum(after, held) > index_len:
+        return "21", shares
+    return "0", after
 
 
 def build(uuid, slots, buttons, axes, name):
@@ -137,19 +174,20 @@ def build(uuid, slots, buttons, axes, name):
     return "0", b"%032x,%s,%s" % (uuid, name, "".join(pairs).encode())
 
 
-def save(held, owner, uuid, slots, buttons, axes, name, index_len, text_len):
+def save(content, owner, uuid, slots, buttons, axes, name, index_len, text_len):
     if owner is None:
-        return "24", held
+        return "24", None
     answer, line = build(uuid, slots, buttons, axes, name)
     if answer != "0":
-        return answer, held
+        return answer, None
     if b"\n" in name or b"platform:" in name:
-        return "22", held
-    if held is None:
-        return "19", held
-    if no_room(held, (owner, uuid), line, index_len, text_len):
-        return "21", held
-    return "0", filed(held, (owner, uuid), line)
+        return "22", None
+    if content is None:
+        return "19", None
+    shares, held = content
+    after = filed(held, (owner, uuid), line)
+    full = no_room(shares, after, index_len, text_len)
+    return (full, held) if full else ("0", after)
 
 
 # ---- the cases
@@ -179,22 +217,22 @@ def slots_of(word):
     return slots
 
 
-def find(held, owner, uuid):
+def find(content, owner, uuid):
     """1 found, 0 none, 19 or 24, and the line."""
     if owner is None:
         return "24", b""
-    if held is None:
+    if content is None:
         return "19", b""
-    line = dict(held).get((owner, uuid))
+    line = dict(content[1]).get((owner, uuid))
     return ("0", b"") if line is None else ("1", line)
 
 
-def near(held, owner, uuid):
+def near(content, owner, uuid):
     """Document 02, P5: 1 exact, 2 near, 0 none, 19 or 24, and the line; digits 5 to 8 are bytes 2 and 3."""
     digits = "%032x" % uuid
-    says, line = find(held, owner, uuid)
+    says, line = find(content, owner, uuid)
     if says == "0":
-        says, line = find(held, owner, int(digits[:4] + "0000" + digits[8:], 16))
+        says, line = find(content, owner, int(digits[:4] + "0000" + digits[8:], 16))
         return ("2" if says == "1" else says), line
     return says, line
 
@@ -203,43 +241,58 @@ class Store:
     def __init__(self, index_len, text_len):
         self.index, self.text = bytes(index_len), bytes(text_len)
 
-    def hold(self, held):
-        index, text = encode(held)
+    def hold(self, shares, held):
+        index, text = encode(shares, held)
         self.index, self.text = padded(index, len(self.index)), padded(text, len(self.text))
+
+    def hold_lines(self, held):
+        if held is not None:
+            self.hold(decode(self.index, self.text)[0], held)
 
     def poked(self, buffer, at, value):
         return buffer[:at] + value + buffer[at + len(value):] if at + len(value) <= len(buffer) else buffer
 
+    def cleared(self):
+        if len(self.index) > INDEX_MAX or len(self.text) > TEXT_MAX:
+            return "23"
+        self.hold({}, [])
+        return "0"
+
+    def shared(self, content, owner, share):
+        answer, shares = set_share(content, owner, share, len(self.index), len(self.text))
+        if shares is not None:
+            self.hold(shares, content[1])
+        return answer
+
     def right(self, owner, kind, words):
-        """Whether a case expects what document 01 says; the store is changed as it says. Owner None: 24."""
-        held = decode(self.index, self.text)
+        """Whether a case expects what the documents say; the store is changed as they say. Owner None: 24."""
+        content = decode(self.index, self.text)
         sizes = len(self.index), len(self.text)
         if kind == "clear":
-            if sizes[0] > INDEX_MAX or sizes[1] > TEXT_MAX:
-                return words[0] == "23"
-            self.hold([])
-            return words[0] == "0"
+            return words[0] == self.cleared()
+        if kind == "share":
+            return words[0] == self.shared(content, int(words[1]), 2 ** 64 - 1 if words[2] == "most" else int(words[2]))
+        if kind == "told":
+            shares, held = content or ({}, [])
+            told = int(words[1]), shares.get(int(words[1]), 0), use_of(held, int(words[1]))
+            return [words[0]] + [int(w) for w in words[1:]] == ["19" if content is None else "0", *told]
         if kind == "insert":
-            text = spelled(" ".join(words[2:]))
-            answer, count, after = insert(held, owner, text, *sizes)
-            if after is not None:
-                self.hold(after)
+            answer, count, after = insert(content, owner, spelled(" ".join(words[2:])), *sizes)
+            self.hold_lines(after)
             return words[:2] == [answer, str(count)]
         if kind == "forms":
             text = spelled(" ".join(words[3:]))
-            answer, count, after = insert(held, owner, text, *sizes)
+            answer, count, after = insert(content, owner, text, *sizes)
             others = [l for l in lines_of(text)[:count] if wanted(l) is not None and len(l.split(b",")[0]) != 32]
-            if after is not None:
-                self.hold(after)
+            self.hold_lines(after)
             return words[:3] == [answer, str(count), str(len(others))]
         if kind == "save":
             uuid, slots, name = uuid_word(words[1]), slots_of(words[2]), spelled(" ".join(words[5:]))
-            answer, after = save(held, owner, uuid, slots, int(words[3]), int(words[4]), name, *sizes)
-            if after is not None:
-                self.hold(after)
+            answer, after = save(content, owner, uuid, slots, int(words[3]), int(words[4]), name, *sizes)
+            self.hold_lines(after)
             return words[0] == answer
         if kind in ("find", "near"):
-            says, line = (find if kind == "find" else near)(held, owner, uuid_word(words[1]))
+            says, line = (find if kind == "find" else near)(content, owner, uuid_word(words[1]))
             return words[0] == says and spelled(" ".join(words[2:])) == line
         buffer = self.index if kind == "index" else self.text
         expected = spelled(" ".join(words))

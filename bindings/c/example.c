@@ -88,8 +88,8 @@ int main(int argc, char **argv) {
     }
     raspteal_inserted i = raspteal_store_insert(STORE, HALL, list, load(argv[1], list, sizeof list));
     printf("%zu lines\n", i.count);
-    if (i.refusal.number == 21)
-        printf("refused 21: %s; the lines before it are filed\n", raspteal_meaning(21));
+    if (i.refusal.number == 21 || i.refusal.number == 25)
+        printf("refused %d: %s; the lines before it are filed\n", i.refusal.number, raspteal_meaning(i.refusal.number));
     else
         accept(i.refusal, "insert");
 

@@ -145,7 +145,7 @@ static bool same_map(const raspteal_mapping *a, const raspteal_mapping *b) {
 
 static void check_map(const raspteal_answer *a) {
     met[a->refusal.number]++;
-    CHECK(a->refusal.number <= 24 && a->map.count <= RASPTEAL_CODES_MAX);
+    CHECK(a->refusal.number <= 25 && a->map.count <= RASPTEAL_CODES_MAX);
     CHECK(a->refusal.number == 0 || a->map.count == 0);
     bool ascending = true;
     for (size_t i = 1; i < a->map.count; i++)
@@ -303,6 +303,47 @@ static void look(void) {
     CHECK(w.fits ? w.next <= lent[OUT] && l.found == (w.next > 0) : l.found && w.next == 0);
 }
 
+static size_t larger(raspteal_share s) { return s.used < s.share ? s.share : s.used; }
+
+/* What all parties claim of the text, of each the larger of use and share. */
+static size_t claims(void) {
+    size_t sum = 0;
+    for (int o = 0; o < 256; o++)
+        sum += larger(raspteal_store_share(STORE, (uint8_t)o));
+    return sum;
+}
+
+/* A share is set, of the hall, of an organiser that calls, or of any party: it is told then, and 26 goes by the sum. */
+static void share_text(void) {
+    uint8_t owner = (uint8_t)(below(4) == 0 ? below(256) : below(3));
+    size_t bytes = below(6) == 0 ? 0 : below(9) == 0 ? any() * any() : length(lent[TEXT]);
+    keep();
+    raspteal_share had = raspteal_store_share(STORE, owner);
+    size_t others = claims() - larger(had);
+    raspteal_refusal r = raspteal_store_set_share(STORE, owner, bytes);
+    met[r.number]++;
+    CHECK((r.number == 19) == (had.refusal.number == 19) && (r.number == 0 || unchanged()));
+    if (had.refusal.number == 19)
+        return;
+    raspteal_share told = raspteal_store_share(STORE, owner);
+    bool fits = bytes <= lent[TEXT] && others + (had.used < bytes ? bytes : had.used) <= lent[TEXT];
+    CHECK((r.number == 26) == !fits);
+    CHECK(told.used == had.used && told.share == (r.number == 0 ? bytes : had.share));
+    CHECK(memcmp(kept[1], at(TEXT), lent[TEXT]) == 0);
+}
+
+/* A line that leaves its party within its share is not refused for text, in a store whose shares fit. */
+static void file_within(void) {
+    static char made[80];
+    size_t n = (size_t)sprintf(made, "%032x,T", (unsigned)(6 + below(3)));
+    raspteal_share s = raspteal_store_share(STORE, 0);
+    bool within = s.refusal.number == 0 && s.used + n <= s.share && claims() <= lent[TEXT];
+    memcpy(lend(LINE, n), made, n);
+    raspteal_inserted i = raspteal_store_insert(STORE, RASPTEAL_HALL, at(LINE), n);
+    met[i.refusal.number]++;
+    CHECK(!within || i.refusal.number != 25);
+}
+
 static void damage(void) {
     int k = below(2) == 0 ? INDEX : TEXT;
     if (lent[k] > 0)
@@ -316,8 +357,8 @@ static void clear_store(void) {
     CHECK(r.number != 0 || !raspteal_store_found(STORE, any_party(), any_uuid()).found);
 }
 
-static void (*const calls[])(void) = {read_line, walk_line, build_line, insert_lines, insert_lines,
-                                      save_line, save_line, look,       look};
+static void (*const calls[])(void) = {read_line, walk_line, build_line, insert_lines, insert_lines, save_line,
+                                      save_line, look,      look,       share_text,   share_text,   file_within};
 
 static void prepare(void) {
     for (int k = 0; k < SPACES && ends[k] == NULL; k++) {

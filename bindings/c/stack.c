@@ -98,6 +98,8 @@ static raspteal_element element;
     X(store_found_near, (STORE, RASPTEAL_HALL, pad))                                                                   \
     X(store_get_near, (STORE, RASPTEAL_HALL, pad, OUT))                                                                \
     X(store_save, (STORE, RASPTEAL_HALL, data, CODES, CODES, NAME, pad))                                               \
+    X(store_set_share, (STORE, 7, 9))                                                                                  \
+    X(store_share, (STORE, 7))                                                                                         \
     X(store_clear, (STORE))
 
 #define X(name, arguments) static void run_##name(void) { (void)raspteal_##name arguments; }

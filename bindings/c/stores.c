@@ -23,6 +23,8 @@ static void stores(void) {
     CHECK(s.refusal.number == 22 && s.map.count == 0);
     i = raspteal_store_insert(STORE, HALL, TEXT("00000000000000000000000000000002,T"));
     CHECK(i.refusal.number == 21 && i.count == 0);
+    i = raspteal_store_insert(STORE, HALL, TEXT(U ",nnnnnnnnnnnnnnnnnnnnnnnnnn"));
+    CHECK(i.refusal.number == 25 && i.count == 0);
     index[0] = 9;
     CHECK(raspteal_store_found(STORE, HALL, one).refusal.number == 19);
     raspteal_refusal r = raspteal_store_clear(STORE);
@@ -60,6 +62,52 @@ static void parties(void) {
     CHECK(!raspteal_store_found(STORE, HALL, nil).found && !raspteal_store_found(STORE, seven, nil).found);
     s = raspteal_store_save(STORE, seven, d, LIST(buttons), LIST(axes), TEXT("T"), nil);
     CHECK(s.refusal.number == 0 && s.map.count == 1 && raspteal_store_found(STORE, seven, nil).found);
+}
+
+/* A league has filled the text, and the hall's save within its share still goes; clear drops the shares. */
+static void shares(void) {
+    uint8_t index[200] = {0}, text[150] = {0};
+    const raspteal_party seven = {true, 7};
+    raspteal_data d = raspteal_data_insert_btn(raspteal_data_new(), 0x10130, 1).slots;
+    CHECK(raspteal_store_set_share(STORE, 0, 60).number == 0 && memcmp(index, "\4\0\0\74", 4) == 0);
+    CHECK(raspteal_store_insert(STORE, seven, TEXT(U ",nnnnnnnnnnnn")).refusal.number == 0);
+    raspteal_inserted i = raspteal_store_insert(STORE, seven, TEXT("00000000000000000000000000000001,nnnnnnnnnnnn"));
+    CHECK(i.refusal.number == 0 && i.count == 1);
+    raspteal_share told = raspteal_store_share(STORE, 7);
+    CHECK(told.refusal.number == 0 && told.share == 0 && told.used == 90);
+    i = raspteal_store_insert(STORE, seven, TEXT(U ",nnnnnnnnnnnnn"));
+    CHECK(i.refusal.number == 25 && i.count == 0);
+    raspteal_answer s = raspteal_store_save(STORE, seven, d, LIST(buttons), LIST(axes), TEXT("Seats"), one);
+    CHECK(s.refusal.number == 0 && raspteal_store_share(STORE, 7).used == 89);
+    s = raspteal_store_save(STORE, seven, d, LIST(buttons), LIST(axes), TEXT("Seat 12"), one);
+    CHECK(s.refusal.number == 25 && s.map.count == 0);
+    s = raspteal_store_save(STORE, HALL, d, LIST(buttons), LIST(axes), TEXT("Cup"), one);
+    CHECK(s.refusal.number == 0 && s.map.count == 1);
+    told = raspteal_store_share(STORE, 0);
+    CHECK(told.share == 60 && told.used == 42 && raspteal_store_found(STORE, HALL, one).found);
+    CHECK(raspteal_store_set_share(STORE, 7, 91).number == 26);
+    CHECK(raspteal_store_set_share(STORE, 7, SIZE_MAX).number == 26);
+    CHECK(raspteal_store_set_share(STORE, 7, 90).number == 0 && raspteal_store_share(STORE, 7).share == 90);
+    CHECK(raspteal_store_set_share(STORE, 0, 0).number == 0 && raspteal_store_share(STORE, 0).share == 0);
+    CHECK(memcmp(index, "\4\7\0\132\3\7", 6) == 0 && raspteal_store_found(STORE, HALL, one).found);
+    index[0] = 5;
+    told = raspteal_store_share(STORE, 7);
+    CHECK(told.refusal.number == 19 && told.share == 0 && told.used == 0);
+    CHECK(raspteal_store_set_share(STORE, 7, 1000).number == 19 && index[0] == 5);
+    CHECK(raspteal_store_clear(STORE).number == 0 && raspteal_store_share(STORE, 7).share == 0);
+}
+
+/* A share takes 4 bytes of the index: with fewer free ones it is refused, and the line's record stays. */
+static void shares_of_full_stores(void) {
+    for (size_t free = 0; free <= 4; free++) {
+        uint8_t room[25] = {0}, text[40] = {0}, *index = room;
+        size_t len = 21 + free;
+        CHECK(raspteal_store_insert(index, len, BUFFER(text), HALL, TEXT(U)).refusal.number == 0);
+        CHECK(raspteal_store_set_share(index, len, BUFFER(text), 7, 9).number == 26);
+        CHECK(raspteal_store_set_share(index, len, BUFFER(text), 7, 8).number == (free < 4 ? 21 : 0));
+        CHECK(index[0] == (free < 4 ? 1 : 4) && raspteal_store_found(index, len, BUFFER(text), HALL, nil).found);
+        CHECK(raspteal_store_share(index, len, BUFFER(text), 7).share == (free < 4 ? 0u : 8u));
+    }
 }
 
 static void forms(void) {
@@ -107,6 +155,8 @@ int main(void) {
     stores();
     near_stores();
     parties();
+    shares();
+    shares_of_full_stores();
     forms();
     printf("%d passed, %d failed\n", passed, failed);
     return failed != 0;

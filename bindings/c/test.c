@@ -40,6 +40,7 @@ static void layout(void) {
     CHECK(offsetof(raspteal_built, len) == 24 + sizeof(raspteal_mapping));
     CHECK(offsetof(raspteal_inserted, count) == 24);
     CHECK(offsetof(raspteal_look, found) == 24);
+    CHECK(sizeof(raspteal_share) == 40 && offsetof(raspteal_share, used) == 32);
 }
 
 /* The names of numbers against the calls, and the words of refusals. */

@@ -22,9 +22,9 @@ def insert(store, path):
         try:
             print(f"{store.insert(lines.read()).count} lines")
         except Refused as stopped:
-            if stopped.number != 21:
+            if stopped.number not in (21, 25):
                 raise
-            print(f"{stopped.count} lines\nrefused 21: {stopped.meaning}; the lines before it are filed")
+            print(f"{stopped.count} lines\nrefused {stopped.number}: {stopped.meaning}; the lines before it are filed")
 
 
 def rebound(map):

@@ -37,6 +37,23 @@ CREATE TABLE IF NOT EXISTS raspteal.call (
     UNIQUE (store, version)
 );
 
+-- Where the records of the lines start: the parties' shares stand before them, by owner, none of 0 bytes.
+CREATE OR REPLACE FUNCTION raspteal.front(index bytea) RETURNS int LANGUAGE plpgsql IMMUTABLE
+    SET search_path = pg_catalog, pg_temp AS $$
+DECLARE
+    at int := 0;
+    owner int := -1;
+BEGIN
+    WHILE at + 4 <= length(index) AND get_byte(index, at) = 4 LOOP
+        IF get_byte(index, at + 1) <= owner OR get_byte(index, at + 2) + get_byte(index, at + 3) = 0 THEN
+            RAISE EXCEPTION 'not a sound store';
+        END IF;
+        owner := get_byte(index, at + 1);
+        at := at + 4;
+    END LOOP;
+    RETURN at;
+END $$;
+
 -- The lines of a sound store, in their order; owner 0 is the hall. Bytes that are no sound store are an error.
 CREATE OR REPLACE FUNCTION raspteal.lines(index bytea, text bytea)
     RETURNS TABLE (owner int, uuid bytea, line bytea) LANGUAGE plpgsql IMMUTABLE
@@ -46,7 +63,7 @@ DECLARE
     i CONSTANT bytea := index || ''::bytea;
     t CONSTANT bytea := text || ''::bytea;
     sound boolean := true;
-    at int := 0;
+    at int := raspteal.front(i);
     used int := 0;
     body int;
     size int;
@@ -70,7 +87,8 @@ BEGIN
     END IF;
 END $$;
 
--- Whether two stores hold the same lines but for those of some parties, the second with no UUID twice.
+-- Whether two stores hold the same lines but for those of some parties, the second with no UUID twice, and the same shares
+-- unless the hall is among them, who gives them.
 CREATE OR REPLACE FUNCTION raspteal.alike(old_index bytea, old_text bytea, index bytea, text bytea, but int[])
     RETURNS boolean LANGUAGE sql IMMUTABLE SET search_path = pg_catalog, pg_temp AS $$
     WITH old AS (SELECT * FROM raspteal.lines(old_index, old_text)),
@@ -78,6 +96,7 @@ CREATE OR REPLACE FUNCTION raspteal.alike(old_index bytea, old_text bytea, index
     SELECT NOT EXISTS (SELECT * FROM old WHERE owner <> ALL (but) EXCEPT SELECT * FROM new)
         AND NOT EXISTS (SELECT * FROM new WHERE owner <> ALL (but) EXCEPT SELECT * FROM old)
         AND NOT EXISTS (SELECT FROM new GROUP BY owner, uuid HAVING count(*) > 1)
+        AND (0 = ANY (but) OR substr(old_index, 1, raspteal.front(old_index)) = substr(index, 1, raspteal.front(index)))
 $$;
 
 -- Before a change: it is the next one, and leaves the lines of parties alone that the role does not write as. Whoever

@@ -107,6 +107,7 @@ class Cases(unittest.TestCase):
         no version."""
         group, plain, versions = self.fresh("calls"), Held(*map(bytes, SIZES)), []
         calls = [lambda s: s.insert(f"# x\n{ONE},One,a:b0,\r\nxinput,X\n"), lambda s: s.insert(b"\xff"),
+                 lambda s: s.set_share(7, 300), lambda s: s.set_share(None, 65536),
                  lambda s: s.insert(f"{{{'0' * 8}-0000-0000-0000-{'0' * 12}}},Braced", 7), lambda s: s.insert("", 0),
                  lambda s: s.save({"a": 0x10131, "leftx": 0x30000}, BUTTONS, AXES, "Größe", ONE),
                  lambda s: s.save({"a": 5}, BUTTONS, AXES, "x", ONE),
@@ -117,11 +118,12 @@ class Cases(unittest.TestCase):
             self.assertEqual(self.told(lambda: call(group)), self.told(lambda: call(plain)))
             versions.append((group.last.version, group.last.written))
             self.assertEqual(bytes(group.read()), bytes(plain))
+            self.assertEqual(*([s.share(party) for party in (None, 7, 255)] for s in (group, plain)))
             for pad, party in ((ONE, None), (TWO, None), (TWO, 255), (TWO, 7), (TWO, 0)):
                 for look in ("found", "get", "get_near", "mapping"):
                     self.assertEqual(*(self.told(lambda: getattr(s, look)(pad, party=party)) for s in (group, plain)))
-        self.assertEqual([v for v, _ in versions], [1, 1, 2, 2, 3, 3, 4, 5, 6, 7])
-        self.assertEqual([w for _, w in versions], [True, False, True, False, True, False, True, True, True, True])
+        self.assertEqual([v for v, _ in versions], [1, 1, 2, 2, 3, 3, 4, 4, 5, 6, 7, 8])
+        self.assertEqual([w for _, w in versions], [True, False] * 4 + [True] * 4)
         self.assertEqual(group.lines(), [(0, f"{TWO},again".encode())])
 
     def test_no_store(self):
@@ -215,7 +217,8 @@ class Cases(unittest.TestCase):
         self.assertEqual(store.insert(f"{ONE},after"), (1, 0))
 
     def test_roles(self):
-        """A role writes as its parties alone, whatever program it uses; the hall's role alone empties the store."""
+        """A role writes as its parties alone, whatever program it uses; the hall's role alone gives shares and empties
+        the store."""
         hall = self.fresh("roles")
         hall.insert(f"{ONE},hall\n{TWO},hall")
         hall.insert(f"{ONE},league", 7)
@@ -229,14 +232,16 @@ class Cases(unittest.TestCase):
         self.assertEqual(league.insert(f"{TWO},league", 7), (1, 0))
         self.assertEqual(member.insert(f"{ONE},member", 7), (1, 0))
         self.assertEqual(desk.insert(f"{ONE},desk"), (1, 0))
+        desk.set_share(7, 90)
         for store, party, words in ((league, None, "as party 7, and as no other"), (league, 8, "as party 7"),
                                     (desk, 7, "as party 0"), (reader, None, "as party none")):
             self.assertRaisesRegex(Trouble, words, store.insert, f"{ONE},other", party)
         self.assertRaisesRegex(Trouble, "as party 7", league.clear)
+        self.assertRaisesRegex(Trouble, "as party 7", league.set_share, 7, 100)
         self.assertEqual((reader.get(ONE), reader.get(ONE, 7)), (f"{ONE},desk".encode(), f"{ONE},member".encode()))
         self.by_hand("league", league.read().halves)
         self.assertEqual([r for (r,) in sql("SELECT role FROM raspteal.call WHERE store = 'roles' ORDER BY version")],
-                         ["hall", "hall", "league", "member", "desk", "league"])
+                         ["hall", "hall", "league", "member", "desk", "desk", "league"])
         desk.clear()
         self.assertEqual(hall.lines(), [])
 

@@ -25,6 +25,8 @@ HELP = """hub-group: mapping lines of game pads, in a hall group's stores
   hub-group show STORE UUID ..         reads that line, and prints its map
   hub-group export STORE               prints the lines held, as a list
   hub-group pull STORE FILE            writes a hub's own store file
+  hub-group share STORE PARTY BYTES    gives a party a share of the text that others can't fill
+  hub-group shares STORE               says what each party uses of the text, and its share
   hub-group clear STORE                empties the store
   hub-group done STORE CALL            says whether a call was done whose answer was lost
   hub-group allow STORE ROLE           lets a role of the database write as a party
@@ -43,7 +45,8 @@ MANUAL = {
   the database has none. A store that stands already is left alone.""",
     "insert": """hub-group insert STORE FILE [party=NUMBER]
   Files the lines of a list, as 'hub insert' does, for all hubs of the group at once. It stops at
-  a line that is too long (20) or has no room (21), says at which, and keeps the lines before it.
+  a line that is too long (20) or has no room (21, 25), says at which, and keeps the lines before
+  it.
   A list that is not UTF-8 (10) files nothing. party=7 files for league organiser 7.""",
     "save": """hub-group save STORE UUID NAME buttons=CODES axes=CODES ELEMENT=CODE .. [party=NUMBER] [anyway]
   Builds a mapping line for the pad and files it; prints the line and its map, and where it takes
@@ -61,9 +64,16 @@ MANUAL = {
   Writes the group's store into FILE, a hub's own store file, which goes on when the line is cut.
   The former file is kept as FILE.old ('hub undo FILE' brings it back); what was saved in FILE and
   not in the group's store is no longer there. Hubs at work on FILE are waited for.""",
+    "share": """hub-group share STORE PARTY BYTES
+  Gives a party a share of the text, which others can't fill: PARTY is 'hall' or a league
+  organiser's number from 1 to 255. BYTES 0 takes it away. 'hub help share' says what it is worth.
+  Of the database's roles the owner and those that write as the hall may give shares.""",
+    "shares": """hub-group shares STORE
+  Says of each party that has lines or a share how many bytes of the text it uses, its share, and
+  what all of them claim.""",
     "clear": """hub-group clear STORE
-  Empties the store for all hubs, the hall's lines and the organisers'. The database's backup
-  alone brings them back.""",
+  Empties the store for all hubs, the hall's lines and the organisers', and drops the shares. The
+  database's backup alone brings them back.""",
     "done": """hub-group done STORE CALL
   Where a connection broke while a change was committed, hub-group says the CALL and that it may
   be done or not. This says which: 'done', or 'not done' with status 1.""",
@@ -245,6 +255,50 @@ def placed(path, data, like):
         os.fsync(file.fileno())
 
 
+def told_share(party, told):
+    """As hub says it."""
+    who = f"party {party}" if party else "hall"
+    kept = f"share {told.share}, of which {max(told.share - told.used, 0)} are kept for it"
+    return f"{who}: {told.used} bytes used, {kept if told.share else 'no share'}"
+
+
+def claimed(store):
+    shares = [store.share(party or None) for party in range(256)]
+    return shares, sum(max(told) for told in shares)
+
+
+def say_claimed(store):
+    sum = claimed(store)[1]
+    size = len(store.halves[1])
+    say(f"claimed: {sum} of {size} bytes of the text, of each party the larger of use and share; {size - sum} are left")
+
+
+def share(name, who, size):
+    if who != "hall" and not (who.isascii() and who.isdigit() and 1 <= int(who) <= 255):
+        raise WrongUse(shown(who) + b": a party is 'hall', or a league organiser's number from 1 to 255")
+    if not (size.isascii() and size.isdigit()):
+        raise WrongUse(shown(size) + b": a share is a number of bytes; 0 takes it away")
+    party = None if who == "hall" else int(who)
+
+    def run(store):
+        store.set_share(party, min(int(size), 2**64 - 1))
+        return store
+
+    held = changed(GroupStore(name), run)
+    say(told_share(party or 0, held.share(party)))
+    say_claimed(held)
+    return DONE
+
+
+def shares(name):
+    store = GroupStore(name).read()
+    for party, told in enumerate(claimed(store)[0]):
+        if any(told):
+            say(told_share(party, told))
+    say_claimed(store)
+    return DONE
+
+
 def clear(name):
     changed(GroupStore(name), lambda store: store.clear())
     say("cleared: 0 lines held")
@@ -267,8 +321,8 @@ def allow(name, role, *words):
 
 # Each with the least and the most words behind it.
 COMMANDS = {"init": (init, 1, 1), "insert": (insert, 2, 99), "save": (save, 3, 9999), "find": (find, 2, 99),
-            "show": (show, 2, 9999), "export": (export, 1, 9), "pull": (pull, 2, 2), "clear": (clear, 1, 1),
-            "done": (done, 2, 2), "allow": (allow, 2, 9)}
+            "show": (show, 2, 9999), "export": (export, 1, 9), "pull": (pull, 2, 2), "share": (share, 3, 3),
+            "shares": (shares, 1, 1), "clear": (clear, 1, 1), "done": (done, 2, 2), "allow": (allow, 2, 9)}
 
 
 def manual(command):

@@ -45,10 +45,12 @@ MEANINGS = {
     18: "the output is too short",
     19: "not a sound store",
     20: "a wanted line of more than 16384 bytes",
-    21: "no room in the store",
+    21: "no room in the index",
     22: "the name has a line end or platform:",
     23: "a buffer of more than 65535 bytes",
     24: "an organiser's owner is 1 to 255, not 0",
+    25: "no room in the text, the parties' shares counted",
+    26: "the text is too small for that share",
     27: "more than 256 codes held by a pad",
 }
 
@@ -89,6 +91,7 @@ built = struct("built", ("refusal", refusal), ("map", mapping), ("len", c_size_t
 inserted = struct("inserted", ("refusal", refusal), ("count", c_size_t), ("not_simple", c_size_t))
 look = struct("look", ("refusal", refusal), ("found", c_bool))
 near_look = struct("near_look", ("refusal", refusal), ("how", c_uint8))
+share = struct("share", ("refusal", refusal), ("share", c_size_t), ("used", c_size_t))
 
 BYTES, CODES = [POINTER(c_uint8), c_size_t], [POINTER(c_uint32), c_size_t]
 STORE, LISTS = BYTES + BYTES, CODES + CODES
@@ -112,6 +115,8 @@ CALLS = {
     "store_clear": (refusal, STORE),
     "store_insert": (inserted, [*STORE, party, *BYTES]),
     "store_save": (answer, [*STORE, party, data, *LISTS, *BYTES, uuid]),
+    "store_set_share": (refusal, [*STORE, c_uint8, c_size_t]),
+    "store_share": (share, [*STORE, c_uint8]),
     "store_found": (look, [*STORE, party, uuid]),
     "store_get": (written, [*STORE, party, uuid, *BYTES]),
     "store_found_near": (near_look, [*STORE, party, uuid]),
@@ -172,6 +177,11 @@ def who(owner):
     return party(owner is not None, 0 if owner is None else within(owner, 0, 255, "an owner"))
 
 
+def owner_byte(owner):
+    """The owner byte of an organiser, or the hall's 0 for None."""
+    return 0 if owner is None else within(owner, 1, 255, "an owner")
+
+
 # ---- Answers
 
 
@@ -195,6 +205,7 @@ def accepted(r, count=None):
 
 
 Inserted = namedtuple("Inserted", "count not_simple")
+Share = namedtuple("Share", "share used")
 
 FORMS = ["none", "simple", "hyphenated", "braced", "urn", "xinput"]
 
@@ -424,7 +435,7 @@ class Store:
         return bytes(index)[:index_len] + bytes(text)[:text_len]
 
     def clear(self):
-        """Sets every byte to 0, whether the store was sound or not: no party has a line then."""
+        """Sets every byte to 0, whether the store was sound or not: no party has a line or a share then."""
         accepted(call("store_clear", *self.buffers))
 
     def insert(self, lines, party=None):
@@ -440,6 +451,17 @@ class Store:
         slots = slots_of(bound)
         return Mapping.accepted(
             call("store_save", *self.buffers, who(party), slots, *lists, *lent(name), uuid(*pad)))
+
+    def set_share(self, party, size):
+        """Gives a party, None being the hall, a share of the text in bytes, which others can't fill; 0 takes it away."""
+        size = within(size, 0, 2**64 - 1, "a share")
+        accepted(call("store_set_share", *self.buffers, owner_byte(party), size))
+
+    def share(self, party=None):
+        """The share of a party, and the bytes of its lines."""
+        told = call("store_share", *self.buffers, owner_byte(party))
+        accepted(told.refusal)
+        return Share(told.share, told.used)
 
     def found(self, pad, party=None):
         """Whether a line is held under the UUID."""

@@ -229,6 +229,9 @@ class GroupStore:
     def clear(self):
         return self.change(Store.clear)
 
+    def set_share(self, party, size):
+        return self.change(lambda store: store.set_share(party, size))
+
     def done(self, call):
         """The version that a call made, or None where it was not done. The lock is taken first: whoever was at work has
         ended then, one way or the other."""
@@ -278,6 +281,9 @@ class GroupStore:
 
     def mapping(self, pad, buttons=(), axes=(), party=None):
         return self.read().mapping(pad, buttons, axes, party)
+
+    def share(self, party=None):
+        return self.read().share(party)
 
     def lines(self):
         """The lines held, in their order, as (owner, line); owner 0 is the hall. The database takes the row apart."""

@@ -47,7 +47,7 @@ fn main() -> Result<(), Box<dyn Error>> {
     let mut store = Store::new(INDEX_MAX, TEXT_MAX);
     match store.insert(std::fs::read(path)?) {
         Ok(walked) => println!("{} lines", walked.count),
-        Err(stopped) if stopped.error == Refusal::NoRoom => {
+        Err(stopped) if matches!(stopped.error, Refusal::NoRoom | Refusal::NoText) => {
             println!("{} lines\n{}; the lines before it are filed", stopped.walked.count, stopped.error)
         }
         Err(stopped) => return Err(stopped.into()),

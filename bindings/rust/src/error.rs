@@ -3,8 +3,8 @@ use crate::ffi;
 use crate::{Code, Inserted};
 use std::fmt;
 
-/// A refusal of document 01, number 1 to 23, or of document 02, number 24 or 27. A place is a byte's place in the line, name or
-/// text that was given. Requests of the customers bring further numbers, so that a `match` has to have an arm for those.
+/// A refusal of document 01, number 1 to 23, or of document 02, number 24 to 27. A place is a byte's place in the line,
+/// name or text that was given. Requests of the customers bring further numbers, so that a `match` has to have an arm for those.
 ///
 /// ```
 /// use raspteal::{Error, Mapping};
@@ -92,7 +92,7 @@ pub enum Error {
     Unsound,
     /// 20: a wanted line of more than 16384 bytes.
     LineTooLong,
-    /// 21: no room.
+    /// 21: no room in the index.
     NoRoom,
     /// 22: a saved name with LF or `platform:`.
     UnsavedName,
@@ -100,6 +100,10 @@ pub enum Error {
     BufferTooLarge,
     /// 24: an organiser's call with owner 0.
     NoOwner,
+    /// 25: no room in the text: with the line the sum over all parties of the larger of use and share exceeds it.
+    NoText,
+    /// 26: with the share the same sum exceeds the text.
+    ShareTooLarge,
     /// 27: a raw event for a 257th code of a pad.
     PadFull,
 }
@@ -134,6 +138,8 @@ impl Error {
             22 => Error::UnsavedName,
             23 => Error::BufferTooLarge,
             24 => Error::NoOwner,
+            25 => Error::NoText,
+            26 => Error::ShareTooLarge,
             27 => Error::PadFull,
             n => unreachable!("the library has no refusal {n}"),
         })
@@ -166,6 +172,8 @@ impl Error {
             Error::UnsavedName => 22,
             Error::BufferTooLarge => 23,
             Error::NoOwner => 24,
+            Error::NoText => 25,
+            Error::ShareTooLarge => 26,
             Error::PadFull => 27,
         }
     }
@@ -219,10 +227,12 @@ impl Error {
             Error::OutputTooShort => "the output is too short",
             Error::Unsound => "not a sound store",
             Error::LineTooLong => "a wanted line of more than 16384 bytes",
-            Error::NoRoom => "no room in the store",
+            Error::NoRoom => "no room in the index",
             Error::UnsavedName => "the name has a line end or platform:",
             Error::BufferTooLarge => "a buffer of more than 65535 bytes",
             Error::NoOwner => "an organiser's owner is 1 to 255, not 0",
+            Error::NoText => "no room in the text, the parties' shares counted",
+            Error::ShareTooLarge => "the text is too small for that share",
             Error::PadFull => "more than 256 codes held by a pad",
         }
     }
@@ -247,7 +257,7 @@ impl std::error::Error for Error {}
 /// An insert that stopped at a line, or was refused whole. The lines before it are filed.
 #[derive(Clone, Copy, Debug, PartialEq, Eq, Hash)]
 pub struct InsertError {
-    /// What was refused: 24, 19 or 10 with nothing changed, 20 or 21 at the line after those walked.
+    /// What was refused: 24, 19 or 10 with nothing changed, 20, 21 or 25 at the line after those walked.
     pub error: Error,
     /// The lines walked before it.
     pub walked: Inserted,

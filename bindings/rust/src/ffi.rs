@@ -295,6 +295,14 @@ pub struct NearLook {
     pub how: u8,
 }
 
+#[repr(C)]
+#[derive(Clone, Copy, Debug, PartialEq, Eq)]
+pub struct Share {
+    pub refusal: Refusal,
+    pub share: usize,
+    pub used: usize,
+}
+
 extern "C" {
     pub fn raspteal_same_bytes(a: *const u8, a_len: usize, b: *const u8, b_len: usize) -> bool;
     pub fn raspteal_find_byte(s: *const u8, s_len: usize, b: u8) -> usize;
@@ -400,6 +408,21 @@ extern "C" {
         name_len: usize,
         id: Uuid,
     ) -> Answer;
+    pub fn raspteal_store_set_share(
+        index: *mut u8,
+        index_len: usize,
+        text: *const u8,
+        text_len: usize,
+        owner: u8,
+        bytes: usize,
+    ) -> Refusal;
+    pub fn raspteal_store_share(
+        index: *const u8,
+        index_len: usize,
+        text: *const u8,
+        text_len: usize,
+        owner: u8,
+    ) -> Share;
     pub fn raspteal_store_found(
         index: *const u8,
         index_len: usize,

@@ -49,7 +49,7 @@ pub use mapping::{Entry, Iter, Lookup, Mapping};
 pub use pad::{Event, Events, Pad, Pads, Raw, Which};
 pub use parser::{count_tokens, first_form, first_token, AxisRange, Parser, Token};
 pub use party::{By, Party};
-pub use store::{Inserted, Match, Store};
+pub use store::{Inserted, Match, Share, Store};
 pub use uuid::{Form, Uuid};
 
 /// The codes that a map may have.
@@ -74,3 +74,5 @@ pub const HELD_MAX: usize = ffi::HELD_MAX;
 pub const RECORD_LEN: usize = 21;
 /// The bytes of the index that an organiser's line takes.
 pub const ORGANISER_RECORD_LEN: usize = 22;
+/// The bytes of the index that a party's share takes.
+pub const SHARE_RECORD_LEN: usize = 4;

@@ -4,7 +4,7 @@ use crate::ffi::safe;
 use crate::{By, Code, Mapping, MappingData, Party, Uuid};
 
 /// The lines held under their UUIDs, in two buffers of at most 65535 bytes: an index, of which each line takes 21
-/// bytes, an organiser's 22, and a text. Fresh buffers are all 0.
+/// bytes, an organiser's 22 and a party's share 4, and a text. Fresh buffers are all 0.
 ///
 /// The hall and the league organisers share a store, each with lines of its own. The calls here are the hall's;
 /// [`Store::by`] and [`Store::seen_by`] make those of an organiser.
@@ -12,7 +12,7 @@ use crate::{By, Code, Mapping, MappingData, Party, Uuid};
 /// The buffers are owned (`Vec<u8>`, arrays) or lent (`&mut [u8]`); a store over `&[u8]` can only be looked up. Keep
 /// them as they are between calls, in a file or in shared memory: the store has no other state.
 ///
-/// A call takes up to 256 KB of the stack: mind it in a thread with a small one.
+/// A call takes up to 288 KB of the stack: mind it in a thread with a small one.
 ///
 /// ```
 /// use raspteal::{Store, Uuid};
@@ -52,6 +52,15 @@ pub struct Inserted {
     pub not_simple: usize,
 }
 
+/// A party's share of the text, and its use of it.
+#[derive(Clone, Copy, Debug, PartialEq, Eq, Hash)]
+pub struct Share {
+    /// The bytes that others can't fill; 0 where the party has no share.
+    pub share: usize,
+    /// The bytes of the party's lines.
+    pub used: usize,
+}
+
 impl Store {
     /// A fresh store that owns buffers of these lengths. Over 65535 bytes each of its calls is refused: 19, or 23 for
     /// a clear.
@@ -86,6 +95,13 @@ impl<B: AsRef<[u8]>> Store<B> {
     /// The store as a party sees it: look-ups alone.
     pub fn seen_by(&self, party: Party) -> By<&[u8]> {
         By::new(self.index(), self.text(), party)
+    }
+
+    /// The share and the use of the party with that owner byte, 0 being the hall. Refusal: 19.
+    pub fn share(&self, owner: u8) -> Result<Share, Error> {
+        let told = safe::store_share(self.index(), self.text(), owner);
+        Error::check(told.refusal)?;
+        Ok(Share { share: told.share, used: told.used })
     }
 
     /// Whether a line is held under a UUID. Refusal: 19.
@@ -144,21 +160,41 @@ impl<B: AsRef<[u8]> + AsMut<[u8]>> Store<B> {
         By::new(self.index.as_mut(), self.text.as_mut(), party)
     }
 
-    /// Sets every byte of both buffers to 0, whether the store was sound or not: no party has a line then. Refusal: 23.
+    /// Sets every byte of both buffers to 0, whether the store was sound or not: no party has a line or a share
+    /// then. Refusal: 23.
     pub fn clear(&mut self) -> Result<(), Error> {
         Error::check(safe::store_clear(self.index.as_mut(), self.text.as_mut()))
     }
 
+    /// Gives the party with that owner byte, 0 being the hall, a share of the text in bytes; 0 takes it away. A line that
+    /// leaves its party within its share is never refused for text (25), whatever the others file. Refusals, with nothing
+    /// changed: 19; 26, where the sum over all parties of the larger of use and share would exceed the text; 21.
+    ///
+    /// ```
+    /// use raspteal::{Error, Party, Share, Store};
+    ///
+    /// let mut store = Store::new(100, 100);
+    /// store.set_share(0, 60)?;
+    /// let league = "00000000000000000000000000000001,League's pad";
+    /// assert_eq!(store.by(Party::Organiser(7)).insert(league).unwrap_err().error, Error::NoText);
+    /// store.insert("00000000000000000000000000000001,Hall's")?;
+    /// assert_eq!(store.share(0)?, Share { share: 60, used: 39 });
+    /// # Ok::<(), Box<dyn std::error::Error>>(())
+    /// ```
+    pub fn set_share(&mut self, owner: u8, bytes: usize) -> Result<(), Error> {
+        Error::check(safe::store_set_share(self.index.as_mut(), self.text.as_ref(), owner, bytes))
+    }
+
     /// Files the lines of a text that are for Linux and start with a UUID, each in place of the one under its UUID,
     /// and hands back the number of lines walked, and of those filed in another form than 32 digits. Refusals: 19 and
-    /// 10 with nothing changed; 20 and 21 stop at one line, and those before it are filed.
+    /// 10 with nothing changed; 20, 21 and 25 stop at one line, and those before it are filed.
     pub fn insert(&mut self, lines: impl AsRef<[u8]>) -> Result<Inserted, InsertError> {
         self.by(Party::Hall).insert(lines)
     }
 
     /// Builds the line of what staff have bound, as [`MappingData::build`] does, and files it under the UUID. Looked
     /// up with the same lists it reads back as the map that this call hands back. Refusals, with nothing changed:
-    /// those of build, then 22, 19, 21.
+    /// those of build, then 22, 19, 21, 25.
     pub fn save(
         &mut self,
         data: &MappingData,

@@ -40,6 +40,7 @@ fn rows() -> Vec<Row> {
     let inserted = safe::store_insert(&mut [], &mut [], hall, b"");
     let look = safe::store_found(&[], &[], hall, ffi::Uuid { high: 0, low: 0 });
     let near = safe::store_found_near(&[], &[], hall, ffi::Uuid { high: 0, low: 0 });
+    let share = safe::store_share(&[], &[], 0);
     let told = safe::pad_raw_event(safe::pad_new(), 0, 0, 0);
     let both = safe::pads_raw_event(safe::pads_new(), false, 0, 0, 0);
     vec![
@@ -79,6 +80,7 @@ fn rows() -> Vec<Row> {
         row!(Inserted, "raspteal_inserted", inserted, refusal, count, not_simple),
         row!(Look, "raspteal_look", look, refusal, found),
         row!(NearLook, "raspteal_near_look", near, refusal, how),
+        row!(Share, "raspteal_share", share, refusal, share, used),
     ]
 }
 

@@ -159,7 +159,7 @@ fn stores_19() {
 }
 
 #[test]
-fn inserts_20_and_21() {
+fn inserts_20_21_and_25() {
     let mut store = Store::new(63, 65535);
     let long = format!("{U},{}", "n".repeat(16385 - 33));
     let refused =
@@ -175,7 +175,8 @@ fn inserts_20_and_21() {
     expect(store.insert(format!("{U},T")).unwrap_err().error, 21, None, None);
     expect(store.save(&south(5), &[Code(5)], &[], "T", Uuid::NIL).unwrap_err(), 21, None, None);
     let mut store = Store::new(21, 39);
-    expect(store.save(&south(5), &[Code(5)], &[], "T", Uuid::NIL).unwrap_err(), 21, None, None);
+    expect(store.save(&south(5), &[Code(5)], &[], "T", Uuid::NIL).unwrap_err(), 25, None, None);
+    expect(store.insert(format!("{U},nnnnnnn")).unwrap_err().error, 25, None, None);
     assert!(store.index().iter().chain(store.text()).all(|&b| b == 0));
 }
 

@@ -3,6 +3,7 @@ use crate::manual::put_filing;
 use crate::manual::put_holding;
 use crate::manual::put_mappings;
 use crate::manual::put_others;
+use crate::manual::put_sharing;
 use crate::say::DONE;
 use crate::say::ERR;
 use crate::say::OUT;
@@ -26,6 +27,8 @@ pub fn help() -> u8 {
   hub test STORE UUID ..         tells what the events of a recorded pad give by that line
   hub list STORE                 prints the lines held, and the room left
   hub check STORE                says whether the store is sound
+  hub share STORE PARTY BYTES    gives a party a share of the text that others can't fill
+  hub shares STORE               says what each party uses of the text, and its share
   hub clear STORE                empties the store
   hub undo STORE                 takes the last change of the store back
   hub lint FILE                  reads every line of a list, and shows the refused ones
@@ -57,6 +60,9 @@ fn put_help(fd: i32, command: &[u8]) -> bool {
     if put_holding(fd, command) {
         return true;
     }
+    if put_sharing(fd, command) {
+        return true;
+    }
     if put_mappings(fd, command) {
         return true;
     }
@@ -77,6 +83,8 @@ show
 test
 list
 check
+share
+shares
 clear
 undo
 lint

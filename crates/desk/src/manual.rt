@@ -12,10 +12,12 @@ fn put_insert(fd: i32) {
   them in place of another, how many can't be read (hub lint says why), and which were passed
   over: empty lines, comments, other platforms, first fields that are no UUID; and how many were
   filed whose UUID is not spelled in 32 digits, the one form that consoles read. It stops at a
-  line that is too long (20) or has no room (21), says at which, and keeps the lines before it.
-  A list that is not UTF-8 (10) files nothing. 'hub undo STORE' takes an insert back.
+  line that is too long (20) or has no room (21 in the index, 25 in the text), says at which, and
+  keeps the lines before it. A list that is not UTF-8 (10) files nothing. 'hub undo STORE' takes
+  an insert back.
   party=7 files for league organiser 7, 1 to 255, and takes the place of that organiser's lines
-  alone; without it the lines are the hall's. All of them share the room of the store.
+  alone; without it the lines are the hall's. All of them have the room of the store together,
+  but for what a share keeps (hub help share).
 ",
     );
 }
@@ -40,9 +42,9 @@ pub fn put_filing(fd: i32, command: &[u8]) -> bool {
         put(
             fd,
             b"hub clear STORE
-  Empties the store, the hall's lines and the organisers', whether it was sound or not. A file
-  that has not the 131070 bytes of a store file is left alone. 'hub undo STORE' brings the lines
-  back.
+  Empties the store, the hall's lines and the organisers', and drops the shares, whether it was
+  sound or not. A file that has not the 131070 bytes of a store file is left alone. 'hub undo
+  STORE' brings all back.
 ",
         );
         return true;
@@ -81,8 +83,9 @@ pub fn put_holding(fd: i32, command: &[u8]) -> bool {
         put(
             fd,
             b"hub list STORE
-  Prints the lines held, in the order in which they were filed, and the room left. A line of a
-  league organiser has its party before it, as 'party 7: '.
+  Prints the lines held, in the order in which they were filed, and the room left, beside the
+  parties' shares where any is set. A line of a league organiser has its party before it, as
+  'party 7: '.
 ",
         );
         return true;
@@ -91,7 +94,38 @@ pub fn put_holding(fd: i32, command: &[u8]) -> bool {
         put(
             fd,
             b"hub check STORE
-  Says that the store is sound, how many lines it holds and which room is left; or 19.
+  Says that the store is sound, how many lines it holds and which room is left, and where a share
+  is set how much of the text the parties claim; or 19.
+",
+        );
+        return true;
+    }
+    false
+}
+
+// The commands on the parties' shares.
+pub fn put_sharing(fd: i32, command: &[u8]) -> bool {
+    if same_bytes(command, b"share") {
+        put(
+            fd,
+            b"hub share STORE PARTY BYTES
+  Gives a party a share of the text, which others can't fill: PARTY is 'hall' or a league
+  organiser's number from 1 to 255. A line that leaves its party within its share is never
+  turned away for want of text, however full the others made it. What counts is the sum over
+  all parties of the larger of use and share: a line that would bring it over the text is
+  refused (25), and so is a share (26). A share takes 4 bytes of the index (21 where they are not
+  there). BYTES 0 takes the share away. It may be below what the party uses; its lines stay.
+  'hub undo STORE' takes it back.
+",
+        );
+        return true;
+    }
+    if same_bytes(command, b"shares") {
+        put(
+            fd,
+            b"hub shares STORE
+  Says of each party that has lines or a share how many bytes of the text it uses, its share, and
+  how much of that is kept for it; then what all of them claim, and what is left.
 ",
         );
         return true;

@@ -9,7 +9,7 @@ use crate::say::put_code;
 use crate::say::put_number;
 use crate::shown::complain_shown;
 
-// `refused 21: no room in the store`
+// `refused 21: no room in the index`
 pub fn put_refused(fd: i32, number: usize) {
     put(fd, b"refused ");
     put_number(fd, number);
@@ -37,12 +37,12 @@ the name has more than 8192 bytes
 the output is too short
 not a sound store
 a wanted line of more than 16384 bytes
-no room in the store
+no room in the index
 the name has a line end or platform:
 a buffer of more than 65535 bytes
 an organiser's owner is 1 to 255, not 0
-
-
+no room in the text, the parties' shares counted
+the text is too small for that share
 more than 256 codes held by a pad",
             number,
             b'\n',

@@ -2,7 +2,10 @@
 use crate::parties::Caller;
 use crate::parties::OWNED_RECORD;
 use crate::parties::RECORD;
+use crate::parties::SHARE_RECORD;
 use crate::parties::caller_named;
+use crate::shares::claims_in;
+use crate::shares::put_sum;
 use desk::fields::less;
 use desk::fields::section;
 use desk::files::HALF;
@@ -11,6 +14,7 @@ use desk::files::load;
 use desk::help::wrong_use;
 use desk::near::complain_near;
 use desk::say::DONE;
+use desk::say::OUT;
 use desk::say::TROUBLE;
 use desk::say::complain;
 use desk::say::say;
@@ -30,26 +34,28 @@ use text::bytes::same_bytes;
 use text::uuid::Uuid;
 use text::uuid::UuidParse;
 
-// A record of the index: its bytes, its owner, 0 for the hall, and the length of its line; all 0 where there is none.
+// A record of the index: its bytes, whether it is a line's, its owner, 0 for the hall, and the length of its line; all 0
+// where there is none.
 struct Record {
     size: usize,
+    line: bool,
     owner: u8,
     len: usize,
 }
 
-// The lines held, how many of them are organisers', their bytes, and the end of their records.
+// The lines held, how many of them are organisers', their bytes, the shares, and the end of all records.
 struct Extent {
+    shares: usize,
     lines: usize,
     owned: usize,
     bytes: usize,
     records: usize,
 }
 
-// The lines held, and the room left in index and text.
+// The lines held, and the room left in the index.
 pub struct Room {
     pub held: usize,
     pub index: usize,
-    pub bytes: usize,
 }
 
 pub fn no_uuid(key: &[u8]) -> u8 {
@@ -117,6 +123,7 @@ fn word(high: u8, low: u8) -> usize {
 fn no_record() -> Record {
     Record {
         size: 0,
+        line: false,
         owner: 0,
         len: 0,
     }
@@ -128,6 +135,7 @@ fn hall_record(index: &[u8], at: usize) -> Record {
     if record.len() == RECORD {
         return Record {
             size: RECORD,
+            line: true,
             owner: 0,
             len: word(record[19], record[20]),
         };
@@ -141,8 +149,23 @@ fn owned_record(index: &[u8], at: usize) -> Record {
     if record.len() == OWNED_RECORD {
         return Record {
             size: OWNED_RECORD,
+            line: true,
             owner: record[1],
             len: word(record[20], record[21]),
+        };
+    }
+    no_record()
+}
+
+// Kind 4, the owner and its share.
+fn share_record(index: &[u8], at: usize) -> Record {
+    let record = section(index, at, SHARE_RECORD);
+    if record.len() == SHARE_RECORD {
+        return Record {
+            size: SHARE_RECORD,
+            line: false,
+            owner: record[1],
+            len: 0,
         };
     }
     no_record()
@@ -156,6 +179,9 @@ fn record_at(index: &[u8], at: usize) -> Record {
     }
     if same_bytes(kind, b"\x03") {
         return owned_record(index, at);
+    }
+    if same_bytes(kind, b"\x04") {
+        return share_record(index, at);
     }
     no_record()
 }
@@ -171,21 +197,33 @@ fn say_owned(owner: u8, line: &[u8]) {
     say(b"\n");
 }
 
-// What is held with one more line.
+// Prints the line of a record, if it has one.
+fn say_record(record: Record, line: &[u8]) {
+    if record.line {
+        say_owned(record.owner, line);
+    }
+}
+
+// What is held with one more record.
 fn with_record(seen: Extent, record: Record) -> Extent {
     let mut next = seen;
+    next.records = std::num::wrapping_add_usize(seen.records, record.size);
+    if !record.line {
+        next.shares = std::num::wrapping_add_usize(seen.shares, 1);
+        return next;
+    }
     next.lines = std::num::wrapping_add_usize(seen.lines, 1);
     if record.owner != 0 {
         next.owned = std::num::wrapping_add_usize(seen.owned, 1);
     }
     next.bytes = std::num::wrapping_add_usize(seen.bytes, record.len);
-    next.records = std::num::wrapping_add_usize(seen.records, record.size);
     next
 }
 
 // Goes through the records of a sound store; `shown`: prints each line.
 fn held(index: &[u8], text: &[u8], shown: bool) -> Extent {
     let mut seen = Extent {
+        shares: 0,
         lines: 0,
         owned: 0,
         bytes: 0,
@@ -199,7 +237,7 @@ fn held(index: &[u8], text: &[u8], shown: bool) -> Extent {
             return seen;
         }
         if shown {
-            say_owned(record.owner, section(text, seen.bytes, record.len));
+            say_record(record, section(text, seen.bytes, record.len));
         }
         seen = with_record(seen, record);
         if index.len() - at < size {
@@ -214,7 +252,6 @@ fn room_beside(held: Extent) -> Room {
     Room {
         held: held.lines,
         index: less(HALF, held.records),
-        bytes: less(HALF, held.bytes),
     }
 }
 
@@ -234,7 +271,8 @@ fn say_line_room(owned: usize, room: Room) {
     }
 }
 
-fn say_held(held: Extent) {
+// The lines held and the room left, of the text that many bytes.
+fn say_held(held: Extent, left: usize) {
     let room = room_beside(held);
     let owned = held.owned;
     say_number(held.lines);
@@ -248,8 +286,21 @@ fn say_held(held: Extent) {
     say(b" bytes; room for ");
     say_line_room(owned, room);
     say(b" and ");
-    say_number(room.bytes);
-    say(b" more bytes\n");
+    say_number(left);
+    say(b" more bytes");
+}
+
+// The same, and where a share is set what the parties claim.
+fn say_extent(held: Extent, index: &[u8], text: &[u8]) {
+    if held.shares == 0 {
+        say_held(held, less(HALF, held.bytes));
+        say(b"\n");
+        return;
+    }
+    let claims = claims_in(index, text);
+    say_held(held, less(HALF, claims.bytes));
+    say(b" beside the parties' shares\n");
+    put_sum(OUT, claims);
 }
 
 pub fn say_store(index: &[u8], text: &[u8], shown: bool) -> u8 {
@@ -260,7 +311,7 @@ pub fn say_store(index: &[u8], text: &[u8], shown: bool) -> u8 {
     if !shown {
         say(b"sound: ");
     }
-    say_held(held(index, text, shown));
+    say_extent(held(index, text, shown), index, text);
     DONE
 }
 

@@ -3,10 +3,11 @@ use crate::census::Census;
 use crate::census::census_of;
 use crate::census::count_lines;
 use crate::census::place_of_line;
-use crate::holding::Room;
 use crate::holding::room_in;
 use crate::parties::caller_named;
 use crate::parties::record_of;
+use crate::shares::complain_claims;
+use crate::shares::free_for;
 use desk::changing::Held;
 use desk::changing::may_change;
 use desk::changing::replace;
@@ -110,18 +111,33 @@ fn lines_in(bytes: usize, party: Party) -> usize {
     bytes / size
 }
 
-// How many bytes a party's line wants, and what is free.
-pub fn complain_room(wanted: usize, freed: usize, party: Party, room: Room) {
-    put_number(ERR, wanted);
-    complain(b" bytes wanted; ");
-    put_number(ERR, wrapping_add_usize(room.bytes, freed));
-    complain(b" bytes free, and room for ");
-    put_number(ERR, lines_in(room.index, party));
-    complain(b" more lines\n");
+// Whether a refusal says that there is no room, in the index or in the text.
+fn is_full(number: usize) -> bool {
+    if number == 21 {
+        return true;
+    }
+    number == 25
 }
 
-// What can be done where there is no room.
-pub fn complain_advice() {
+// How many bytes a party's line wants, what is free for it, who claims the text where shares are set, and what can be
+// done. It takes the place of a line of `freed` bytes.
+pub fn complain_full(
+    number: usize,
+    wanted: usize,
+    freed: usize,
+    party: Party,
+    index: &[u8],
+    text: &[u8],
+) {
+    put_number(ERR, wanted);
+    complain(b" bytes wanted; ");
+    put_number(ERR, free_for(index, text, party, freed));
+    complain(b" bytes free, and room for ");
+    put_number(ERR, lines_in(room_in(index, text).index, party));
+    complain(b" more lines\n");
+    if number == 25 {
+        complain_claims(index, text);
+    }
     complain(
         b"  what can be done: insert a list of only the pads that the hall has, into a fresh store (hub new);
   or keep a second store; or clear this one (hub clear) and insert what is needed. hub list shows what
@@ -151,14 +167,9 @@ fn stopped(
 ) -> u8 {
     let line = bare(line_at(list, place_of_line(list, count)));
     complain_stop(number, list, count, line);
-    if number == 21 {
-        complain_room(
-            line.len(),
-            bytes_freed(index, text, party, line),
-            party,
-            room_in(index, text),
-        );
-        complain_advice();
+    if is_full(number) {
+        let freed = bytes_freed(index, text, party, line);
+        complain_full(number, line.len(), freed, party, index, text);
         return REFUSED;
     }
     complain(b"it has ");
@@ -249,6 +260,8 @@ fn has_filed(answer: Answer) -> bool {
         Answer::NoRoom => true,
         Answer::BufferTooLarge => false,
         Answer::NoOwner => false,
+        Answer::NoText => true,
+        Answer::ShareTooLarge => false,
     }
 }
 

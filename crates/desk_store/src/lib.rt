@@ -10,5 +10,6 @@ pub mod map_changes;
 pub mod mappings;
 pub mod parties;
 pub mod saving;
+pub mod shares;
 pub mod test_args;
 pub mod testing;

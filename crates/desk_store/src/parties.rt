@@ -13,6 +13,9 @@ pub const RECORD: usize = 21;
 
 pub const OWNED_RECORD: usize = 22;
 
+// Those of a party's share, which holds no line.
+pub const SHARE_RECORD: usize = 4;
+
 // Who calls, how many arguments say so, how many say something else, and whether one was not understood.
 pub struct Caller {
     pub party: Party,
@@ -88,6 +91,14 @@ pub fn caller_named(from: usize) -> Caller {
         i += 1;
     }
     caller
+}
+
+// The owner byte of a party.
+pub fn owner_of(party: Party) -> u8 {
+    match party {
+        Party::Hall => 0,
+        Party::Organiser(owner) => owner,
+    }
 }
 
 // The bytes of the index that a line of a party takes.

@@ -1,8 +1,6 @@
 // The command save.
 use crate::holding::no_uuid;
-use crate::holding::room_in;
-use crate::inserting::complain_advice;
-use crate::inserting::complain_room;
+use crate::inserting::complain_full;
 use crate::mappings::Request;
 use crate::mappings::asked_from;
 use crate::mappings::is_good;
@@ -95,19 +93,18 @@ fn refused_build(e: MappingError, slots: MappingData, buttons: &[u32]) -> u8 {
     refused_by(e.refusal())
 }
 
-// The length of the line that a save has no room for.
+// The length of the line that a save builds.
 fn built_len(slots: MappingData, buttons: &[u32], axes: &[u32], name: &[u8], id: Uuid) -> usize {
     let mut out = arg_space();
     let built = from_data(slots, buttons, axes, name, id, &mut out);
     built.len
 }
 
-fn no_room(wanted: usize, index: &[u8], text: &[u8], party: Party, id: Uuid) -> u8 {
-    put_refused(ERR, 21);
+fn no_room(number: usize, wanted: usize, index: &[u8], text: &[u8], party: Party, id: Uuid) -> u8 {
+    put_refused(ERR, number);
     complain(b"\n  ");
     let freed = get(index, text, party, id).len();
-    complain_room(wanted, freed, party, room_in(index, text));
-    complain_advice();
+    complain_full(number, wanted, freed, party, index, text);
     REFUSED
 }
 
@@ -133,6 +130,7 @@ fn save_slots(
     let saved = save(&mut index, &mut text, party, slots, buttons, axes, name, id);
     let answer = saved.answer;
     let map = saved.map;
+    let wanted = built_len(slots, buttons, axes, name, id);
     match answer {
         SaveAnswer::Done => {
             let status = replace(store, held, &former_index, &former_text, &index, &text);
@@ -148,11 +146,9 @@ fn save_slots(
         SaveAnswer::Refused(e) => refused_build(e, slots, buttons),
         SaveAnswer::UnsavedName => refused_outcome(answer.outcome()),
         SaveAnswer::Unsound => refused_outcome(answer.outcome()),
-        SaveAnswer::NoRoom => {
-            let wanted = built_len(slots, buttons, axes, name, id);
-            no_room(wanted, &index, &text, party, id)
-        }
+        SaveAnswer::NoRoom => no_room(21, wanted, &index, &text, party, id),
         SaveAnswer::NoOwner => refused_outcome(answer.outcome()),
+        SaveAnswer::NoText => no_room(25, wanted, &index, &text, party, id),
     }
 }
 

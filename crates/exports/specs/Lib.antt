@@ -6,5 +6,6 @@ pub mod FlatTokens
 pub mod FlatSlots
 pub mod FlatStore
 pub mod FlatNear
+pub mod FlatShares
 pub mod FlatPads
 pub mod FlatTwo

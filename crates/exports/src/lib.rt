@@ -13,6 +13,7 @@ mod mapping_calls;
 mod near_calls;
 mod pad_calls;
 mod parser_calls;
+mod share_calls;
 mod state_calls;
 mod store_calls;
 mod text_calls;

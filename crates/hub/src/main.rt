@@ -16,6 +16,7 @@ use desk_store::inserting;
 use desk_store::lint;
 use desk_store::mappings;
 use desk_store::saving;
+use desk_store::shares;
 use desk_store::testing;
 use text::bytes::same_bytes;
 
@@ -65,6 +66,9 @@ fn run_changing(held: Held, command: &[u8], at: usize, given: usize, a: &[u8], b
     if is(command, b"save", given, 3, MANY) {
         return saving::save_mapping(held, a, b, nth(at, 3));
     }
+    if is(command, b"share", given, 3, 3) {
+        return shares::give_share(held, a, b, nth(at, 3));
+    }
     if is(command, b"clear", given, 1, 1) {
         return filing::clear_store(held, a);
     }
@@ -84,6 +88,9 @@ fn run_looking(held: Held, command: &[u8], at: usize, given: usize, a: &[u8], b:
     }
     if is(command, b"check", given, 1, 1) {
         return holding::list_store(a, false);
+    }
+    if is(command, b"shares", given, 1, 1) {
+        return shares::list_shares(a);
     }
     if is(command, b"show", given, 2, MANY) {
         return mappings::show_mapping(a, b, nth(at, 3));

@@ -24,6 +24,8 @@ fn is_done(a: Answer) -> bool {
         Answer::NoRoom => false,
         Answer::BufferTooLarge => false,
         Answer::NoOwner => false,
+        Answer::NoText => false,
+        Answer::ShareTooLarge => false,
     }
 }
 

@@ -3,6 +3,7 @@ ghost use Prim.Native.Nat.{_<_};
 ghost use lib.ListN.{length};
 ghost use Rattle.io.specs.Counts.{Counts};
 use text::bytes::find_byte;
+use text::bytes::same_bytes;
 use text::decimal::IndexParse;
 use text::decimal::parse_u16;
 use text::uuid::Uuid;
@@ -100,6 +101,17 @@ pub fn short(s: &[u8]) -> u16 {
 
 pub fn number(s: &[u8]) -> usize {
     short(s) as usize
+}
+
+// The same, `65536` being one too, and `most` the largest that a machine word holds.
+pub fn big(s: &[u8]) -> usize {
+    if same_bytes(s, b"65536") {
+        return 65536;
+    }
+    if same_bytes(s, b"most") {
+        return 18446744073709551615;
+    }
+    number(s)
 }
 
 // The UUID in a word: 32 digits, or a number, which is its value.

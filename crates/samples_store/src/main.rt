@@ -7,11 +7,12 @@ mod form_cases;
 mod near_cases;
 mod parties;
 mod save_cases;
+mod share_cases;
 mod spelled;
 
 ghost use Prim.Native.Nat.{_≤_};
 use fields::after_part;
-use fields::number;
+use fields::big;
 use fields::part_at;
 use fields::rest;
 use fields::word;
@@ -41,6 +42,23 @@ fn say_counts(cases: u64, wrong: u64) {
     say(b" wrong\n");
 }
 
+// A comparison of a whole buffer, or a change of its bytes.
+fn run_bytes(index: &mut [u8], text: &mut [u8], kind: &[u8], args: &[u8]) -> bool {
+    if same_bytes(kind, b"index") {
+        return cases::bytes_case(index, args);
+    }
+    if same_bytes(kind, b"text") {
+        return cases::bytes_case(text, args);
+    }
+    if same_bytes(kind, b"poke-index") {
+        return cases::poke_case(index, args);
+    }
+    if same_bytes(kind, b"poke-text") {
+        return cases::poke_case(text, args);
+    }
+    false
+}
+
 // One call of a party on the store.
 fn run_case(index: &mut [u8], text: &mut [u8], party: Party, line: &[u8]) -> bool {
     let kind = word(line);
@@ -60,22 +78,16 @@ fn run_case(index: &mut [u8], text: &mut [u8], party: Party, line: &[u8]) -> boo
     if same_bytes(kind, b"save") {
         return save_cases::save_case(index, text, party, args);
     }
+    if same_bytes(kind, b"share") {
+        return share_cases::share_case(index, text, args);
+    }
+    if same_bytes(kind, b"told") {
+        return share_cases::told_case(index, text, args);
+    }
     if same_bytes(kind, b"clear") {
         return cases::clear_case(index, text, args);
     }
-    if same_bytes(kind, b"index") {
-        return cases::bytes_case(index, args);
-    }
-    if same_bytes(kind, b"text") {
-        return cases::bytes_case(text, args);
-    }
-    if same_bytes(kind, b"poke-index") {
-        return cases::poke_case(index, args);
-    }
-    if same_bytes(kind, b"poke-text") {
-        return cases::poke_case(text, args);
-    }
-    false
+    run_bytes(index, text, kind, args)
 }
 
 // The place from which on a buffer has `len` bytes.
@@ -131,14 +143,6 @@ fn renewed(run: Run, index: &mut [u8], text: &mut [u8], args: &[u8]) -> Run {
     next.index = big(word(args));
     next.text = big(rest(args));
     next
-}
-
-// The number in a word; `65536` is one too.
-fn big(s: &[u8]) -> usize {
-    if same_bytes(s, b"65536") {
-        return 65536;
-    }
-    number(s)
 }
 
 // Prints how a group went.
@@ -231,5 +235,8 @@ fn main() {
     run = run_file(run, b"parties.txt");
     run = run_file(run, b"owned-damage.txt");
     run = run_file(run, b"party-history.txt");
+    run = run_file(run, b"shares.txt");
+    run = run_file(run, b"share-damage.txt");
+    run = run_file(run, b"share-history.txt");
     say_counts(run.all, run.all_wrong);
 }

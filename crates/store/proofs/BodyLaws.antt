@@ -141,6 +141,10 @@ body-put d p q t v u off len l ep eq et ev =
 pub bytes-behind : (s : List ℕ) (a : ℕ) → Bytes s → Bytes (drop a s)
 bytes-behind s a b k = subst (λ (x : ℕ). x < 256) (sym (getD-drop a s k 0)) (b (a + k))
 
+-- a part of a list of bytes, from a place on
+pub bytes-part : (s : List ℕ) (a : ℕ) (q : List ℕ) → q ≡ drop a s → Bytes s → Bytes q
+bytes-part s a q e b = subst Bytes (sym e) (bytes-behind s a b)
+
 -- the same numbers as Layout writes them
 be4-is : (x : ℕ) → be4 x ≡ bigEndian 4 x
 unfolding bigEndian

@@ -1,57 +1,58 @@
--- Room for a line: what is left when its key is struck out, in numbers.
+-- Room for a line, in the numbers that `file_row` goes by: where the records end with it, and what all parties then
+-- claim.
 -- Assumes nothing.
-use mathlib.Core.Bool.{true, false}
-use mathlib.Core.List.{List, [], _∷_, _++_}
-use mathlib.Core.Path.{_≡_, refl, sym, ap, ap₂, _∙_}
+use mathlib.Core.List.{List, [], _∷_}
+use mathlib.Core.Path.{_≡_, sym, ap, ap₂, _∙_}
 use Prim.Native.Nat.{ℕ, _+_, _-_, _≤_, _<_}
 use native.Mathlib.Nat.{add-zero}
 use native.Mathlib.Omega.{arith}
-use lib.Dec.{leb}
 use lib.ListN.{length}
-use borrow.Author.Tests.{lt-leb, le-leb}
-use Rattle.store.specs.Inner.{room, sizes, Sized}
-use Rattle.store.specs.Held.{Key, Held, indexMax, textMax, strike, file}
+use Rattle.store.specs.declared.claims.Dues.{Dues}
+use Rattle.store.specs.declared.table.Room.the-variants as R
+use Rattle.store.specs.Book.{roomFor}
+use Rattle.store.specs.Claims.{Owed}
+use Rattle.store.specs.Held.{Held, strike, file}
+use Rattle.store.specs.Inner.{sizes, Sized, behind}
 use Rattle.store.specs.Layout.{texts}
-use Rattle.store.proofs.BoolLaws.{and-both, and-false-left, and-false-right}
-use Rattle.store.proofs.RoomLaws.{room-fits}
-use Rattle.store.proofs.RowLaws.{sizes-append, texts-sum, sizes-cons, texts-cons, texts-none, sizes-none}
+use Rattle.store.specs.Shares.{larger, claims}
+use Rattle.store.proofs.ClaimLaws.{not-of-file, lengths-texts}
+use Rattle.store.proofs.RoomLaws.{index-full, text-full, both-fit}
+use Rattle.store.proofs.RowLaws.{sizes-append, sizes-cons, sizes-none}
 
--- what is left when the key is struck out, in numbers
-pub record Counts (i t : List ℕ) (end used : ℕ) (k : Key) (hs : List Held) : Type 0 where
-  pub index : end ≡ sizes 0 (strike k hs)
-  pub text : used ≡ length (texts (strike k hs))
-  pub small : sizes 0 (strike k hs) ≤ length i
-  pub short : length (texts (strike k hs)) ≤ length t
-  pub most-index : length i ≤ indexMax
-  pub most-text : length t ≤ textMax
+-- the records of the lines that are left, and the new one
+pub new-size : (h : Held) (hs : List Held) (size : ℕ) → Sized (h .key) size
+    → sizes 0 (file h hs) ≡ sizes 0 (strike (h .key) hs) + size
+unfolding file
+new-size h hs size z =
+    sizes-append (strike (h .key) hs) (h ∷ []) 0
+    ∙ ap (λ (x : ℕ). sizes 0 (strike (h .key) hs) + x)
+    (sizes-cons (0 + length (texts (strike (h .key) hs))) h []
+    ∙ ap₂ (λ (x y : ℕ). x + y) (sym (z _ (length (h .line)))) (sizes-none _) ∙ add-zero size)
 
--- room for a line behind those that are left
-module _ (i t : List ℕ) (h : Held) (hs : List Held) (end used : ℕ) (c : Counts i t end used (h .key) hs)
-    (size : ℕ) (z : Sized (h .key) size) where
-  abbrev ks : List Held
-  ks = strike (h .key) hs
+module _ (g i t : List ℕ) (h : Held) (hs : List Held) (d : Dues) (owed : Owed g (h .key .owner) hs d) (end used : ℕ)
+    (ends : end ≡ sizes 0 (file h hs)) (uses : used ≡ length (texts (file h hs))) where
+  pub others-less : d .theirs ≤ used
+  others-less = omega (arith, uses, lengths-texts (file h hs), owed .least (file h hs) (not-of-file h hs))
 
-  pub new-size : sizes 0 (file h hs) ≡ end + size
-  unfolding file
-  new-size = sizes-append ks (h ∷ []) 0
-      ∙ ap₂ (λ (x y : ℕ). x + y) (sym (c .index))
-      (sizes-cons (0 + length (texts ks)) h []
-      ∙ ap₂ (λ (x y : ℕ). x + y) (sym (z _ (length (h .line)))) (sizes-none _) ∙ add-zero size)
+  pub index-lacks : length i < end → roomFor (behind g i t (h .key .owner)) h hs ≡ R.IndexFull
+  index-lacks l = index-full (behind g i t (h .key .owner)) h hs (omega (arith, ends))
 
-  pub new-text : length (texts (file h hs)) ≡ used + length (h .line)
-  unfolding file
-  new-text = texts-sum ks (h ∷ [])
-      ∙ ap₂ (λ (x y : ℕ). x + y) (sym (c .text))
-      (texts-cons h [] ∙ ap (λ (n : ℕ). length (h .line) + n) texts-none ∙ add-zero _)
+  module _ (x : ℕ) (ex : x ≡ d .others + larger (used - d .theirs) (d .share)) where
+    claimed-is : x ≡ claims g (file h hs)
+    claimed-is = ex
+        ∙ ap (λ (v : ℕ). d .others + larger (v - d .theirs) (d .share)) (uses ∙ sym (lengths-texts (file h hs)))
+        ∙ owed .sum (file h hs) (not-of-file h hs)
 
-  pub index-full : length i < end + size → room (length i) (length t) h hs ≡ false
-  index-full l = room-fits (length i) (length t) h hs
-      ∙ and-false-left _ _ (lt-leb _ (length i) (omega (arith, new-size)))
+    pub text-lacks : end ≤ length i → length t < x → roomFor (behind g i t (h .key .owner)) h hs ≡ R.TextFull
+    text-lacks l m = text-full (behind g i t (h .key .owner)) h hs (omega (arith, ends)) (omega (arith, claimed-is))
 
-  pub text-full : length t < used + length (h .line) → room (length i) (length t) h hs ≡ false
-  text-full l = room-fits (length i) (length t) h hs
-      ∙ and-false-right (leb (sizes 0 (file h hs)) (length i)) _ (lt-leb _ (length t) (omega (arith, new-text)))
+    pub both-there : end ≤ length i → x ≤ length t → roomFor (behind g i t (h .key .owner)) h hs ≡ R.Fits
+    both-there l m = both-fit (behind g i t (h .key .owner)) h hs (omega (arith, ends)) (omega (arith, claimed-is))
 
-  pub both-fit : end + size ≤ length i → used + length (h .line) ≤ length t → room (length i) (length t) h hs ≡ true
-  both-fit p q = room-fits (length i) (length t) h hs
-      ∙ and-both _ _ (le-leb _ (length i) (omega (arith, new-size))) (le-leb _ (length t) (omega (arith, new-text)))
+    pub text-there : x ≤ length t → length (texts (file h hs)) ≤ length t
+    text-there m = omega (
+      arith,
+      claimed-is,
+      lengths-texts (file h hs),
+      owed .used (file h hs) (not-of-file h hs),
+    )

@@ -3,9 +3,8 @@
 use mathlib.Core.Bool.{Bool, true, false}
 use mathlib.Core.List.{List, [], _∷_, _++_, append-nil, append-assoc}
 use mathlib.Core.Option.{Option, none, some}
-use mathlib.Core.Path.{_≡_, refl, sym, ap, _∙_, subst}
+use mathlib.Core.Path.{_≡_, refl, sym, ap, _∙_}
 use Prim.Native.Nat.{ℕ, suc, _+_}
-use native.Mathlib.Omega.{arith}
 use lib.Dec.{ltb}
 use lib.ListN.{length}
 use Rattle.text.specs.Bytes.{pick}
@@ -15,16 +14,20 @@ use Rattle.text.specs.declared.uuid.UuidParse.{UuidParse}
 use Rattle.text.specs.declared.uuid.UuidParse.the-variants.{Parsed, Invalid}
 use Rattle.store.specs.declared.owners.Owner.{Owner}
 use Rattle.store.specs.declared.owners.Owner.the-variants as O
-use Rattle.store.specs.Parties.{ownerOf, byOwner, Named}
-use Rattle.store.specs.Book.{Caller, caller, turn, Turn, noRoom, under, Reached, after, stopped, reachWanted}
+use Rattle.store.specs.Parties.{ownerOf, byOwner}
+use Rattle.store.specs.Book.{Caller, caller, turn, roomFor, byRoom, under, Reached, after, stopped, reachWanted}
 use Rattle.store.specs.Book.{reach, insertTurn, replied, inserted, nobodyInserts}
-use Rattle.store.specs.Book.{onReached, insertLines, bookWalk, bookInsert, Attempt, refused, files, Saving, bookAttempt}
-use Rattle.store.specs.Book.{Call, clear, insert, save, Reply, saved, bookTurn, runBook}
-use Rattle.store.specs.Filings.{Filing, filing, filedLine, filedLines, filedAttempt, filedAs, filedBy, since}
-use Rattle.store.specs.Filings.{filings, laterOr, lastFiled, lineFiled, nth}
+use Rattle.store.specs.Book.{onReached, insertLines, bookWalk, bookInsert, Attempt, refused, files, Saving}
+use Rattle.store.specs.Book.{bookAttempt}
+use Rattle.store.specs.Book.{Call, clear, insert, save, share, Reply, saved, bookTurn, bookAfter, runBook}
+use Rattle.store.specs.Shares.{Content}
+use Rattle.store.specs.declared.table.Room.{Room}
+use Rattle.store.specs.declared.table.Room.the-variants as R
+use Rattle.store.specs.Filings.{Filing, filing, filedLine, filedLines, filedAttempt, filedBy, since}
+use Rattle.store.specs.Filings.{filings, laterOr, lastFiled, lineFiled}
 use Rattle.store.specs.Held.{Key, Held, sameKey, file, find, lineMax}
 use Rattle.store.specs.Lines.{linesOf, wanted}
-use Rattle.store.proofs.HeldLaws.{same-eq, find-file}
+use Rattle.store.proofs.HeldLaws.{find-file}
 use Rattle.store.specs.declared.calls.Answer.the-variants as A
 
 -- ---- the last of several filings
@@ -78,17 +81,19 @@ module _ {S : Saving} (key : Key) where
     unfolding reach
     says-reach hs fs l e = go (wanted l)
       where
-        fits : (u : Spelled) (b : Bool)
-            → Says (fs ++ (filing p x a (its l u) ∷ [])) (pick b (stopped A.NoRoom) (after (file (its l u) hs)))
-        fits u true = tt
-        fits u false = holds-file (filing p x a (its l u)) hs fs e
+        fits : (u : Spelled) (r : Room)
+            → Says (fs ++ (filing p x a (its l u) ∷ []))
+            (byRoom r (stopped A.NoRoom) (stopped A.NoText) (after (file (its l u) hs)))
+        fits u R.IndexFull = tt
+        fits u R.TextFull = tt
+        fits u R.Fits = holds-file (filing p x a (its l u)) hs fs e
 
         short : (u : Spelled) (b : Bool)
             → Says (fs ++ (filing p x a (its l u) ∷ []))
             (pick b (stopped A.LineTooLong)
-            (pick (noRoom c (its l u) hs) (stopped A.NoRoom) (after (file (its l u) hs))))
+            (byRoom (roomFor c (its l u) hs) (stopped A.NoRoom) (stopped A.NoText) (after (file (its l u) hs))))
         short u true = tt
-        short u false = fits u (noRoom c (its l u) hs)
+        short u false = fits u (roomFor c (its l u) hs)
 
         go : (y : UuidParse) → Says (fs ++ filedLine p x a (c .owner) l y) (reachWanted c hs l y)
         go Invalid = holds-nothing hs fs e
@@ -128,42 +133,50 @@ module _ {S : Saving} (key : Key) where
         go false = holds-nothing hs fs e
 
     says-save : (y : Attempt (S .Value)) (hs : List Held) (fs : List (Filing S)) → Holds hs fs
-        → Holds (bookAttempt (S .full) c hs y .held) (fs ++ filedAttempt p x a c hs y)
+        → Holds (bookAttempt (S .full) (S .crowded) c hs y .held) (fs ++ filedAttempt p x a c hs y)
     says-save (refused v) hs fs e = holds-nothing hs fs e
-    says-save (files h v) hs fs e = go (noRoom c h hs)
+    says-save (files h v) hs fs e = go (roomFor c h hs)
       where
-        go : (b : Bool)
-            → Holds (pick b (turn (S .full) hs) (turn v (file h hs)) .held) (fs ++ pick b [] (filing p x a h ∷ []))
-        go true = holds-nothing hs fs e
-        go false = holds-file (filing p x a h) hs fs e
+        go : (r : Room)
+            → Holds (byRoom r (turn (S .full) hs) (turn (S .crowded) hs) (turn v (file h hs)) .held)
+            (fs ++ byRoom r [] [] (filing p x a h ∷ []))
+        go R.IndexFull = holds-nothing hs fs e
+        go R.TextFull = holds-nothing hs fs e
+        go R.Fits = holds-file (filing p x a h) hs fs e
 
   module _ (n m : ℕ) where
-    says-turn : (p : ℕ) (hs : List Held) (fs : List (Filing S)) (x : Call S) → Holds hs fs
-        → Holds (bookTurn n m hs x .held) (since x fs (filedBy p n m hs x))
+    says-turn : (p : ℕ) (c : Content) (fs : List (Filing S)) (x : Call S) → Holds (c .held) fs
+        → Holds (bookTurn n m c x .held) (since x fs (filedBy p n m c x))
     unfolding bookTurn
-    says-turn p hs fs clear e = unfold find lastFiled in refl
-    says-turn p hs fs (insert q s) e = go (ownerOf (q .party)) (bookTurn n m hs (insert q s) .answer)
+    says-turn p c fs clear e = unfold find lastFiled in refl
+    says-turn p c fs (insert q s) e = go (ownerOf (q .party)) (bookTurn n m c (insert q s) .answer)
       where
-        go : (w : Owner) (a : Reply S)
-            → Holds (byOwner w (turn (inserted nobodyInserts) hs)
-            (λ o. replied {S = S} inserted (bookInsert (caller n m o) hs s)) .held)
-            (fs ++ byOwner w []
-            (λ o. pick (isUtf8 s) (filedLines p (insert q s) a (caller n m o) hs (linesOf s)) []))
-        go O.Nobody a = holds-nothing hs fs e
-        go (O.Byte o) a = says-insert (caller n m o) p (insert q s) a s hs fs e
-    says-turn p hs fs (save q x) e = go (ownerOf (q .party)) (bookTurn n m hs (save q x) .answer)
-      where
-        go : (w : Owner) (a : Reply S)
-            → Holds (byOwner w (turn (saved (S .nobody)) hs)
-            (λ o. replied {S = S} saved (bookAttempt (S .full) (caller n m o) hs (S .attempt o x))) .held)
-            (fs ++ byOwner w []
-            (λ o. filedAttempt p (save q x) a (caller n m o) hs (S .attempt o x)))
-        go O.Nobody a = holds-nothing hs fs e
-        go (O.Byte o) a = says-save (caller n m o) p (save q x) a (S .attempt o x) hs fs e
+        by : ℕ → Caller
+        by o = caller n m (c .shares) o
 
-    pub says-run : (xs : List (Call S)) (p : ℕ) (hs : List Held) (fs : List (Filing S)) → Holds hs fs
-        → Holds (runBook n m hs xs .held) (filings p n m hs fs xs)
+        go : (w : Owner) (a : Reply S)
+            → Holds (byOwner w (turn (inserted nobodyInserts) (c .held))
+            (λ o. replied {S = S} inserted (bookInsert (by o) (c .held) s)) .held)
+            (fs ++ byOwner w []
+            (λ o. pick (isUtf8 s) (filedLines p (insert q s) a (by o) (c .held) (linesOf s)) []))
+        go O.Nobody a = holds-nothing (c .held) fs e
+        go (O.Byte o) a = says-insert (by o) p (insert q s) a s (c .held) fs e
+    says-turn p c fs (save q x) e = go (ownerOf (q .party)) (bookTurn n m c (save q x) .answer)
+      where
+        by : ℕ → Caller
+        by o = caller n m (c .shares) o
+
+        go : (w : Owner) (a : Reply S)
+            → Holds (byOwner w (turn (saved (S .nobody)) (c .held))
+            (λ o. replied {S = S} saved (bookAttempt (S .full) (S .crowded) (by o) (c .held) (S .attempt o x))) .held)
+            (fs ++ byOwner w [] (λ o. filedAttempt p (save q x) a (by o) (c .held) (S .attempt o x)))
+        go O.Nobody a = holds-nothing (c .held) fs e
+        go (O.Byte o) a = says-save (by o) p (save q x) a (S .attempt o x) (c .held) fs e
+    says-turn p c fs (share q b) e = holds-nothing (c .held) fs e
+
+    pub says-run : (xs : List (Call S)) (p : ℕ) (c : Content) (fs : List (Filing S)) → Holds (c .held) fs
+        → Holds (runBook n m c xs .content .held) (filings p n m c fs xs)
     unfolding runBook filings
-    says-run [] p hs fs e = e
-    says-run (x ∷ xs) p hs fs e =
-        says-run xs (suc p) (bookTurn n m hs x .held) (since x fs (filedBy p n m hs x)) (says-turn p hs fs x e)
+    says-run [] p c fs e = e
+    says-run (x ∷ xs) p c fs e =
+        says-run xs (suc p) (bookAfter n m c x) (since x fs (filedBy p n m c x)) (says-turn p c fs x e)

@@ -19,19 +19,22 @@ use Rattle.store.specs.declared.calls.Tally.{Tally}
 use Rattle.store.specs.declared.owners.Owner.{Owner}
 use Rattle.store.specs.declared.owners.Owner.the-variants as O
 use Rattle.store.specs.Parties.{ownerOf, byOwner}
-use Rattle.store.specs.Book.{Caller, caller, Turn, noRoom, under, Reached, after, stopped, reach, insertTurn, onReached, insertLines}
+use Rattle.store.specs.Book.{Caller, caller, Turn, roomFor, byRoom, under, Reached, after, stopped, reach}
+use Rattle.store.specs.Book.{insertTurn, onReached, insertLines}
 use Rattle.store.specs.Book.{bookWalk, otherSpelling, otherSpellings, bookInsert, Saving, Call, insert, Reply}
 use Rattle.store.specs.Book.{bookTurn}
-use Rattle.store.specs.Decode.{decode}
+use Rattle.store.specs.Shares.{withHeld}
+use Rattle.store.specs.declared.table.Room.{Room}
+use Rattle.store.specs.Decode.{content}
 use Rattle.store.specs.Filings.{Filing, filedLine, filedLines}
 use Rattle.store.specs.Forms.{otherFilings, CountsFilings, FoundAnyForm}
-use Rattle.store.specs.Guarantee.{Calls, booked, next, Guarantee}
+use Rattle.store.specs.Guarantee.{Calls, booked, callerAfter, next, Guarantee}
 use Rattle.store.specs.Held.{Held, keyBy, file, find, indexMax, textMax}
 use Rattle.store.specs.Lines.{linesOf, wanted}
 use Rattle.store.specs.Saves.{saving}
 use Rattle.store.specs.Store.{noOwner, lookedIn, lookedAt, lookBy, lookUp}
 use Rattle.store.proofs.HeldLaws.{same-refl, find-file}
-use Rattle.store.proofs.RefusedLaws.{count-least}
+use Rattle.store.proofs.WalkLaws.{count-least}
 use Rattle.store.proofs.Saves.{whole-guarantee}
 use Rattle.store.proofs.WantedLaws.{wanted-uuid}
 
@@ -76,32 +79,37 @@ module _ {S : Saving} (p : ℕ) (x : Call S) (a : Reply S) (by : Caller) where
 
 pub counts-filings : CountsFilings
 unfolding bookInsert bookWalk otherSpellings otherFilings
-counts-filings p n m hs q o own s =
+counts-filings p n m c q o own s =
     go (isUtf8 s)
     ∙ sym (ap (λ (w : Owner). otherFilings (byOwner w []
-    (λ r. pick (isUtf8 s) (filedLines p (insert q s) a (caller n m r) hs (linesOf s)) []))) own)
+    (λ r. pick (isUtf8 s) (filedLines p (insert q s) a (caller n m (c .shares) r) (c .held) (linesOf s)) []))) own)
   where
     a : Reply saving
-    a = bookTurn {S = saving} n m hs (insert q s) .answer
+    a = bookTurn {S = saving} n m c (insert q s) .answer
+
+    by : Caller
+    by = caller n m (c .shares) o
 
     go : (b : Bool)
         → otherSpellings (take
-        (pick b (insertLines (caller n m o) hs 0 (linesOf s)) (insertTurn hs (A.NotUtf8 (validRun s)) 0) .answer .count)
+        (pick b (insertLines by (c .held) 0 (linesOf s))
+        (insertTurn (c .held) (A.NotUtf8 (validRun s)) 0) .answer .count)
         (linesOf s))
-        ≡ otherFilings (pick b (filedLines p (insert q s) a (caller n m o) hs (linesOf s)) [])
+        ≡ otherFilings (pick b (filedLines p (insert q s) a by (c .held) (linesOf s)) [])
     go false = refl
     go true =
-        let walk : Turn Tally = insertLines (caller n m o) hs 0 (linesOf s) in
+        let walk : Turn Tally = insertLines by (c .held) 0 (linesOf s) in
         let z : walk .answer .count ≡ 0 + walk .answer .count = omega arith in
-        walked-filings p (insert q s) a (caller n m o) (linesOf s) hs 0 (walk .answer .count) z
+        walked-filings p (insert q s) a by (linesOf s) (c .held) 0 (walk .answer .count) z
 
 -- ---- found, whichever form
 
 pub found-any-form : (n m : ℕ) → n ≤ indexMax → m ≤ textMax → (xs : Calls) → FoundAnyForm n m xs
 unfolding lookUp lookBy insertLines
 found-any-form n m ln lm xs p o own s passed l g hs valid cut reached e q room =
-    ap (λ (w : Owner). byOwner w noOwner (λ r. lookedAt (keyBy r (g .id)) (decode i′ t′))) own
-    ∙ ap (lookedAt (keyBy o (g .id))) (leaves ∙ ap some held)
+    ap (λ (w : Owner). byOwner w noOwner (λ r. lookedAt (keyBy r (g .id)) (content i′ t′))) own
+    ∙ ap (lookedAt (keyBy o (g .id)))
+    (leaves ∙ ap (λ (ks : List Held). some (withHeld (booked n m xs .content) ks)) held)
     ∙ ap lookedIn (find-file (keyBy o (g .id)) its hs
     ∙ ap (λ (b : Bool). pick b (some l) (find (keyBy o (g .id)) hs)) (same-refl (keyBy o (g .id))))
   where
@@ -114,11 +122,14 @@ found-any-form n m ln lm xs p o own s passed l g hs valid cut reached e q room =
     t′ : List ℕ
     t′ = next n m xs (insert p s) .text
 
-    onward : List Held
-    onward = insertLines (caller n m o) (file its hs) (suc (length passed)) [] .held
+    by : Caller
+    by = callerAfter n m xs o
 
-    leaves : decode i′ t′ ≡ some (pick (noRoom (caller n m o) its hs) hs onward)
+    onward : List Held
+    onward = insertLines by (file its hs) (suc (length passed)) [] .held
+
+    leaves : content i′ t′ ≡ some (withHeld (booked n m xs .content) (byRoom (roomFor by its hs) hs hs onward))
     leaves = whole-guarantee n m ln lm xs .insert-room p o own s passed l [] g hs valid cut reached e q .held
 
-    held : pick (noRoom (caller n m o) its hs) hs onward ≡ file its hs
-    held = ap (λ (b : Bool). pick b hs onward) room
+    held : byRoom (roomFor by its hs) hs hs onward ≡ file its hs
+    held = ap (λ (r : Room). byRoom r hs hs onward) room

@@ -32,14 +32,19 @@ use Rattle.store.specs.declared.parties.Party.{Party}
 use Rattle.store.specs.Parties.{ownerOf, byOwner, Named}
 use Rattle.store.specs.Held.{Key, Held, keyBy, sameKey, file, find, indexMax, textMax}
 use Rattle.store.specs.Lines.{linesOf, wanted}
-use Rattle.store.specs.Book.{Caller, caller, turn, noRoom, under, insertLines, Attempt, refused, files, Saving}
-use Rattle.store.specs.Book.{bookAttempt, Call, clear, insert, save, Reply, saved, replied, bookTurn, runBook}
+use Rattle.store.specs.Book.{Caller, caller, turn, roomFor, byRoom, under, insertLines, Attempt, refused, files}
+use Rattle.store.specs.Book.{Turn, Saving, bookAttempt, Call, clear, insert, save, share, Reply, saved, replied}
+use Rattle.store.specs.Book.{bookTurn, bookAfter, runBook}
+use Rattle.store.specs.Shares.{Content, nothingHeld}
+use Rattle.store.specs.declared.table.Room.{Room}
+use Rattle.store.specs.declared.table.Room.the-variants as R
 use Rattle.store.specs.Store.{found, noOwner, lookedIn, lookedAt, lookBy, lookUp}
 use Rattle.store.specs.Saves.{SaveArgs, SaveCall, unsavedName, refusedSave, attemptAfter, attemptOf, Passes}
 use Rattle.store.specs.Saves.{ReadsBack, saving}
 use Rattle.store.specs.Filings.{Filing, filing, filedAttempt, filedBy, since, filings, lastFiled, lineFiled}
 use Rattle.store.specs.Filings.{laterOr}
-use Rattle.store.specs.Guarantee.{Calls, stored, booked, next, builtHeld, builtSave, lastOf}
+use Rattle.store.specs.Guarantee.{Calls, stored, booked, bookLines, callerAfter, next, builtHeld, builtSave}
+use Rattle.store.specs.Guarantee.{lastOf}
 use Rattle.store.specs.Promises.{savedLine, SavedAgain, hasClear, filedAfter, around, SavedIsFound}
 use Rattle.store.proofs.BoolLaws.{or-left, or-right}
 use Rattle.store.proofs.HeldLaws.{same-eq, same-refl, find-file}
@@ -76,10 +81,11 @@ found-some none l e = let z : _≡_ {A = ℕ} 0 1 = cc in absurd (omega arith)
 found-some (some x) l e = let w : x ≡ l = cc in ap some w
 
 -- filing a line that is held leaves every look-up
-find-again : (u k : Key) (l : List ℕ) (hs : List Held) (b : Bool) → find u hs ≡ some l
-    → find k (pick b hs (file (record { key = u; line = l }) hs)) ≡ find k hs
-find-again u k l hs true e = refl
-find-again u k l hs false e = find-file k (record { key = u; line = l }) hs ∙ go (sameKey k u) refl
+find-again : (u k : Key) (l : List ℕ) (hs : List Held) (r : Room) → find u hs ≡ some l
+    → find k (byRoom r hs hs (file (record { key = u; line = l }) hs)) ≡ find k hs
+find-again u k l hs R.IndexFull e = refl
+find-again u k l hs R.TextFull e = refl
+find-again u k l hs R.Fits e = find-file k (record { key = u; line = l }) hs ∙ go (sameKey k u) refl
   where
     go : (t : Bool) → sameKey k u ≡ t → pick t (some l) (find k hs) ≡ find k hs
     go true q = sym (ap (λ (x : Key). find x hs) (same-eq k u q) ∙ e)
@@ -117,17 +123,18 @@ module _ (c : SaveCall) (p : Passes (c .args)) where
 
   module _ (n m : ℕ) (ln : n ≤ indexMax) (lm : m ≤ textMax) (xs : Calls) where
     abbrev lines : List Held
-    lines = booked n m xs .held
+    lines = booked n m xs .content .held
 
     module _ (by : Named) (o : ℕ) (own : ownerOf (by .party) ≡ O.Byte o) where
       abbrev its : Held
       its = under o (a .uuid) (savedLine a)
 
-      held-again : bookTurn {S = saving} n m lines (insert by (savedLine a)) .held
-          ≡ pick (noRoom (caller n m o) its lines) lines (file its lines)
+      held-again : bookTurn {S = saving} n m (booked n m xs .content) (insert by (savedLine a)) .held
+          ≡ byRoom (roomFor (callerAfter n m xs o) its lines) lines lines (file its lines)
       held-again =
-          insert-holds n m by o own saving (savedLine a) [] (savedLine a) [] (record { id = a .uuid; form = Fm.Simple })
-          lines lines (built-utf8 (a .slots) (a .buttons) (a .axes) (a .name) (a .uuid) (p .build)) line-one
+          insert-holds n m (booked n m xs .content) by o own saving (savedLine a) [] (savedLine a) []
+          (record { id = a .uuid; form = Fm.Simple }) lines
+          (built-utf8 (a .slots) (a .buttons) (a .axes) (a .name) (a .uuid) (p .build)) line-one
           (unfold insertLines in refl) line-wanted
           (built-fits (a .slots) (a .buttons) (a .axes) (a .name) (a .uuid) (p .build))
           ∙ unfold insertLines in refl
@@ -142,7 +149,8 @@ module _ (c : SaveCall) (p : Passes (c .args)) where
           (sym (whole-look-up n m ln lm saving builds xs (keyBy o (a .uuid))) ∙ e) in
           ap (lookedAt k) (next-held n m ln lm saving builds xs (insert by (savedLine a)))
           ∙ ap (λ (hs : List Held). lookedIn (find k hs)) held-again
-          ∙ ap lookedIn (find-again (keyBy o (a .uuid)) k (savedLine a) lines (noRoom (caller n m o) its lines) q)
+          ∙ ap lookedIn
+          (find-again (keyBy o (a .uuid)) k (savedLine a) lines (roomFor (callerAfter n m xs o) its lines) q)
           ∙ sym (whole-look-up n m ln lm saving builds xs k)
 
     same-finds : (by : Named)
@@ -180,46 +188,51 @@ module _ (c : SaveCall) (p : Passes (c .args)) where
 -- ---- two lists of calls, one after the other
 
 module _ {S : Saving} (n m : ℕ) where
-  book-append : (xs ys : List (Call S)) (hs : List Held)
-      → runBook n m hs (xs ++ ys) .held ≡ runBook n m (runBook n m hs xs .held) ys .held
-  unfolding runBook
-  book-append [] ys hs = refl
-  book-append (x ∷ xs) ys hs = book-append xs ys (bookTurn n m hs x .held)
-
-  filings-append : (xs ys : List (Call S)) (p : ℕ) (hs : List Held) (fs : List (Filing S))
-      → filings p n m hs fs (xs ++ ys)
-      ≡ filings (p + length xs) n m (runBook n m hs xs .held) (filings p n m hs fs xs) ys
+  filings-append : (xs ys : List (Call S)) (p : ℕ) (c : Content) (fs : List (Filing S))
+      → filings p n m c fs (xs ++ ys)
+      ≡ filings (p + length xs) n m (runBook n m c xs .content) (filings p n m c fs xs) ys
   unfolding filings runBook
-  filings-append [] ys p hs fs =
-      let z : p ≡ p + 0 = omega arith in ap (λ (k : ℕ). filings k n m hs fs ys) z
-  filings-append (x ∷ xs) ys p hs fs =
+  filings-append [] ys p c fs =
+      let z : p ≡ p + 0 = omega arith in ap (λ (k : ℕ). filings k n m c fs ys) z
+  filings-append (x ∷ xs) ys p c fs =
       let z : suc p + length xs ≡ p + suc (length xs) = omega arith in
-      filings-append xs ys (suc p) (bookTurn n m hs x .held) (since x fs (filedBy p n m hs x))
-      ∙ ap (λ (k : ℕ). filings k n m (runBook n m hs (x ∷ xs) .held) (filings p n m hs fs (x ∷ xs)) ys) z
+      filings-append xs ys (suc p) (bookAfter n m c x) (since x fs (filedBy p n m c x))
+      ∙ ap (λ (k : ℕ). filings k n m (runBook n m c (x ∷ xs) .content) (filings p n m c fs (x ∷ xs)) ys) z
 
 -- what calls without a clear file comes after what was filed before them
-filings-kept : (n m : ℕ) (ys : Calls) (p : ℕ) (hs : List Held) (fs : List (Filing saving)) → hasClear ys ≡ false
-    → filings p n m hs fs ys ≡ fs ++ filings p n m hs [] ys
+filings-kept : (n m : ℕ) (ys : Calls) (p : ℕ) (c : Content) (fs : List (Filing saving)) → hasClear ys ≡ false
+    → filings p n m c fs ys ≡ fs ++ filings p n m c [] ys
 unfolding filings hasClear
-filings-kept n m [] p hs fs e = sym (append-nil fs)
-filings-kept n m (clear ∷ ys) p hs fs e = let z : _≡_ {A = ℕ} 0 1 = cc in absurd (omega arith)
-filings-kept n m (insert q s ∷ ys) p hs fs e =
-    filings-kept n m ys (suc p) (bookTurn n m hs (insert q s) .held) (fs ++ filedBy p n m hs (insert q s)) e
-    ∙ append-assoc fs (filedBy p n m hs (insert q s)) (filings (suc p) n m (bookTurn n m hs (insert q s) .held) [] ys)
-    ∙ ap (λ (gs : List (Filing saving)). fs ++ gs)
-    (sym (filings-kept n m ys (suc p) (bookTurn n m hs (insert q s) .held) (filedBy p n m hs (insert q s)) e))
-filings-kept n m (save q c ∷ ys) p hs fs e =
-    filings-kept n m ys (suc p) (bookTurn n m hs (save q c) .held) (fs ++ filedBy p n m hs (save q c)) e
-    ∙ append-assoc fs (filedBy p n m hs (save q c)) (filings (suc p) n m (bookTurn n m hs (save q c) .held) [] ys)
-    ∙ ap (λ (gs : List (Filing saving)). fs ++ gs)
-    (sym (filings-kept n m ys (suc p) (bookTurn n m hs (save q c) .held) (filedBy p n m hs (save q c)) e))
+filings-kept n m [] p c fs e = sym (append-nil fs)
+filings-kept n m (y ∷ ys) p c fs e =
+    go y e (λ (d : Content) (gs : List (Filing saving)). filings-kept n m ys (suc p) d gs)
+  where
+    Keeps : Type 0
+    Keeps = (d : Content) (gs : List (Filing saving)) → hasClear ys ≡ false
+        → filings (suc p) n m d gs ys ≡ gs ++ filings (suc p) n m d [] ys
+
+    adds : (x : Call saving) → hasClear ys ≡ false → Keeps
+        → filings (suc p) n m (bookAfter n m c x) (fs ++ filedBy p n m c x) ys
+        ≡ fs ++ filings (suc p) n m (bookAfter n m c x) (filedBy p n m c x) ys
+    adds x q ih =
+        ih (bookAfter n m c x) (fs ++ filedBy p n m c x) q
+        ∙ append-assoc fs (filedBy p n m c x) (filings (suc p) n m (bookAfter n m c x) [] ys)
+        ∙ ap (λ (gs : List (Filing saving)). fs ++ gs) (sym (ih (bookAfter n m c x) (filedBy p n m c x) q))
+
+    go : (x : Call saving) → hasClear (x ∷ ys) ≡ false → Keeps
+        → filings (suc p) n m (bookAfter n m c x) (since x fs (filedBy p n m c x)) ys
+        ≡ fs ++ filings (suc p) n m (bookAfter n m c x) (since x [] (filedBy p n m c x)) ys
+    go clear q ih = let z : _≡_ {A = ℕ} 0 1 = cc in absurd (omega arith)
+    go (insert r s) q ih = adds (insert r s) q ih
+    go (save r x) q ih = adds (save r x) q ih
+    go (share r b) q ih = adds (share r b) q ih
 
 -- ---- a save that answers done
 
 -- it has passed its checks, there was room, and the answer is build's
-record Accepts (n m : ℕ) (hs : List Held) (o : ℕ) (c : SaveCall) (v : Saved) : Type 0 where
+record Accepts (n m : ℕ) (d : Content) (o : ℕ) (c : SaveCall) (v : Saved) : Type 0 where
   passed : Passes (c .args)
-  room : noRoom (caller n m o) (builtHeld o (c .args)) hs ≡ false
+  room : roomFor (caller n m (d .shares) o) (builtHeld o (c .args)) (d .held) ≡ R.Fits
   value : v ≡ builtSave (c .args)
 
 same-saved : (x y : Saved) → _≡_ {A = Reply saving} (saved x) (saved y) → x ≡ y
@@ -228,73 +241,90 @@ same-saved x y e = cc
 full-not-done : Sv.NoRoom ≡ Sv.Done → ⊥
 full-not-done e = let z : _≡_ {A = ℕ} 0 1 = cc in omega arith
 
+crowded-not-done : Sv.NoText ≡ Sv.Done → ⊥
+crowded-not-done e = let z : _≡_ {A = ℕ} 0 1 = cc in omega arith
+
 unsaved-not-done : Sv.UnsavedName ≡ Sv.Done → ⊥
 unsaved-not-done e = let z : _≡_ {A = ℕ} 0 1 = cc in omega arith
 
 refused-not-done : (x : MappingError) → Sv.Refused x ≡ Sv.Done → ⊥
 refused-not-done x e = let z : _≡_ {A = ℕ} 0 1 = cc in omega arith
 
-abbrev Says : Caller → List Held → Saved → Attempt Saved → Type 0
-Says b hs v x = _≡_ {A = Reply saving} (saved (bookAttempt (refusedSave Sv.NoRoom) b hs x .answer)) (saved v)
+abbrev tries : Caller → List Held → Attempt Saved → Turn Saved
+tries b hs x = bookAttempt (refusedSave Sv.NoRoom) (refusedSave Sv.NoText) b hs x
 
-accepts : (n m : ℕ) (hs : List Held) (p : Named) (o : ℕ) → ownerOf (p .party) ≡ O.Byte o → (c : SaveCall) (v : Saved)
-    → bookTurn {S = saving} n m hs (save p c) .answer ≡ saved v → v .answer ≡ Sv.Done → Accepts n m hs o c v
+abbrev Says : Caller → List Held → Saved → Attempt Saved → Type 0
+Says b hs v x = _≡_ {A = Reply saving} (saved (tries b hs x .answer)) (saved v)
+
+accepts : (n m : ℕ) (d : Content) (p : Named) (o : ℕ) → ownerOf (p .party) ≡ O.Byte o → (c : SaveCall) (v : Saved)
+    → bookTurn {S = saving} n m d (save p c) .answer ≡ saved v → v .answer ≡ Sv.Done → Accepts n m d o c v
 unfolding bookTurn attemptOf
-accepts n m hs p o own c v e d =
+accepts n m d p o own c v e done =
     checked (checksOf (a .slots) (a .buttons) (a .axes) (a .name)) refl
     (sym (ap (λ (w : Owner). byOwner w (turn (saved (refusedSave Sv.NoOwner)) hs)
-    (λ r. replied {S = saving} saved (bookAttempt (refusedSave Sv.NoRoom) (caller n m r) hs (attemptOf r a))) .answer) own)
+    (λ r. replied {S = saving} saved (tries (by r) hs (attemptOf r a))) .answer) own)
     ∙ e)
   where
     a : SaveArgs
     a = c .args
 
-    room? : (b : Bool) → noRoom (caller n m o) (builtHeld o a) hs ≡ b → Passes a
+    hs : List Held
+    hs = d .held
+
+    by : ℕ → Caller
+    by r = caller n m (d .shares) r
+
+    room? : (r : Room) → roomFor (by o) (builtHeld o a) hs ≡ r → Passes a
         → _≡_ {A = Reply saving}
-        (saved (pick b (turn (refusedSave Sv.NoRoom) hs) (turn (builtSave a) (file (builtHeld o a) hs)) .answer))
+        (saved (byRoom r (turn (refusedSave Sv.NoRoom) hs) (turn (refusedSave Sv.NoText) hs)
+        (turn (builtSave a) (file (builtHeld o a) hs)) .answer))
         (saved v)
-        → Accepts n m hs o c v
-    room? true q ok w =
-        absurd (full-not-done (ap (λ (x : Saved). x .answer) (same-saved (refusedSave Sv.NoRoom) v w) ∙ d))
-    room? false q ok w = record { passed = ok; room = q; value = sym (same-saved (builtSave a) v w) }
+        → Accepts n m d o c v
+    room? R.IndexFull q ok w =
+        absurd (full-not-done (ap (λ (x : Saved). x .answer) (same-saved (refusedSave Sv.NoRoom) v w) ∙ done))
+    room? R.TextFull q ok w =
+        absurd (crowded-not-done (ap (λ (x : Saved). x .answer) (same-saved (refusedSave Sv.NoText) v w) ∙ done))
+    room? R.Fits q ok w = record { passed = ok; room = q; value = sym (same-saved (builtSave a) v w) }
 
     named : (b : Bool) → unsavedName (a .name) ≡ b → checksOf (a .slots) (a .buttons) (a .axes) (a .name) ≡ Accepted
-        → Says (caller n m o) hs v (pick b (refused (refusedSave Sv.UnsavedName)) (files (builtHeld o a) (builtSave a)))
-        → Accepts n m hs o c v
+        → Says (by o) hs v (pick b (refused (refusedSave Sv.UnsavedName)) (files (builtHeld o a) (builtSave a)))
+        → Accepts n m d o c v
     named true q ok w =
-        absurd (unsaved-not-done (ap (λ (x : Saved). x .answer) (same-saved (refusedSave Sv.UnsavedName) v w) ∙ d))
-    named false q ok w = room? (noRoom (caller n m o) (builtHeld o a) hs) refl (record { build = ok; name = q }) w
+        absurd (unsaved-not-done (ap (λ (x : Saved). x .answer) (same-saved (refusedSave Sv.UnsavedName) v w) ∙ done))
+    named false q ok w = room? (roomFor (by o) (builtHeld o a) hs) refl (record { build = ok; name = q }) w
 
     checked : (r : MappingAnswer) → checksOf (a .slots) (a .buttons) (a .axes) (a .name) ≡ r
-        → Says (caller n m o) hs v (attemptAfter o a r) → Accepts n m hs o c v
+        → Says (by o) hs v (attemptAfter o a r) → Accepts n m d o c v
     checked Accepted ok w = named (unsavedName (a .name)) refl ok w
     checked (Refused x) ok w =
-        absurd (refused-not-done x (ap (λ (y : Saved). y .answer) (same-saved (refusedSave (Sv.Refused x)) v w) ∙ d))
+        absurd (refused-not-done x (ap (λ (y : Saved). y .answer) (same-saved (refusedSave (Sv.Refused x)) v w) ∙ done))
 
 module _ (n m : ℕ) (ln : n ≤ indexMax) (lm : m ≤ textMax) where
   module _ (xs : Calls) (p : Named) (o : ℕ) (mine : ownerOf (p .party) ≡ O.Byte o) (c : SaveCall) (v : Saved)
-      (ok : Accepts n m (booked n m xs .held) o c v) where
+      (ok : Accepts n m (booked n m xs .content) o c v) where
     abbrev before : List (Filing saving)
-    before = filings 0 n m [] [] xs
+    before = filings 0 n m nothingHeld [] xs
 
     abbrev place : ℕ
     place = 0 + length xs
 
     abbrev reply : Reply saving
-    reply = bookTurn {S = saving} n m (booked n m xs .held) (save p c) .answer
+    reply = bookTurn {S = saving} n m (booked n m xs .content) (save p c) .answer
 
     abbrev own : Filing saving
     own = filing place (save p c) reply (builtHeld o (c .args))
 
     -- the save's filing comes last
-    then-own : filings 0 n m [] [] (xs ++ (save p c ∷ [])) ≡ before ++ (own ∷ [])
+    then-own : filings 0 n m nothingHeld [] (xs ++ (save p c ∷ [])) ≡ before ++ (own ∷ [])
     then-own =
-        filings-append n m xs (save p c ∷ []) 0 [] [] ∙ unfold filings in
+        filings-append n m xs (save p c ∷ []) 0 nothingHeld [] ∙ unfold filings in
         (ap (λ (w : Owner). before ++ byOwner w []
-        (λ r. filedAttempt place (save p c) reply (caller n m r) (booked n m xs .held) (attemptOf r (c .args)))) mine
-        ∙ ap (λ (y : Attempt Saved). before ++ filedAttempt place (save p c) reply (caller n m o) (booked n m xs .held) y)
+        (λ r. filedAttempt place (save p c) reply (callerAfter n m xs r) (bookLines n m xs)
+        (attemptOf r (c .args)))) mine
+        ∙ ap (λ (y : Attempt Saved). before
+        ++ filedAttempt place (save p c) reply (callerAfter n m xs o) (bookLines n m xs) y)
         (attempt-files o (c .args) (ok .passed))
-        ∙ ap (λ (b : Bool). before ++ pick b [] (own ∷ [])) (ok .room))
+        ∙ ap (λ (r : Room). before ++ byRoom r [] [] (own ∷ [])) (ok .room))
 
     last-own : (ys : Calls) → hasClear ys ≡ false
         → lastFiled (keyBy o (c .args .uuid)) (filedAfter n m (xs ++ (save p c ∷ [])) ys) ≡ none
@@ -304,10 +334,10 @@ module _ (n m : ℕ) (ln : n ≤ indexMax) (lm : m ≤ textMax) where
         let both : Calls = xs ++ (save p c ∷ []) in
         let later : List (Filing saving) = filedAfter n m both ys in
         let z : 0 + length both ≡ length both = omega arith in
-        let all : filings 0 n m [] [] (both ++ ys) ≡ (before ++ (own ∷ [])) ++ later
-        = filings-append n m both ys 0 [] []
-        ∙ ap (λ (i : ℕ). filings i n m (booked n m both .held) (filings 0 n m [] [] both) ys) z
-        ∙ filings-kept n m ys (length both) (booked n m both .held) (filings 0 n m [] [] both) keep
+        let all : filings 0 n m nothingHeld [] (both ++ ys) ≡ (before ++ (own ∷ [])) ++ later
+        = filings-append n m both ys 0 nothingHeld []
+        ∙ ap (λ (i : ℕ). filings i n m (booked n m both .content) (filings 0 n m nothingHeld [] both) ys) z
+        ∙ filings-kept n m ys (length both) (booked n m both .content) (filings 0 n m nothingHeld [] both) keep
         ∙ ap (λ (fs : List (Filing saving)). fs ++ later) then-own in
         ap (lastFiled k) all
         ∙ last-append k (before ++ (own ∷ [])) later
@@ -318,9 +348,9 @@ module _ (n m : ℕ) (ln : n ≤ indexMax) (lm : m ≤ textMax) where
 
   pub saved-is-found : SavedIsFound n m
   saved-is-found xs p o mine c v ys answer done keep free =
-      let ok : Accepts n m (booked n m xs .held) o c v =
-      accepts n m (booked n m xs .held) p o mine c v (sym (whole-next n m ln lm saving builds xs (save p c)) ∙ answer)
-      done in (
+      let ok : Accepts n m (booked n m xs .content) o c v =
+      accepts n m (booked n m xs .content) p o mine c v
+      (sym (whole-next n m ln lm saving builds xs (save p c)) ∙ answer) done in (
         whole-guarantee n m ln lm (around xs p c ys) .finds (p .party) (c .args .uuid)
             ∙ ap (λ (w : Owner). byOwner w noOwner
             (λ r. lookedIn (lineFiled (lastOf n m (around xs p c ys) (keyBy r (c .args .uuid)))))) mine

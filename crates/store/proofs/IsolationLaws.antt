@@ -23,7 +23,9 @@ use Rattle.store.specs.Held.{Key, Held, keyBy, sameKey, indexMax, textMa
 use Rattle.store.specs.Lines.{linesOf, wanted}
 use Rattle.store.specs.Refusals.{saveNumber}
 use Rattle.store.specs.Book.{caller, turn, nobodyInserts, bookInsert, bookAttempt, Attempt, refused, files, Call}
-use Rattle.store.specs.Book.{clear, insert, save, Reply, cleared, inserted, saved, replied, bookTurn, runBook}
+use Rattle.store.specs.Book.{Caller, clear, insert, save, share, Reply, cleared, inserted, saved, shared, replied}
+use Rattle.store.specs.Book.{bookTurn, bookAfter, runBook}
+use Rattle.store.specs.Shares.{Content, nothingHeld}
 use Rattle.store.specs.Store.{noOwner, lookedIn, lookUp}
 use Rattle.store.specs.Saves.{SaveArgs, SaveCall, attemptOf, refusedSave, saving}
 use Rattle.store.specs.Filings.{Filing, filedLines, filedAttempt, filedBy, since, filings, laterOr, lastFiled}
@@ -35,7 +37,8 @@ use Rattle.store.specs.declared.calls.SaveAnswer.the-variants as Sv
 use Rattle.store.proofs.BoolLaws.{and-false-left}
 use Rattle.store.proofs.NearLaws.{near-after}
 use Rattle.store.proofs.Saves.{builds, whole-guarantee}
-use Rattle.store.proofs.ToldLaws.{helds, helds-append, wantedUnder, toldLines, insert-told, toldAttempt, save-told}
+use Rattle.store.proofs.ToldLaws.{helds, helds-append, wantedUnder, toldLines, insert-told, toldAttempt}
+use Rattle.store.proofs.ToldLaws.{save-told}
 
 -- ---- the last line under a key
 
@@ -94,9 +97,11 @@ told o clears r = []
 told o (inserts s) (inserted r) = toldLines o (linesOf s) (r .count)
 told o (inserts s) (cleared r) = []
 told o (inserts s) (saved v) = []
+told o (inserts s) (shared r) = []
 told o (saves a) (saved v) = toldAttempt (attemptOf o a) (saveNumber (v .answer))
 told o (saves a) (inserted r) = []
 told o (saves a) (cleared r) = []
+told o (saves a) (shared r) = []
 
 owned-lines : (q : ℕ) (ls : List (List ℕ)) (c : ℕ) → Owned q (toldLines q ls c)
 unfolding toldLines
@@ -167,26 +172,29 @@ module _ (k : Key) where
   skips-none fs gs e = ap (λ (xs : List (Filing saving)). lastLine k (helds xs)) (append-nil fs) ∙ e
 
   module _ (n m : ℕ) where
-    turn-alike : (p : ℕ) (hs : List Held) (fs : List (Filing saving)) (gs : List Held) (x : Call saving) → Alike fs gs
-        → Alike (since x fs (filedBy p n m hs x)) (afterCall o gs (ownCall o x) (bookTurn n m hs x .answer))
+    turn-alike : (p : ℕ) (d : Content) (fs : List (Filing saving)) (gs : List Held) (x : Call saving) → Alike fs gs
+        → Alike (since x fs (filedBy p n m d x)) (afterCall o gs (ownCall o x) (bookTurn n m d x .answer))
     unfolding bookTurn
-    turn-alike p hs fs gs clear e = unfold helds in refl
-    turn-alike p hs fs gs (insert q s) e = go (ownerOf (q .party)) (bookTurn n m hs (insert q s) .answer)
+    turn-alike p d fs gs clear e = unfold helds in refl
+    turn-alike p d fs gs (insert q s) e = go (ownerOf (q .party)) (bookTurn n m d (insert q s) .answer)
       where
+        by : ℕ → Caller
+        by v = caller n m (d .shares) v
+
         filed : Reply saving → ℕ → List (Filing saving)
-        filed a v = pick (isUtf8 s) (filedLines p (insert q s) a (caller n m v) hs (linesOf s)) []
+        filed a v = pick (isUtf8 s) (filedLines p (insert q s) a (by v) (d .held) (linesOf s)) []
 
         is-told : (a : Reply saving) (v : ℕ)
-            → helds (filed a v) ≡ toldLines v (linesOf s) (bookInsert (caller n m v) hs s .answer .count)
-        is-told a v = insert-told (caller n m v) p (insert q s) a s hs
+            → helds (filed a v) ≡ toldLines v (linesOf s) (bookInsert (by v) (d .held) s .answer .count)
+        is-told a v = insert-told (by v) p (insert q s) a s (d .held)
 
         own? : (a : Reply saving) (v : ℕ) (b : Bool) → eqb v o ≡ b
             → Alike (fs ++ filed a v)
-            (afterCall o gs (pick b (some (inserts s)) none) (inserted (bookInsert (caller n m v) hs s .answer)))
+            (afterCall o gs (pick b (some (inserts s)) none) (inserted (bookInsert (by v) (d .held) s .answer)))
         own? a v true z =
             adds fs (filed a v) gs _ e
             (ap (lastLine k) (is-told a v)
-            ∙ ap (λ (w : ℕ). lastLine k (toldLines w (linesOf s) (bookInsert (caller n m v) hs s .answer .count)))
+            ∙ ap (λ (w : ℕ). lastLine k (toldLines w (linesOf s) (bookInsert (by v) (d .held) s .answer .count)))
             (eqb-true v o z))
         own? a v false z =
             skips fs (filed a v) gs e
@@ -195,21 +203,25 @@ module _ (k : Key) where
         go : (w : Owner) (a : Reply saving)
             → Alike (fs ++ byOwner w [] (λ v. filed a v))
             (afterCall o gs (byOwner w none (λ v. pick (eqb v o) (some (inserts s)) none))
-            (byOwner w (turn (inserted nobodyInserts) hs)
-            (λ v. replied {S = saving} inserted (bookInsert (caller n m v) hs s)) .answer))
+            (byOwner w (turn (inserted nobodyInserts) (d .held))
+            (λ v. replied {S = saving} inserted (bookInsert (by v) (d .held) s)) .answer))
         go O.Nobody a = skips-none fs gs e
         go (O.Byte v) a = own? a v (eqb v o) refl
-    turn-alike p hs fs gs (save q c) e = go (ownerOf (q .party)) (bookTurn n m hs (save q c) .answer)
+    turn-alike p d fs gs (save q c) e = go (ownerOf (q .party)) (bookTurn n m d (save q c) .answer)
       where
+        by : ℕ → Caller
+        by v = caller n m (d .shares) v
+
         filed : Reply saving → ℕ → List (Filing saving)
-        filed a v = filedAttempt p (save q c) a (caller n m v) hs (attemptOf v (c .args))
+        filed a v = filedAttempt p (save q c) a (by v) (d .held) (attemptOf v (c .args))
 
         value : ℕ → Saved
-        value v = bookAttempt (refusedSave Sv.NoRoom) (caller n m v) hs (attemptOf v (c .args)) .answer
+        value v =
+            bookAttempt (refusedSave Sv.NoRoom) (refusedSave Sv.NoText) (by v) (d .held) (attemptOf v (c .args)) .answer
 
         is-told : (a : Reply saving) (v : ℕ)
             → helds (filed a v) ≡ toldAttempt (attemptOf v (c .args)) (saveNumber (value v .answer))
-        is-told a v = save-told (caller n m v) p (save q c) a v (c .args) hs
+        is-told a v = save-told (by v) p (save q c) a v (c .args) (d .held)
 
         own? : (a : Reply saving) (v : ℕ) (b : Bool) → eqb v o ≡ b
             → Alike (fs ++ filed a v) (afterCall o gs (pick b (some (saves (c .args))) none) (saved (value v)))
@@ -225,28 +237,30 @@ module _ (k : Key) where
         go : (w : Owner) (a : Reply saving)
             → Alike (fs ++ byOwner w [] (λ v. filed a v))
             (afterCall o gs (byOwner w none (λ v. pick (eqb v o) (some (saves (c .args))) none))
-            (byOwner w (turn (saved (refusedSave Sv.NoOwner)) hs)
+            (byOwner w (turn (saved (refusedSave Sv.NoOwner)) (d .held))
             (λ v. replied {S = saving} saved
-            (bookAttempt (refusedSave Sv.NoRoom) (caller n m v) hs (attemptOf v (c .args)))) .answer))
+            (bookAttempt (refusedSave Sv.NoRoom) (refusedSave Sv.NoText) (by v) (d .held)
+            (attemptOf v (c .args)))) .answer))
         go O.Nobody a = skips-none fs gs e
         go (O.Byte v) a = own? a v (eqb v o) refl
+    turn-alike p d fs gs (share q b) e = skips-none fs gs e
 
-    run-alike : (xs : Calls) (p : ℕ) (hs : List Held) (fs : List (Filing saving)) (gs : List Held) → Alike fs gs
-        → Alike (filings p n m hs fs xs) (afterAll o gs (deeds o xs (runBook n m hs xs .answers)))
+    run-alike : (xs : Calls) (p : ℕ) (d : Content) (fs : List (Filing saving)) (gs : List Held) → Alike fs gs
+        → Alike (filings p n m d fs xs) (afterAll o gs (deeds o xs (runBook n m d xs .answers)))
     unfolding filings runBook deeds
-    run-alike [] p hs fs gs e = e ∙ unfold afterAll in refl
-    run-alike (x ∷ xs) p hs fs gs e =
-        run-alike xs (suc p) (bookTurn n m hs x .held) (since x fs (filedBy p n m hs x))
-        (afterCall o gs (ownCall o x) (bookTurn n m hs x .answer)) (turn-alike p hs fs gs x e)
-        ∙ ap (lastLine k) (sym (and-deed o gs (ownCall o x) (bookTurn n m hs x .answer)
-        (deeds o xs (runBook n m (bookTurn n m hs x .held) xs .answers))))
+    run-alike [] p d fs gs e = e ∙ unfold afterAll in refl
+    run-alike (x ∷ xs) p d fs gs e =
+        run-alike xs (suc p) (bookAfter n m d x) (since x fs (filedBy p n m d x))
+        (afterCall o gs (ownCall o x) (bookTurn n m d x .answer)) (turn-alike p d fs gs x e)
+        ∙ ap (lastLine k) (sym (and-deed o gs (ownCall o x) (bookTurn n m d x .answer)
+        (deeds o xs (runBook n m (bookAfter n m d x) xs .answers))))
 
     -- the line last filed under the key, by the deeds alone
     by-deeds : n ≤ indexMax → m ≤ textMax → (xs : Calls)
         → lineFiled (lastOf n m xs k) ≡ lastLine k (afterAll o [] (deeds o xs (stored n m xs .answers)))
     by-deeds ln lm xs =
-        last-held k (filings 0 n m [] [] xs)
-        ∙ run-alike xs 0 [] [] [] (unfold helds in refl)
+        last-held k (filings 0 n m nothingHeld [] xs)
+        ∙ run-alike xs 0 nothingHeld [] [] (unfold helds in refl)
         ∙ ap (λ (rs : List (Reply saving)). lastLine k (afterAll o [] (deeds o xs rs)))
         (sym (whole-guarantee n m ln lm xs .answers))
 

@@ -15,9 +15,13 @@ pub mod HeadLaws
 pub mod RowLaws
 pub mod DecodeLaws
 pub mod SoundLaws
+pub mod ShareLaws
+pub mod ShareBufferLaws
+pub mod ClaimLaws
 pub mod RoomLaws
 pub mod FilingLaws
 pub mod LivingLaws
+pub mod UseLaws
 pub mod SettleLaws
 pub mod ClosingLaws
 pub mod ReadLaws
@@ -31,8 +35,11 @@ pub mod TableLaws
 pub mod LoadLaws
 pub mod SurveyLaws
 pub mod LookLaws
+pub mod SettingLaws
+pub mod ShareCallLaws
 pub mod StruckLaws
 pub mod FileRowLaws
+pub mod PartLaws
 pub mod InsertLaws
 pub mod BatchLaws
 pub mod OneLaws
@@ -46,6 +53,7 @@ pub mod SaveFilingLaws
 pub mod NextLaws
 pub mod SaveCallLaws
 pub mod FrontLaws
+pub mod WalkLaws
 pub mod RefusedLaws
 pub mod Saves
 pub mod FoundLaws
@@ -53,8 +61,10 @@ pub mod NearLaws
 pub mod FormLaws
 pub mod ToldLaws
 pub mod IsolationLaws
+pub mod SharesKeptLaws
 mod Samples
 mod Worked
 mod History
 mod NearSamples
 mod PartySamples
+mod ShareSamples

@@ -16,35 +16,34 @@ use Rattle.store.specs.declared.table.Fill.{Fill}
 use Rattle.store.specs.declared.look.Seen.{Seen}
 use Rattle.store.specs.declared.look.Part.{Part}
 use Rattle.store.specs.declared.calls.Look.the-variants as L
-use Rattle.store.specs.Decode.{decode}
+use Rattle.store.specs.Decode.{decode, content}
+use Rattle.store.specs.Shares.{Content}
 use Rattle.store.specs.Held.{Key, Held, sameKey, find}
 use Rattle.store.specs.Inner.{known}
-use Rattle.store.specs.Keys.{rowsMax, Chained, Sought}
+use Rattle.store.specs.Keys.{rowsMax, Sought}
 use Rattle.store.specs.Rows.{Row, rowIn, keyIn, startIn, lenIn, rowPut, Long}
 use Rattle.store.specs.Table.{living, heldAt, lineAt, InRows, Loads, lenBefore, Sees}
 use Rattle.store.specs.Sights.{Ready, Agree, Spot, nowhere, there}
 use Rattle.store.specs.Store.{Looked, nothing, unsound, lookedIn, lookedAt, lookBy, saysOf, lineOf}
 use Rattle.store.specs.Store as store
 use Rattle.store.proofs.ChainLaws.{unlike}
-use Rattle.store.proofs.DecodeLaws.{lines-of}
 use Rattle.store.proofs.HeldLaws.{same-refl, same-eq}
 use Rattle.store.proofs.TableLaws.{chained-agree}
 use Rattle.store.proofs.WriteLaws.{put-long, row-same, row-other}
 
-look-unsound : (k : Key) (i t : List ℕ) → known (decode i t) ≡ false → lookBy k i t ≡ unsound
+look-unsound : (k : Key) (i t : List ℕ) → known (content i t) ≡ false → lookBy k i t ≡ unsound
 unfolding lookBy
-look-unsound k i t e = go (decode i t) e
+look-unsound k i t e = go (content i t) e
   where
-    go : (o : Option (List Held)) → known o ≡ false → lookedAt k o ≡ unsound
+    go : (o : Option Content) → known o ≡ false → lookedAt k o ≡ unsound
     go none q = refl
-    go (some hs) q = let z : _≡_ {A = ℕ} 0 1 = cc in absurd (omega arith)
+    go (some c) q = let z : _≡_ {A = ℕ} 0 1 = cc in absurd (omega arith)
 
 -- the lines of a sound store are in their chains
-pub look-ready : (i t : List ℕ) → known (decode i t) ≡ true → (a heads next : List ℕ) (f : Fill)
+pub look-ready : (i t : List ℕ) (hs : List Held) → decode i t ≡ some hs → (a heads next : List ℕ) (f : Fill)
     → Loads i a heads next f → Ready a heads next (f .count)
-look-ready i t e a heads next f loads =
-    let q = lines-of (decode i t) e in
-    let x = loads t [] (q .0) (q .1) in
+look-ready i t hs e a heads next f loads =
+    let x = loads t [] hs e in
     record { long = x .tabled .long; chained = x .chained }
 
 -- ---- found among the lines of numbers
@@ -210,25 +209,25 @@ module _ (k : Key) (i t : List ℕ) where
       → r .start + r .len ≤ length t → take (r .len) (drop (r .start) t) ≡ lineOf x → Sees i t k r
   sees r x e h l q = record { how = h ∙ ap saysOf (sym e); within = l; line = q ∙ ap lineOf (sym e) }
 
-  pub sees-unsound : known (decode i t) ≡ false → Sees i t k (record { how = L.Unsound; start = 0; len = 0 })
+  pub sees-unsound : known (content i t) ≡ false → Sees i t k (record { how = L.Unsound; start = 0; len = 0 })
   sees-unsound e = sees _ unsound (look-unsound k i t e) refl (omega arith) refl
 
-  module _ (hs : List Held) (e : decode i t ≡ some hs) (r : Part) (s : Spot t (find k hs) r) where
-    looks : (o : Option (List ℕ)) → find k hs ≡ o → lookBy k i t ≡ lookedIn o
+  module _ (c : Content) (e : content i t ≡ some c) (r : Part) (s : Spot t (find k (c .held)) r) where
+    looks : (o : Option (List ℕ)) → find k (c .held) ≡ o → lookBy k i t ≡ lookedIn o
     unfolding lookBy
     looks o q = ap (lookedAt k) e ∙ ap lookedIn q
 
     pub sees-none : r .len ≡ 0 → Sees i t k (record { how = L.Missing; start = 0; len = 0 })
     sees-none z = go s
       where
-        go : Spot t (find k hs) r → Sees i t k (record { how = L.Missing; start = 0; len = 0 })
+        go : Spot t (find k (c .held)) r → Sees i t k (record { how = L.Missing; start = 0; len = 0 })
         go (nowhere q y) = sees _ nothing (looks none q) refl (omega arith) refl
         go (there q y w) = absurd (omega (arith, y, z))
 
     pub sees-line : (r .len ≡ 0 → ⊥) → Sees i t k (record { how = L.Found; start = r .start; len = r .len })
     sees-line z = go s
       where
-        go : Spot t (find k hs) r → Sees i t k (record { how = L.Found; start = r .start; len = r .len })
+        go : Spot t (find k (c .held)) r → Sees i t k (record { how = L.Found; start = r .start; len = r .len })
         go (nowhere q y) = absurd (z y)
         go (there q y w) =
             sees _ (store.found (take (r .len) (drop (r .start) t)))

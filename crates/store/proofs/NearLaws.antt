@@ -11,7 +11,8 @@ use Rattle.text.specs.Uuid.{withoutChecksum}
 use Rattle.store.specs.declared.look.Part.{Part}
 use Rattle.store.specs.declared.near.NearSeen.{NearSeen}
 use Rattle.store.specs.declared.near.NearLook.the-variants as N
-use Rattle.store.specs.Decode.{decode}
+use Rattle.store.specs.Shares.{Content}
+use Rattle.store.specs.Decode.{content}
 use Rattle.store.specs.Filings.{lineFiled}
 use Rattle.store.specs.Guarantee.{Calls, Guarantee, stored, lastOf}
 use Rattle.text.specs.declared.uuid.Uuid.{Uuid}
@@ -19,9 +20,10 @@ use Rattle.store.specs.declared.owners.Owner.{Owner}
 use Rattle.store.specs.declared.owners.Owner.the-variants as O
 use Rattle.store.specs.declared.parties.Party.{Party}
 use Rattle.store.specs.Parties.{ownerOf, byOwner}
-use Rattle.store.specs.Held.{Key, Held, keyBy, find, indexMax, textMax}
+use Rattle.store.specs.Held.{Key, keyBy, find, indexMax, textMax}
 use Rattle.store.specs.Inner.{known}
-use Rattle.store.specs.Near.{Nearby, exact, near, neither, damaged, nobody, nearIn, plainKey, nearAt, nearBy, nearUp}
+use Rattle.store.specs.Near.{Nearby, exact, near, neither, damaged, nobody, nearIn, plainKey, nearAt, nearBy}
+use Rattle.store.specs.Near.{nearUp}
 use Rattle.store.specs.Near.{Beside, BesideLookUp, NeverNear, NearAfter}
 use Rattle.store.specs.Sights.{Spot, nowhere, there, NearSees}
 use Rattle.store.specs.Store.{Looked, nothing, unsound, noOwner, lookedIn, lookedAt, lookBy, lookUp}
@@ -60,9 +62,9 @@ pub beside-look-up : BesideLookUp
 unfolding nearUp nearBy lookUp lookBy
 beside-look-up p u i t = who (ownerOf p)
   where
-    go : (o : ℕ) (w : Option (List Held))
+    go : (o : ℕ) (w : Option Content)
         → Beside (nearAt (keyBy o u) w) (lookedAt (keyBy o u) w) (lookedAt (keyBy o (withoutChecksum u)) w)
-    go o (some hs) = beside-in (find (keyBy o u) hs) (find (keyBy o (withoutChecksum u)) hs)
+    go o (some c) = beside-in (find (keyBy o u) (c .held)) (find (keyBy o (withoutChecksum u)) (c .held))
     go o none = record {
       exact-found = λ l. (λ e. clash cc, λ e. clash cc);
       near-only = λ l. (λ e. clash cc, λ e. let q = e .0 in clash cc);
@@ -72,10 +74,10 @@ beside-look-up p u i t = who (ownerOf p)
     }
 
     who : (w : Owner)
-        → Beside (byOwner w nobody (λ o. nearAt (keyBy o u) (decode i t)))
-        (byOwner w noOwner (λ o. lookedAt (keyBy o u) (decode i t)))
-        (byOwner w noOwner (λ o. lookedAt (keyBy o (withoutChecksum u)) (decode i t)))
-    who (O.Byte o) = go o (decode i t)
+        → Beside (byOwner w nobody (λ o. nearAt (keyBy o u) (content i t)))
+        (byOwner w noOwner (λ o. lookedAt (keyBy o u) (content i t)))
+        (byOwner w noOwner (λ o. lookedAt (keyBy o (withoutChecksum u)) (content i t)))
+    who (O.Byte o) = go o (content i t)
     who O.Nobody = record {
       exact-found = λ l. (λ e. clash cc, λ e. clash cc);
       near-only = λ l. (λ e. clash cc, λ e. let q = e .0 in clash cc);
@@ -174,17 +176,17 @@ module _ (t : List ℕ) (a b : Option (List ℕ)) (whole : Part) (s : Spot t a w
             (subst (Goal none) (sym q) (record { how = refl; within = omega arith; line = refl }))
 
 module _ (k : Key) (i t : List ℕ) where
-  pub near-unsound : known (decode i t) ≡ false
+  pub near-unsound : known (content i t) ≡ false
       → NearSees t (nearBy k i t) (record { how = N.Unsound; start = 0; len = 0 })
   unfolding nearBy
-  near-unsound e = go (decode i t) e
+  near-unsound e = go (content i t) e
     where
-      go : (o : Option (List Held)) → known o ≡ false
+      go : (o : Option Content) → known o ≡ false
           → NearSees t (nearAt k o) (record { how = N.Unsound; start = 0; len = 0 })
       go none q = record { how = refl; within = omega arith; line = refl }
-      go (some hs) q = clash cc
+      go (some c) q = clash cc
 
-  pub near-sound : (hs : List Held) → decode i t ≡ some hs → (r : NearSeen)
-      → NearSees t (nearIn (find k hs) (find (plainKey k) hs)) r → NearSees t (nearBy k i t) r
+  pub near-sound : (c : Content) → content i t ≡ some c → (r : NearSeen)
+      → NearSees t (nearIn (find k (c .held)) (find (plainKey k) (c .held))) r → NearSees t (nearBy k i t) r
   unfolding nearBy
-  near-sound hs e r s = subst (λ (o : Option (List Held)). NearSees t (nearAt k o) r) (sym e) s
+  near-sound c e r s = subst (λ (o : Option Content). NearSees t (nearAt k o) r) (sym e) s

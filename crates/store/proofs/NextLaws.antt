@@ -12,14 +12,18 @@ use Rattle.text.specs.Bytes.{pick}
 use Rattle.text.specs.Utf8.{isUtf8, validRun}
 use Rattle.text.specs.declared.uuid.Spelled.{Spelled}
 use Rattle.text.specs.declared.uuid.UuidParse.the-variants.{Parsed}
+use Rattle.store.specs.declared.calls.Answer.{Answer}
 use Rattle.store.specs.declared.calls.Tally.{Tally}
 use Rattle.store.specs.declared.owners.Owner.{Owner}
 use Rattle.store.specs.declared.owners.Owner.the-variants as O
 use Rattle.store.specs.Parties.{ownerOf, byOwner, Named}
-use Rattle.store.specs.Book.{Caller, caller, turn, noRoom, Turn, under, Reached, after, stopped, reach}
+use Rattle.store.specs.Book.{Caller, caller, turn, roomFor, byRoom, Turn, under, Reached, after, stopped, reach}
 use Rattle.store.specs.Book.{insertTurn, onReached, insertLines, bookWalk, insertedOf, bookInsert, nobodyInserts}
 use Rattle.store.specs.Book.{Attempt, files, Saving, bookAttempt}
 use Rattle.store.specs.Book.{insert, save, Reply, inserted, saved, replied, bookTurn}
+use Rattle.store.specs.Shares.{Content}
+use Rattle.store.specs.declared.table.Room.{Room}
+use Rattle.store.specs.declared.table.Room.the-variants as R
 use Rattle.store.specs.Held.{Held, file, lineMax}
 use Rattle.store.specs.Lines.{linesOf, wanted}
 use Rattle.store.specs.declared.calls.Answer.the-variants as A
@@ -54,52 +58,63 @@ module _ (b : Caller) where
   at-line : (l : List ℕ) (rest : List (List ℕ)) (u : Spelled) (hs : List Held) (c : ℕ) → wanted l ≡ Parsed u
       → length l ≤ lineMax
       → insertLines b hs c (l ∷ rest)
-      ≡ pick (noRoom b (under (b .owner) (u .id) l) hs) (insertTurn hs A.NoRoom c) (insertLines b (file (under (b .owner) (u .id) l) hs) (suc c) rest)
+      ≡ byRoom (roomFor b (under (b .owner) (u .id) l) hs) (insertTurn hs A.NoRoom c) (insertTurn hs A.NoText c)
+      (insertLines b (file (under (b .owner) (u .id) l) hs) (suc c) rest)
   unfolding insertLines reach
-  at-line l rest u hs c e q = rw (e, le-ltb lineMax (length l) q) (go (noRoom b (under (b .owner) (u .id) l) hs))
+  at-line l rest u hs c e q = rw (e, le-ltb lineMax (length l) q) (go (roomFor b its hs))
     where
-      go : (x : Bool)
-          → onReached (pick x (stopped A.NoRoom) (after (file (under (b .owner) (u .id) l) hs))) (λ a. insertTurn hs a c)
-          (λ ks. insertLines b ks (suc c) rest)
-          ≡ pick x (insertTurn hs A.NoRoom c) (insertLines b (file (under (b .owner) (u .id) l) hs) (suc c) rest)
-      go true = refl
-      go false = refl
+      its : Held
+      its = under (b .owner) (u .id) l
 
--- a call of an owner in buffers of n and m bytes
-module _ (n m : ℕ) (p : Named) (o : ℕ) (own : ownerOf (p .party) ≡ O.Byte o) where
+      go : (x : Room)
+          → onReached (byRoom x (stopped A.NoRoom) (stopped A.NoText) (after (file its hs))) (λ a. insertTurn hs a c)
+          (λ ks. insertLines b ks (suc c) rest)
+          ≡ byRoom x (insertTurn hs A.NoRoom c) (insertTurn hs A.NoText c) (insertLines b (file its hs) (suc c) rest)
+      go R.IndexFull = refl
+      go R.TextFull = refl
+      go R.Fits = refl
+
+-- a call of an owner in buffers of n and m bytes, where d is held
+module _ (n m : ℕ) (d : Content) (p : Named) (o : ℕ) (own : ownerOf (p .party) ≡ O.Byte o) where
   abbrev c : Caller
-  c = caller n m o
+  c = caller n m (d .shares) o
 
   -- a save that files, or is without room
-  module _ (S : Saving) (a : S .Args) (h : Held) (v : S .Value) (e : S .attempt o a ≡ files h v) (hs : List Held) where
-    abbrev filed : Bool → Turn (S .Value)
-    filed b = pick b (turn (S .full) hs) (turn v (file h hs))
+  module _ (S : Saving) (a : S .Args) (h : Held) (v : S .Value) (e : S .attempt o a ≡ files h v) where
+    abbrev filed : Room → Turn (S .Value)
+    filed r = byRoom r (turn (S .full) (d .held)) (turn (S .crowded) (d .held)) (turn v (file h (d .held)))
 
-    at-save : bookTurn {S = S} n m hs (save p a) ≡ replied saved (filed (noRoom c h hs))
+    at-save : bookTurn {S = S} n m d (save p a) ≡ replied saved (filed (roomFor c h (d .held)))
     unfolding bookTurn
     at-save =
-        ap (λ (w : Owner). byOwner w (turn (saved (S .nobody)) hs)
-        (λ o. replied saved (bookAttempt (S .full) (caller n m o) hs (S .attempt o a)))) own
-        ∙ ap (λ (y : Attempt (S .Value)). replied saved (bookAttempt (S .full) c hs y)) e
+        ap (λ (w : Owner). byOwner w (turn (saved (S .nobody)) (d .held))
+        (λ o. replied saved
+        (bookAttempt (S .full) (S .crowded) (caller n m (d .shares) o) (d .held) (S .attempt o a)))) own
+        ∙ ap (λ (y : Attempt (S .Value)). replied saved (bookAttempt (S .full) (S .crowded) c (d .held) y)) e
 
-    pub save-answers : bookTurn {S = S} n m hs (save p a) .answer ≡ pick (noRoom c h hs) (saved (S .full)) (saved v)
-    save-answers = ap (λ (y : Turn (Reply S)). y .answer) at-save ∙ go (noRoom c h hs)
+    pub save-answers : bookTurn {S = S} n m d (save p a) .answer
+        ≡ byRoom (roomFor c h (d .held)) (saved (S .full)) (saved (S .crowded)) (saved v)
+    save-answers = ap (λ (y : Turn (Reply S)). y .answer) at-save ∙ go (roomFor c h (d .held))
       where
-        go : (b : Bool) → _≡_ {A = Reply S} (saved (filed b .answer)) (pick b (saved (S .full)) (saved v))
-        go true = refl
-        go false = refl
+        go : (r : Room)
+            → _≡_ {A = Reply S} (saved (filed r .answer)) (byRoom r (saved (S .full)) (saved (S .crowded)) (saved v))
+        go R.IndexFull = refl
+        go R.TextFull = refl
+        go R.Fits = refl
 
-    pub save-holds : bookTurn {S = S} n m hs (save p a) .held ≡ pick (noRoom c h hs) hs (file h hs)
-    save-holds = ap (λ (y : Turn (Reply S)). y .held) at-save ∙ go (noRoom c h hs)
+    pub save-holds : bookTurn {S = S} n m d (save p a) .held
+        ≡ byRoom (roomFor c h (d .held)) (d .held) (d .held) (file h (d .held))
+    save-holds = ap (λ (y : Turn (Reply S)). y .held) at-save ∙ go (roomFor c h (d .held))
       where
-        go : (b : Bool) → filed b .held ≡ pick b hs (file h hs)
-        go true = refl
-        go false = refl
+        go : (r : Room) → filed r .held ≡ byRoom r (d .held) (d .held) (file h (d .held))
+        go R.IndexFull = refl
+        go R.TextFull = refl
+        go R.Fits = refl
 
   -- an insert that has passed some lines and reaches a wanted one
   module _ (S : Saving) (s : List ℕ) (passed : List (List ℕ)) (l : List ℕ) (rest : List (List ℕ)) (u : Spelled)
-      (hs ks : List Held) (valid : isUtf8 s ≡ true) (cut : linesOf s ≡ passed ++ (l ∷ rest))
-      (reached : insertLines c ks 0 passed ≡ insertTurn hs A.Done (length passed))
+      (hs : List Held) (valid : isUtf8 s ≡ true) (cut : linesOf s ≡ passed ++ (l ∷ rest))
+      (reached : insertLines c (d .held) 0 passed ≡ insertTurn hs A.Done (length passed))
       (e : wanted l ≡ Parsed u) (q : length l ≤ lineMax) where
     abbrev its : Held
     its = under o (u .id) l
@@ -110,38 +125,42 @@ module _ (n m : ℕ) (p : Named) (o : ℕ) (own : ownerOf (p .party) ≡ O.Byte 
     abbrev told : Turn Tally → Turn (Reply S)
     told x = turn (inserted (insertedOf s (x .answer))) (x .held)
 
-    at-insert : bookTurn {S = S} n m ks (insert p s)
-        ≡ told (pick (noRoom c its hs) (insertTurn hs A.NoRoom (length passed)) onward)
+    abbrev walked : Room → Turn Tally
+    walked r = byRoom r (insertTurn hs A.NoRoom (length passed)) (insertTurn hs A.NoText (length passed)) onward
+
+    at-insert : bookTurn {S = S} n m d (insert p s) ≡ told (walked (roomFor c its hs))
     unfolding bookTurn bookInsert bookWalk
     at-insert =
-        ap (λ (w : Owner). byOwner w (turn (inserted nobodyInserts) ks)
-        (λ o. replied {S = S} inserted (bookInsert (caller n m o) ks s))) own
-        ∙ ap (λ (b : Bool). told (pick b (insertLines c ks 0 (linesOf s))
-        (insertTurn ks (A.NotUtf8 (validRun s)) 0))) valid
-        ∙ ap (λ (ls : List (List ℕ)). told (insertLines c ks 0 ls)) cut
+        ap (λ (w : Owner). byOwner w (turn (inserted nobodyInserts) (d .held))
+        (λ o. replied {S = S} inserted (bookInsert (caller n m (d .shares) o) (d .held) s))) own
+        ∙ ap (λ (b : Bool). told (pick b (insertLines c (d .held) 0 (linesOf s))
+        (insertTurn (d .held) (A.NotUtf8 (validRun s)) 0))) valid
+        ∙ ap (λ (ls : List (List ℕ)). told (insertLines c (d .held) 0 ls)) cut
         ∙ ap told
-        (goes-on c passed (l ∷ rest) ks hs 0 (reached ∙ ap (insertTurn hs A.Done) (sym zero))
+        (goes-on c passed (l ∷ rest) (d .held) hs 0 (reached ∙ ap (insertTurn hs A.Done) (sym zero))
         ∙ ap (λ (k : ℕ). insertLines c hs k (l ∷ rest)) zero ∙ at-line c l rest u hs (length passed) e q)
       where
         zero : 0 + length passed ≡ length passed
         zero = omega arith
 
-    pub insert-answers : bookTurn {S = S} n m ks (insert p s) .answer
-        ≡ pick (noRoom c its hs)
-        (inserted (insertedOf s (record { answer = A.NoRoom; count = length passed })))
-        (inserted (insertedOf s (onward .answer)))
-    insert-answers = ap (λ (y : Turn (Reply S)). y .answer) at-insert ∙ go (noRoom c its hs)
-      where
-        go : (b : Bool)
-            → _≡_ {A = Reply S} (told (pick b (insertTurn hs A.NoRoom (length passed)) onward) .answer)
-            (pick b (inserted (insertedOf s (record { answer = A.NoRoom; count = length passed })))
-            (inserted (insertedOf s (onward .answer))))
-        go true = refl
-        go false = refl
+    abbrev stops : Answer → Reply S
+    stops a = inserted (insertedOf s (record { answer = a; count = length passed }))
 
-    pub insert-holds : bookTurn {S = S} n m ks (insert p s) .held ≡ pick (noRoom c its hs) hs (onward .held)
-    insert-holds = ap (λ (y : Turn (Reply S)). y .held) at-insert ∙ go (noRoom c its hs)
+    pub insert-answers : bookTurn {S = S} n m d (insert p s) .answer
+        ≡ byRoom (roomFor c its hs) (stops A.NoRoom) (stops A.NoText) (inserted (insertedOf s (onward .answer)))
+    insert-answers = ap (λ (y : Turn (Reply S)). y .answer) at-insert ∙ go (roomFor c its hs)
       where
-        go : (b : Bool) → pick b (insertTurn hs A.NoRoom (length passed)) onward .held ≡ pick b hs (onward .held)
-        go true = refl
-        go false = refl
+        go : (r : Room)
+            → _≡_ {A = Reply S} (told (walked r) .answer)
+            (byRoom r (stops A.NoRoom) (stops A.NoText) (inserted (insertedOf s (onward .answer))))
+        go R.IndexFull = refl
+        go R.TextFull = refl
+        go R.Fits = refl
+
+    pub insert-holds : bookTurn {S = S} n m d (insert p s) .held ≡ byRoom (roomFor c its hs) hs hs (onward .held)
+    insert-holds = ap (λ (y : Turn (Reply S)). y .held) at-insert ∙ go (roomFor c its hs)
+      where
+        go : (r : Room) → walked r .held ≡ byRoom r hs hs (onward .held)
+        go R.IndexFull = refl
+        go R.TextFull = refl
+        go R.Fits = refl

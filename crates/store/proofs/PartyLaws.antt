@@ -33,7 +33,8 @@ module _ (p : Party) (i t : List ℕ) where
     unfolding storeSave
     save-nobody a =
         sym (ap (λ (w : Owner). byOwner w (unchanged i t (refusedSave Sv.NoOwner))
-        (λ o. storeAttempt (refusedSave Sv.Unsound) (refusedSave Sv.NoRoom) i t o (attemptOf o a))) e)
+        (λ o. storeAttempt (refusedSave Sv.Unsound) (refusedSave Sv.NoRoom) (refusedSave Sv.NoText) i t o
+        (attemptOf o a))) e)
 
   module _ (o : ℕ) (e : ownerOf p ≡ O.Byte o) where
     pub look-owner : (u : Uuid) → lookBy (keyBy o u) i t ≡ lookUp p u i t

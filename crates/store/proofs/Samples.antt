@@ -14,12 +14,16 @@ use Rattle.text.specs.declared.uuid.Uuid.{Uuid}
 use Rattle.text.specs.declared.uuid.UuidParse.the-variants.{Parsed, Invalid}
 use Rattle.store.specs.declared.calls.Answer.the-variants as A
 use Rattle.store.specs.declared.parties.Party.the-variants as P
-use Rattle.store.specs.Held.{keyBy, sameKey, strike, file, holds, distinct}
-use Rattle.store.specs.Layout.{recordBytes, records, texts, padded, encodeRecords, encodeText}
-use Rattle.store.specs.Decode.{bodyAt, ownerAt, headAt, headFits, zeroes, walk, decode}
+use Rattle.store.specs.Held.{Held, keyBy, sameKey, strike, file, holds, distinct}
+use Rattle.store.specs.declared.table.Room.the-variants as R
+use Rattle.store.specs.Shares.{noShares, Content, nothingHeld, useOf, claimsFrom, shareSizes}
+use Rattle.store.specs.Layout.{recordBytes, records, texts, padded, shareRecords, encodeIndex, encodeText}
+use Rattle.store.specs.Decode.{bodyAt, ownerAt, headAt, headFits, zeroes, walk, decode, isShare, sharesAt}
+use Rattle.store.specs.Decode.{content}
 use Rattle.store.specs.Lines.{linesOf, forPlatform, wanted}
 use Rattle.text.specs.Search.{firstText}
-use Rattle.store.specs.Book.{caller, under, recordSizes, lengths, noRoom, reach, insertLines, bookWalk, otherSpellings}
+use Rattle.store.specs.Book.{caller, under, recordSizes, noIndex, noText, roomFor, reach, insertLines, bookWalk}
+use Rattle.store.specs.Book.{otherSpellings}
 use Rattle.store.specs.Store.{storeClear, storeWalk, ownInsert, storeInsert}
 
 -- UUIDs of zeros, and of zeros and a one
@@ -118,104 +122,124 @@ module _ where
 -- ---- no room
 
 module _ where
-  index-of-20 : noRoom (caller 20 1 0) (under 0 nil (ascii "a")) [] ≡ true
-  unfolding noRoom recordSizes strike lengths
+  index-of-20 : roomFor (caller 20 1 noShares 0) (under 0 nil (ascii "a")) [] ≡ R.IndexFull
+  unfolding roomFor noIndex noText shareSizes claimsFrom useOf recordSizes strike file
   index-of-20 = refl
 
-  fresh-fits : noRoom (caller 21 1 0) (under 0 nil (ascii "a")) [] ≡ false
-  unfolding noRoom recordSizes strike lengths
+  fresh-fits : roomFor (caller 21 1 noShares 0) (under 0 nil (ascii "a")) [] ≡ R.Fits
+  unfolding roomFor noIndex noText shareSizes claimsFrom useOf recordSizes strike file
   fresh-fits = refl
 
-  own-line-left-out : noRoom (caller 21 60 0) (under 0 nil (replicate 60 97)) (under 0 nil (replicate 60 98) ∷ []) ≡ false
-  unfolding noRoom recordSizes strike lengths sameKey nil
+  own-line-left-out : roomFor (caller 21 60 noShares 0) (under 0 nil (replicate 60 97))
+      (under 0 nil (replicate 60 98) ∷ []) ≡ R.Fits
+  unfolding roomFor noIndex noText shareSizes claimsFrom useOf recordSizes strike sameKey nil file
   own-line-left-out = refl
 
-  other-line-counts : noRoom (caller 41 3 0) (under 0 nil (ascii "a")) (under 0 one (ascii "b") ∷ []) ≡ true
-  unfolding noRoom recordSizes strike lengths sameKey nil one
+  other-line-counts : roomFor (caller 41 3 noShares 0) (under 0 nil (ascii "a")) (under 0 one (ascii "b") ∷ [])
+      ≡ R.IndexFull
+  unfolding roomFor noIndex noText shareSizes claimsFrom useOf recordSizes strike sameKey nil one file
   other-line-counts = refl
 
-  text-of-one : noRoom (caller 42 1 0) (under 0 nil (ascii "a")) (under 0 one (ascii "b") ∷ []) ≡ true
-  unfolding noRoom recordSizes strike lengths sameKey nil one
+  -- document 01's 21 for text; P10: "25, that sum too large on a filing, in place of 21 for text"
+  text-of-one : roomFor (caller 42 1 noShares 0) (under 0 nil (ascii "a")) (under 0 one (ascii "b") ∷ []) ≡ R.TextFull
+  unfolding roomFor noIndex noText shareSizes claimsFrom useOf recordSizes strike sameKey nil one file
   text-of-one = refl
 
 -- ---- soundness
+
+-- those lines, and no shares
+lines : List Held → Content
+lines hs = record { shares = noShares; held = hs }
 
 -- the record of a UUID at an offset, with a length
 rec : Uuid → ℕ → ℕ → List ℕ
 rec k off len = recordBytes (keyBy 0 k) off len
 
 module _ where
-  fresh-store : decode (replicate 22 0) (replicate 3 0) ≡ some []
-  unfolding decode walk headAt ownerAt zeroes distinct
+  fresh-store : content (replicate 22 0) (replicate 3 0) ≡ some nothingHeld
+  unfolding content sharesAt isShare decode walk headAt ownerAt zeroes distinct
   fresh-store = refl
 
-  one-line : decode (rec one 0 5 ++ replicate 2 0) (ascii "hello" ++ replicate 2 0)
-      ≡ some (under 0 one (ascii "hello") ∷ [])
-  unfolding decode walk headAt ownerAt headFits bodyAt zeroes distinct holds recordBytes bigEndian rec one
+  one-line : content (rec one 0 5 ++ replicate 2 0) (ascii "hello" ++ replicate 2 0)
+      ≡ some (lines (under 0 one (ascii "hello") ∷ []))
+  unfolding content sharesAt isShare decode walk headAt ownerAt headFits bodyAt zeroes distinct holds recordBytes
+      bigEndian rec one lines
   one-line = refl
 
-  two-lines : decode (rec one 0 2 ++ rec nil 2 1) (ascii "abc")
-      ≡ some (under 0 one (ascii "ab") ∷ under 0 nil (ascii "c") ∷ [])
-  unfolding decode walk headAt ownerAt headFits bodyAt zeroes distinct holds sameKey recordBytes bigEndian rec one nil
+  two-lines : content (rec one 0 2 ++ rec nil 2 1) (ascii "abc")
+      ≡ some (lines (under 0 one (ascii "ab") ∷ under 0 nil (ascii "c") ∷ []))
+  unfolding content sharesAt isShare decode walk headAt ownerAt headFits bodyAt zeroes distinct holds sameKey
+      recordBytes bigEndian rec one nil lines
   two-lines = refl
 
   -- a line may end with zero bytes
-  zero-byte : decode (rec one 0 2) (97 ∷ 0 ∷ []) ≡ some (under 0 one (97 ∷ 0 ∷ []) ∷ [])
-  unfolding decode walk headAt ownerAt headFits bodyAt zeroes distinct holds recordBytes bigEndian rec one
+  zero-byte : content (rec one 0 2) (97 ∷ 0 ∷ []) ≡ some (lines (under 0 one (97 ∷ 0 ∷ []) ∷ []))
+  unfolding content sharesAt isShare decode walk headAt ownerAt headFits bodyAt zeroes distinct holds recordBytes
+      bigEndian rec one lines
   zero-byte = refl
 
   -- document 01: "index byte 9 first"
-  kind-nine : decode (9 ∷ replicate 20 0) [] ≡ none
-  unfolding decode walk headAt ownerAt zeroes
+  kind-nine : content (9 ∷ replicate 20 0) [] ≡ none
+  unfolding content sharesAt isShare decode walk headAt ownerAt zeroes
   kind-nine = refl
 
-  kind-zero-first : decode (0 ∷ rec one 0 1) (ascii "a") ≡ none
-  unfolding decode walk headAt ownerAt zeroes recordBytes bigEndian rec one
+  kind-zero-first : content (0 ∷ rec one 0 1) (ascii "a") ≡ none
+  unfolding content sharesAt isShare decode walk headAt ownerAt zeroes recordBytes bigEndian rec one
   kind-zero-first = refl
 
-  truncated : decode (1 ∷ replicate 19 0) [] ≡ none
-  unfolding decode walk headAt ownerAt zeroes
+  truncated : content (1 ∷ replicate 19 0) [] ≡ none
+  unfolding content sharesAt isShare decode walk headAt ownerAt zeroes
   truncated = refl
 
-  gap : decode (rec one 1 1) (ascii "ab") ≡ none
-  unfolding decode walk headAt ownerAt headFits bodyAt zeroes distinct recordBytes bigEndian rec one
+  gap : content (rec one 1 1) (ascii "ab") ≡ none
+  unfolding content sharesAt isShare decode walk headAt ownerAt headFits bodyAt zeroes distinct recordBytes bigEndian
+      rec one
   gap = refl
 
-  overlap : decode (rec one 0 2 ++ rec nil 1 1) (ascii "ab") ≡ none
-  unfolding decode walk headAt ownerAt headFits bodyAt zeroes distinct holds sameKey recordBytes bigEndian rec one nil
+  overlap : content (rec one 0 2 ++ rec nil 1 1) (ascii "ab") ≡ none
+  unfolding content sharesAt isShare decode walk headAt ownerAt headFits bodyAt zeroes distinct holds sameKey
+      recordBytes bigEndian rec one nil
   overlap = refl
 
-  swapped : decode (rec one 1 1 ++ rec nil 0 1) (ascii "ab") ≡ none
-  unfolding decode walk headAt ownerAt headFits bodyAt zeroes distinct holds sameKey recordBytes bigEndian rec one nil
+  swapped : content (rec one 1 1 ++ rec nil 0 1) (ascii "ab") ≡ none
+  unfolding content sharesAt isShare decode walk headAt ownerAt headFits bodyAt zeroes distinct holds sameKey
+      recordBytes bigEndian rec one nil
   swapped = refl
 
-  past-the-text : decode (rec one 0 2) (ascii "a") ≡ none
-  unfolding decode walk headAt ownerAt headFits bodyAt zeroes distinct recordBytes bigEndian rec one
+  past-the-text : content (rec one 0 2) (ascii "a") ≡ none
+  unfolding content sharesAt isShare decode walk headAt ownerAt headFits bodyAt zeroes distinct recordBytes bigEndian
+      rec one
   past-the-text = refl
 
-  index-tail : decode (rec one 0 1 ++ (0 ∷ 7 ∷ [])) (ascii "a") ≡ none
-  unfolding decode walk headAt ownerAt headFits bodyAt zeroes distinct recordBytes bigEndian rec one
+  index-tail : content (rec one 0 1 ++ (0 ∷ 7 ∷ [])) (ascii "a") ≡ none
+  unfolding content sharesAt isShare decode walk headAt ownerAt headFits bodyAt zeroes distinct recordBytes bigEndian
+      rec one
   index-tail = refl
 
-  text-tail : decode (rec one 0 1) (ascii "ab") ≡ none
-  unfolding decode walk headAt ownerAt headFits bodyAt zeroes distinct recordBytes bigEndian rec one
+  text-tail : content (rec one 0 1) (ascii "ab") ≡ none
+  unfolding content sharesAt isShare decode walk headAt ownerAt headFits bodyAt zeroes distinct recordBytes bigEndian
+      rec one
   text-tail = refl
 
-  same-uuid-twice : decode (rec one 0 1 ++ rec one 1 1) (ascii "ab") ≡ none
-  unfolding decode walk headAt ownerAt headFits bodyAt zeroes distinct holds sameKey recordBytes bigEndian rec one
+  same-uuid-twice : content (rec one 0 1 ++ rec one 1 1) (ascii "ab") ≡ none
+  unfolding content sharesAt isShare decode walk headAt ownerAt headFits bodyAt zeroes distinct holds sameKey
+      recordBytes bigEndian rec one
   same-uuid-twice = refl
 
-  length-zero : decode (rec one 0 0) (ascii "") ≡ none
-  unfolding decode walk headAt ownerAt headFits bodyAt zeroes distinct recordBytes bigEndian rec one
+  length-zero : content (rec one 0 0) (ascii "") ≡ none
+  unfolding content sharesAt isShare decode walk headAt ownerAt headFits bodyAt zeroes distinct recordBytes bigEndian
+      rec one
   length-zero = refl
 
-  length-16385 : decode (rec one 0 16385) (replicate 16385 97) ≡ none
-  unfolding decode walk headAt ownerAt headFits bodyAt zeroes distinct recordBytes bigEndian rec one
+  length-16385 : content (rec one 0 16385) (replicate 16385 97) ≡ none
+  unfolding content sharesAt isShare decode walk headAt ownerAt headFits bodyAt zeroes distinct recordBytes bigEndian
+      rec one
   length-16385 = refl
 
   -- one byte more than the first hub took
-  length-4097 : decode (rec one 0 4097) (replicate 4097 97) ≡ some (under 0 one (replicate 4097 97) ∷ [])
-  unfolding decode walk headAt ownerAt headFits bodyAt zeroes distinct holds recordBytes bigEndian rec one
+  length-4097 : content (rec one 0 4097) (replicate 4097 97) ≡ some (lines (under 0 one (replicate 4097 97) ∷ []))
+  unfolding content sharesAt isShare decode walk headAt ownerAt headFits bodyAt zeroes distinct holds recordBytes
+      bigEndian rec one lines
   length-4097 = refl
 
 -- ---- inserts
@@ -224,14 +248,16 @@ module _ where
   -- 19 comes before 10
   unsound-first : storeInsert (9 ∷ []) [] P.Hall (255 ∷ [])
       ≡ record { answer = record { answer = A.Unsound; count = 0; «not_simple» = 0 }; index = 9 ∷ []; text = [] }
-  unfolding storeInsert ownInsert storeWalk otherSpellings decode walk headAt ownerAt zeroes linesOf
+  unfolding storeInsert ownInsert storeWalk otherSpellings content sharesAt isShare decode walk headAt ownerAt zeroes
+      linesOf
   unsound-first = refl
 
   -- 10 at the length of the valid run, and nothing filed
   not-utf8 : storeInsert (0 ∷ []) [] P.Hall (65 ∷ 195 ∷ [])
       ≡ record { answer = record { answer = A.NotUtf8 1; count = 0; «not_simple» = 0 }; index = 0 ∷ []; text = [] }
-  unfolding storeInsert ownInsert storeWalk otherSpellings decode walk headAt ownerAt zeroes distinct bookWalk isUtf8 validRun runOf charLength firstLength
-      begins encodeRecords encodeText records texts padded
+  unfolding storeInsert ownInsert storeWalk otherSpellings content sharesAt isShare decode walk headAt ownerAt zeroes
+      distinct bookWalk isUtf8 validRun runOf charLength firstLength begins encodeIndex shareRecords encodeText
+      records texts padded
   not-utf8 = refl
 
   -- an unwanted line is counted, a wanted one filed without its CR
@@ -242,9 +268,10 @@ module _ where
         text =
             u ++ (0 ∷ []);
       }
-  unfolding storeInsert ownInsert storeWalk otherSpellings decode walk headAt ownerAt zeroes distinct bookWalk isUtf8 validRun runOf charLength firstLength
-      begins encodeRecords encodeText records texts padded linesOf insertLines reach wanted forPlatform firstText uuidOf
-      readHex hexDigit firstOf same noRoom recordSizes strike lengths file recordBytes bigEndian rec u nil
+  unfolding storeInsert ownInsert storeWalk otherSpellings content sharesAt isShare decode walk headAt ownerAt zeroes
+      distinct bookWalk isUtf8 validRun runOf charLength firstLength begins encodeIndex shareRecords encodeText
+      records texts padded linesOf insertLines reach wanted forPlatform firstText uuidOf readHex hexDigit firstOf same
+      roomFor noIndex noText shareSizes claimsFrom useOf recordSizes strike file recordBytes bigEndian rec u nil
   filed = refl
 
   -- "index of 20 bytes": 21, after one line
@@ -254,9 +281,10 @@ module _ where
         index = replicate 20 0;
         text = replicate 33 0;
       }
-  unfolding storeInsert ownInsert storeWalk otherSpellings decode walk headAt ownerAt zeroes distinct bookWalk isUtf8 validRun runOf charLength firstLength
-      begins encodeRecords encodeText records texts padded linesOf insertLines reach wanted forPlatform firstText uuidOf
-      readHex hexDigit firstOf same noRoom recordSizes strike lengths u nil
+  unfolding storeInsert ownInsert storeWalk otherSpellings content sharesAt isShare decode walk headAt ownerAt zeroes
+      distinct bookWalk isUtf8 validRun runOf charLength firstLength begins encodeIndex shareRecords encodeText
+      records texts padded linesOf insertLines reach wanted forPlatform firstText uuidOf readHex hexDigit firstOf same
+      roomFor noIndex noText shareSizes claimsFrom useOf recordSizes strike u nil file
   full = refl
 
   -- request P11: of the lines that are filed those in another form than 32 digits; one is replaced, one is not wanted,
@@ -266,9 +294,10 @@ module _ where
       ++ ascii "00000000-0000-0000-0000-000000000001"))))))))
       .answer
       ≡ record { answer = A.NoRoom; count = 5; «not_simple» = 2 }
-  unfolding storeInsert ownInsert storeWalk otherSpellings decode walk headAt ownerAt zeroes distinct bookWalk isUtf8 validRun runOf
-      charLength firstLength begins linesOf insertLines reach wanted forPlatform firstText uuidOf hyphenated readHex
-      hexDigit firstOf same noRoom recordSizes strike lengths file sameKey h u nil
+  unfolding storeInsert ownInsert storeWalk otherSpellings content sharesAt isShare decode walk headAt ownerAt zeroes
+      distinct bookWalk isUtf8 validRun runOf charLength firstLength begins linesOf insertLines reach wanted
+      forPlatform firstText uuidOf hyphenated readHex hexDigit firstOf same roomFor noIndex noText shareSizes
+      claimsFrom useOf recordSizes strike file sameKey h u nil
   forms = refl
 
   cleared : storeClear (9 ∷ []) (1 ∷ 2 ∷ []) ≡ record { answer = A.Done; index = 0 ∷ []; text = 0 ∷ 0 ∷ [] }

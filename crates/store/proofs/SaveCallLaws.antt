@@ -25,7 +25,7 @@ use Rattle.store.specs.declared.calls.SaveAnswer.the-variants as Sv
 use Rattle.store.specs.declared.calls.Saved.{Saved}
 use Rattle.store.specs.Held.{lineMax}
 use Rattle.text.specs.Search.{lf, firstText, platformKey}
-use Rattle.store.specs.Book.{under, refused, files}
+use Rattle.store.specs.Book.{under, Attempt, refused, files}
 use Rattle.store.specs.declared.owners.Owner.{Owner}
 use Rattle.store.specs.declared.owners.Owner.the-variants as O
 use Rattle.store.specs.declared.parties.Party.{Party}
@@ -50,6 +50,10 @@ module _ (name : List ℕ) (r : ℕ) (e : r ≡ firstOf lf name) where
       rw (le-ltb (firstOf lf name) (length name) (subst (λ (k : ℕ). length name ≤ k) e h))
       (ap (λ (k : ℕ). ltb k (length name)) f)
 
+-- a save's attempt, in the store
+abbrev tries : List ℕ → List ℕ → ℕ → Attempt Saved → Done Saved
+tries = storeAttempt (refusedSave Sv.Unsound) (refusedSave Sv.NoRoom) (refusedSave Sv.NoText)
+
 -- what a party's save attempts, by its checks
 module _ (p : Party) (o : ℕ) (own : ownerOf p ≡ O.Byte o) (a : SaveArgs) where
   abbrev checks : MappingAnswer
@@ -59,12 +63,12 @@ module _ (p : Party) (o : ℕ) (own : ownerOf p ≡ O.Byte o) (a : SaveArgs) whe
   line = builtLine (a .slots) (a .buttons) (a .axes) (a .name) (a .uuid)
 
   attempted : (r : MappingAnswer) → checks ≡ r → (i t : List ℕ)
-      → storeSave i t p a ≡ storeAttempt (refusedSave Sv.Unsound) (refusedSave Sv.NoRoom) i t o (attemptAfter o a r)
+      → storeSave i t p a ≡ tries i t o (attemptAfter o a r)
   unfolding storeSave attemptOf
   attempted r e i t =
       ap (λ (w : Owner). byOwner w (unchanged i t (refusedSave Sv.NoOwner))
-      (λ v. storeAttempt (refusedSave Sv.Unsound) (refusedSave Sv.NoRoom) i t v (attemptOf v a))) own
-      ∙ ap (λ (x : MappingAnswer). storeAttempt (refusedSave Sv.Unsound) (refusedSave Sv.NoRoom) i t o
+      (λ v. tries i t v (attemptOf v a))) own
+      ∙ ap (λ (x : MappingAnswer). tries i t o
       (attemptAfter o a x)) e
 
   module _ (out : List ℕ) (r : Built) (after : List ℕ) (long : lineMax ≤ length out)
@@ -125,12 +129,12 @@ module _ (p : Party) (o : ℕ) (own : ownerOf p ≡ O.Byte o) (a : SaveArgs) whe
 
     module _ (m : Made) (i t : List ℕ) where
       named : (b : Bool) → unsavedName (a .name) ≡ b
-          → storeSave i t p a ≡ storeAttempt (refusedSave Sv.Unsound) (refusedSave Sv.NoRoom) i t o
+          → storeSave i t p a ≡ tries i t o
           (pick b (refused (refusedSave Sv.UnsavedName))
           (files (under o (a .uuid) line) (acceptedSave (builtMap (a .slots) (a .name)))))
       named b e =
           attempted Accepted (m .passed) i t
-          ∙ ap (λ (x : Bool). storeAttempt (refusedSave Sv.Unsound) (refusedSave Sv.NoRoom) i t o
+          ∙ ap (λ (x : Bool). tries i t o
           (pick x (refused (refusedSave Sv.UnsavedName))
           (files (under o (a .uuid) line) (acceptedSave (builtMap (a .slots) (a .name)))))) e
 
@@ -139,7 +143,8 @@ module _ (p : Party) (o : ℕ) (own : ownerOf p ≡ O.Byte o) (a : SaveArgs) whe
       save-unsaved e = sym (named true e)
 
       said : (w : Mapping) (x : Answer)
-          → saidBy w x ≡ valueOf i t (under o (a .uuid) line) (refusedSave Sv.Unsound) (refusedSave Sv.NoRoom)
+          → saidBy w x
+          ≡ valueOf i t (under o (a .uuid) line) (refusedSave Sv.Unsound) (refusedSave Sv.NoRoom) (refusedSave Sv.NoText)
           (acceptedSave w) x
       said w A.Done = refl
       said w (A.NotUtf8 place) = refl
@@ -148,6 +153,8 @@ module _ (p : Party) (o : ℕ) (own : ownerOf p ≡ O.Byte o) (a : SaveArgs) whe
       said w A.NoRoom = refl
       said w A.BufferTooLarge = refl
       said w A.NoOwner = refl
+      said w A.NoText = refl
+      said w A.ShareTooLarge = refl
 
       pub save-filed : unsavedName (a .name) ≡ false → (d : Done Answer)
           → d ≡ storeFile i t (under o (a .uuid) (take (r .len - 0) (drop 0 after)))
@@ -156,6 +163,6 @@ module _ (p : Party) (o : ℕ) (own : ownerOf p ≡ O.Byte o) (a : SaveArgs) whe
           ap (λ (x : Saved). record { answer = x; index = d .index; text = d .text })
           (ap (λ (w : Mapping). saidBy w (d .answer)) (m .map) ∙ said (builtMap (a .slots) (a .name)) (d .answer))
           ∙ attempt-files i t (under o (a .uuid) line) (refusedSave Sv.Unsound) (refusedSave Sv.NoRoom)
-          (acceptedSave (builtMap (a .slots) (a .name))) d
+          (refusedSave Sv.NoText) (acceptedSave (builtMap (a .slots) (a .name))) d
           (q ∙ ap (λ (l : List ℕ). storeFile i t (under o (a .uuid) l)) (m .bytes))
           ∙ sym (named false e)

@@ -13,9 +13,14 @@ use Rattle.text.specs.declared.uuid.UuidParse.the-variants.{Parsed, Invalid}
 use Rattle.store.specs.declared.owners.Owner.{Owner}
 use Rattle.store.specs.declared.owners.Owner.the-variants as O
 use Rattle.store.specs.Parties.{ownerOf, byOwner, Named}
-use Rattle.store.specs.Book.{Caller, caller, turn, noRoom, Reached, after, stopped, reach, onReached, replied}
-use Rattle.store.specs.Book.{Attempt, refused, files, Saving, bookAttempt, Call, clear, insert, save, Reply, saved}
-use Rattle.store.specs.Book.{bookTurn, runBook}
+use Rattle.store.specs.Book.{Caller, caller, turn, roomFor, byRoom, Reached, after, stopped, reach, onReached}
+use Rattle.store.specs.Book.{replied}
+use Rattle.store.specs.Book.{Attempt, refused, files, Saving, bookAttempt, Call, clear, insert, save, Reply}
+use Rattle.store.specs.Book.{saved}
+use Rattle.store.specs.Book.{share, bookTurn, bookAfter, runBook}
+use Rattle.store.specs.Shares.{Content, nothingHeld}
+use Rattle.store.specs.declared.table.Room.{Room}
+use Rattle.store.specs.declared.table.Room.the-variants as R
 use Rattle.store.specs.Filings.{Filing, filing, filedLine, filedLines, filedAttempt, filedAs, filedBy, since}
 use Rattle.store.specs.Filings.{filings, laterOr, lastFiled, nth}
 use Rattle.store.specs.Held.{Key, Held, sameKey, file}
@@ -68,28 +73,31 @@ module _ (S : Saving) where
 
     by-save : (y : Attempt (S .Value)) (hs : List Held) → Every (By p x r) (filedAttempt p x r c hs y)
     by-save (refused v) hs = tt
-    by-save (files h v) hs = go (noRoom c h hs)
+    by-save (files h v) hs = go (roomFor c h hs)
       where
-        go : (b : Bool) → Every (By p x r) (pick b [] (filing p x r h ∷ []))
-        go true = tt
-        go false = (record { at-is = refl; by-is = refl; answer-is = refl }, tt)
+        go : (b : Room) → Every (By p x r) (byRoom b [] [] (filing p x r h ∷ []))
+        go R.IndexFull = tt
+        go R.TextFull = tt
+        go R.Fits = (record { at-is = refl; by-is = refl; answer-is = refl }, tt)
 
-  by-as : (p n m : ℕ) (r : Reply S) (hs : List Held) (x : Call S) → Every (By p x r) (filedAs p r n m hs x)
-  by-as p n m r hs clear = tt
-  by-as p n m r hs (insert q s) = go (ownerOf (q .party))
+  by-as : (p n m : ℕ) (r : Reply S) (c : Content) (x : Call S) → Every (By p x r) (filedAs p r n m c x)
+  by-as p n m r c clear = tt
+  by-as p n m r c (insert q s) = go (ownerOf (q .party))
     where
       go : (w : Owner)
           → Every (By p (insert q s) r) (byOwner w []
-          (λ o. pick (isUtf8 s) (filedLines p (insert q s) r (caller n m o) hs (linesOf s)) []))
+          (λ o. pick (isUtf8 s)
+          (filedLines p (insert q s) r (caller n m (c .shares) o) (c .held) (linesOf s)) []))
       go O.Nobody = tt
-      go (O.Byte o) = by-insert (caller n m o) p (insert q s) r s hs
-  by-as p n m r hs (save q a) = go (ownerOf (q .party))
+      go (O.Byte o) = by-insert (caller n m (c .shares) o) p (insert q s) r s (c .held)
+  by-as p n m r c (save q a) = go (ownerOf (q .party))
     where
       go : (w : Owner)
           → Every (By p (save q a) r) (byOwner w []
-          (λ o. filedAttempt p (save q a) r (caller n m o) hs (S .attempt o a)))
+          (λ o. filedAttempt p (save q a) r (caller n m (c .shares) o) (c .held) (S .attempt o a)))
       go O.Nobody = tt
-      go (O.Byte o) = by-save (caller n m o) p (save q a) r (S .attempt o a) hs
+      go (O.Byte o) = by-save (caller n m (c .shares) o) p (save q a) r (S .attempt o a) (c .held)
+  by-as p n m r c (share q b) = tt
 
   -- where a save filed it, the line and the answer are those of the attempt for its owner
   record Honestly (f : Filing S) (q : Named) (a : S .Args) : Type 0 where
@@ -106,13 +114,13 @@ module _ (S : Saving) where
   inserted-not p q s a e = let z : _≡_ {A = ℕ} 0 1 = cc in omega arith
 
   module _ (n m : ℕ) where
-    honest-turn : (p : ℕ) (hs : List Held) (x : Call S) → Every Honest (filedBy p n m hs x)
-    honest-turn p hs clear = tt
-    honest-turn p hs (insert q s) =
-        every-also (By p (insert q s) (bookTurn n m hs (insert q s) .answer)) Honest (filedBy p n m hs (insert q s))
+    honest-turn : (p : ℕ) (c : Content) (x : Call S) → Every Honest (filedBy p n m c x)
+    honest-turn p c clear = tt
+    honest-turn p c (insert q s) =
+        every-also (By p (insert q s) (bookTurn n m c (insert q s) .answer)) Honest (filedBy p n m c (insert q s))
         (λ f b r a e. absurd (inserted-not q r s a (sym (b .by-is) ∙ e)))
-        (by-as p n m (bookTurn n m hs (insert q s) .answer) hs (insert q s))
-    honest-turn p hs (save q x) = go (ownerOf (q .party)) refl
+        (by-as p n m (bookTurn n m c (insert q s) .answer) c (insert q s))
+    honest-turn p c (save q x) = go (ownerOf (q .party)) refl
       where
         same-party : (r : Named) (a : S .Args) → _≡_ {A = Call S} (save q x) (save r a) → q ≡ r
         same-party r a e = cc
@@ -120,22 +128,28 @@ module _ (S : Saving) where
         same-args : (r : Named) (a : S .Args) → _≡_ {A = Call S} (save q x) (save r a) → x ≡ a
         same-args r a e = cc
 
+        by : ℕ → Caller
+        by o = caller n m (c .shares) o
+
         its : Reply S
-        its = bookTurn n m hs (save q x) .answer
+        its = bookTurn n m c (save q x) .answer
 
         answer : (o : ℕ) → ownerOf (q .party) ≡ O.Byte o → (h : Held) (v : S .Value) → S .attempt o x ≡ files h v
-            → noRoom (caller n m o) h hs ≡ false → its ≡ saved v
+            → roomFor (by o) h (c .held) ≡ R.Fits → its ≡ saved v
         answer o w h v e r =
-            unfold bookTurn in (ap (λ (y : Owner). byOwner y (turn (saved (S .nobody)) hs)
-            (λ o. replied {S = S} saved (bookAttempt (S .full) (caller n m o) hs (S .attempt o x))) .answer) w
-            ∙ ap (λ (y : Attempt (S .Value)). saved (bookAttempt (S .full) (caller n m o) hs y .answer)) e
-            ∙ ap (λ (b : Bool). saved (pick b (turn (S .full) hs) (turn v (file h hs)) .answer)) r)
+            unfold bookTurn in (ap (λ (y : Owner). byOwner y (turn (saved (S .nobody)) (c .held))
+            (λ o. replied {S = S} saved
+            (bookAttempt (S .full) (S .crowded) (by o) (c .held) (S .attempt o x))) .answer) w
+            ∙ ap (λ (y : Attempt (S .Value)). saved (bookAttempt (S .full) (S .crowded) (by o) (c .held) y .answer)) e
+            ∙ ap (λ (b : Room). saved (byRoom b (turn (S .full) (c .held)) (turn (S .crowded) (c .held))
+            (turn v (file h (c .held))) .answer)) r)
 
         fits : (o : ℕ) → ownerOf (q .party) ≡ O.Byte o → (h : Held) (v : S .Value) → S .attempt o x ≡ files h v
-            → (b : Bool) → noRoom (caller n m o) h hs ≡ b
-            → Every Honest (pick b [] (filing p (save q x) its h ∷ []))
-        fits o w h v e true r = tt
-        fits o w h v e false r = (
+            → (b : Room) → roomFor (by o) h (c .held) ≡ b
+            → Every Honest (byRoom b [] [] (filing p (save q x) its h ∷ []))
+        fits o w h v e R.IndexFull r = tt
+        fits o w h v e R.TextFull r = tt
+        fits o w h v e R.Fits r = (
           λ r′ a z. record {
             owner = o;
             value = v;
@@ -147,29 +161,31 @@ module _ (S : Saving) where
         )
 
         tried : (o : ℕ) → ownerOf (q .party) ≡ O.Byte o → (y : Attempt (S .Value)) → S .attempt o x ≡ y
-            → Every Honest (filedAttempt p (save q x) its (caller n m o) hs y)
+            → Every Honest (filedAttempt p (save q x) its (by o) (c .held) y)
         tried o w (refused v) e = tt
-        tried o w (files h v) e = fits o w h v e (noRoom (caller n m o) h hs) refl
+        tried o w (files h v) e = fits o w h v e (roomFor (by o) h (c .held)) refl
 
         go : (w : Owner) → ownerOf (q .party) ≡ w
             → Every Honest (byOwner w []
-            (λ o. filedAttempt p (save q x) its (caller n m o) hs (S .attempt o x)))
+            (λ o. filedAttempt p (save q x) its (by o) (c .held) (S .attempt o x)))
         go O.Nobody e = tt
         go (O.Byte o) e = tried o e (S .attempt o x) refl
+    honest-turn p c (share q b) = tt
 
     -- what holds of the filings of every call holds of those of a list
-    every-run : (P : Filing S → Type 0) (xs : List (Call S)) (p : ℕ) (hs : List Held) (fs : List (Filing S))
-        → Every P fs → ((k : ℕ) (ks : List Held) (x : Call S) → Every P (filedBy k n m ks x))
-        → Every P (filings p n m hs fs xs)
+    every-run : (P : Filing S → Type 0) (xs : List (Call S)) (p : ℕ) (c : Content) (fs : List (Filing S))
+        → Every P fs → ((k : ℕ) (d : Content) (x : Call S) → Every P (filedBy k n m d x))
+        → Every P (filings p n m c fs xs)
     unfolding filings
-    every-run P [] p hs fs q t = q
-    every-run P (x ∷ xs) p hs fs q t =
-        every-run P xs (suc p) (bookTurn n m hs x .held) (since x fs (filedBy p n m hs x)) (more x (t p hs x)) t
+    every-run P [] p c fs q t = q
+    every-run P (x ∷ xs) p c fs q t =
+        every-run P xs (suc p) (bookAfter n m c x) (since x fs (filedBy p n m c x)) (more x (t p c x)) t
       where
-        more : (x : Call S) → Every P (filedBy p n m hs x) → Every P (since x fs (filedBy p n m hs x))
+        more : (x : Call S) → Every P (filedBy p n m c x) → Every P (since x fs (filedBy p n m c x))
         more clear z = tt
-        more (insert r s) z = every-append P fs (filedBy p n m hs (insert r s)) q z
-        more (save r a) z = every-append P fs (filedBy p n m hs (save r a)) q z
+        more (insert r s) z = every-append P fs (filedBy p n m c (insert r s)) q z
+        more (save r a) z = every-append P fs (filedBy p n m c (save r a)) q z
+        more (share r b) z = every-append P fs (filedBy p n m c (share r b)) q z
 
     -- a filing's call and its answer stand at its place, in lists whose part from p on these are
     module _ (all : List (Call S)) (rs : List (Reply S)) where
@@ -183,13 +199,13 @@ module _ (S : Saving) where
         ap (nth rs) (b .at-is) ∙ q ∙ ap some (sym (b .answer-is)),
       )
 
-      placed-run : (xs : List (Call S)) (p : ℕ) (hs : List Held) (fs : List (Filing S)) → Every Placed fs
-          → ((k : ℕ) → nth all (p + k) ≡ nth xs k) → ((k : ℕ) → nth rs (p + k) ≡ nth (runBook n m hs xs .answers) k)
-          → Every Placed (filings p n m hs fs xs)
+      placed-run : (xs : List (Call S)) (p : ℕ) (c : Content) (fs : List (Filing S)) → Every Placed fs
+          → ((k : ℕ) → nth all (p + k) ≡ nth xs k) → ((k : ℕ) → nth rs (p + k) ≡ nth (runBook n m c xs .answers) k)
+          → Every Placed (filings p n m c fs xs)
       unfolding filings runBook
-      placed-run [] p hs fs q a b = q
-      placed-run (x ∷ xs) p hs fs q a b =
-          placed-run xs (suc p) (bookTurn n m hs x .held) (since x fs (filedBy p n m hs x)) (more x here)
+      placed-run [] p c fs q a b = q
+      placed-run (x ∷ xs) p c fs q a b =
+          placed-run xs (suc p) (bookAfter n m c x) (since x fs (filedBy p n m c x)) (more x here)
           (λ k. ap (nth all) (on k) ∙ a (suc k) ∙ unfold nth in refl)
           (λ k. ap (nth rs) (on k) ∙ b (suc k) ∙ unfold nth in refl)
         where
@@ -199,17 +215,18 @@ module _ (S : Saving) where
           first : p ≡ p + 0
           first = omega arith
 
-          here : Every Placed (filedBy p n m hs x)
+          here : Every Placed (filedBy p n m c x)
           here =
-              every-also (By p x (bookTurn n m hs x .answer)) Placed (filedBy p n m hs x)
-              (placed-by p x (bookTurn n m hs x .answer) (ap (nth all) first ∙ a 0 ∙ unfold nth in refl)
+              every-also (By p x (bookTurn n m c x .answer)) Placed (filedBy p n m c x)
+              (placed-by p x (bookTurn n m c x .answer) (ap (nth all) first ∙ a 0 ∙ unfold nth in refl)
               (ap (nth rs) first ∙ b 0 ∙ unfold nth in refl))
-              (by-as p n m (bookTurn n m hs x .answer) hs x)
+              (by-as p n m (bookTurn n m c x .answer) c x)
 
-          more : (y : Call S) → Every Placed (filedBy p n m hs y) → Every Placed (since y fs (filedBy p n m hs y))
+          more : (y : Call S) → Every Placed (filedBy p n m c y) → Every Placed (since y fs (filedBy p n m c y))
           more clear z = tt
-          more (insert r s) z = every-append Placed fs (filedBy p n m hs (insert r s)) q z
-          more (save r c) z = every-append Placed fs (filedBy p n m hs (save r c)) q z
+          more (insert r s) z = every-append Placed fs (filedBy p n m c (insert r s)) q z
+          more (save r x) z = every-append Placed fs (filedBy p n m c (save r x)) q z
+          more (share r x) z = every-append Placed fs (filedBy p n m c (share r x)) q z
 
     -- the last filing under a key is one of the filings, and under that key
     last-is : (P : Filing S → Type 0) (k : Key) (fs : List (Filing S)) (f : Filing S) → Every P fs
@@ -239,18 +256,18 @@ module _ (S : Saving) where
       pub attempted : S .attempt owner a ≡ files (f .held) value
       pub under : f .held .key ≡ k
       pub stands : nth xs (f .at) ≡ some (save q a)
-      pub replied : nth (runBook n m [] xs .answers) (f .at) ≡ some (saved value)
+      pub replied : nth (runBook n m nothingHeld xs .answers) (f .at) ≡ some (saved value)
 
     pub last-saved : (xs : List (Call S)) (k : Key) (f : Filing S) (q : Named) (a : S .Args)
-        → lastFiled k (filings 0 n m [] [] xs) ≡ some f → f .by ≡ save q a → SaveFiled xs k f q a
+        → lastFiled k (filings 0 n m nothingHeld [] xs) ≡ some f → f .by ≡ save q a → SaveFiled xs k f q a
     last-saved xs k f q a e b =
-        let rs : List (Reply S) = runBook n m [] xs .answers in
+        let rs : List (Reply S) = runBook n m nothingHeld xs .answers in
         let r : Honest f × (f .held .key ≡ k) =
-        last-is Honest k (filings 0 n m [] [] xs) f (every-run Honest xs 0 [] [] tt honest-turn) e in
+        last-is Honest k (filings 0 n m nothingHeld [] xs) f (every-run Honest xs 0 nothingHeld [] tt honest-turn) e in
         let w : Honestly f q a = r .0 q a b in
         let y : Placed xs rs f =
-        last-is (Placed xs rs) k (filings 0 n m [] [] xs) f
-        (placed-run xs rs xs 0 [] [] tt (λ i. ap (nth xs) (from-0 i)) (λ i. ap (nth rs) (from-0 i))) e .0 in
+        last-is (Placed xs rs) k (filings 0 n m nothingHeld [] xs) f
+        (placed-run xs rs xs 0 nothingHeld [] tt (λ i. ap (nth xs) (from-0 i)) (λ i. ap (nth rs) (from-0 i))) e .0 in
         record {
           owner = w .owner;
           value = w .value;

@@ -1,71 +1,89 @@
 -- The end of a save: the exits of `file_built`, and what a save answers by them.
 -- Assumes nothing.
-use mathlib.Core.Bool.{Bool, true, false, not}
-use mathlib.Core.List.{List}
+use mathlib.Core.Bool.{true, false}
+use mathlib.Core.List.{List, _++_}
 use mathlib.Core.Option.{Option, none, some}
-use mathlib.Core.Path.{_≡_, refl, sym, ap, ap₂, _∙_}
-use Prim.Native.Nat.{ℕ}
-use native.Mathlib.Omega.{arith}
-use lib.ListN.{length}
-use Rattle.text.specs.Bytes.{pick}
+use mathlib.Core.Path.{_≡_, refl, sym, ap, ap₂, _∙_, subst}
+use Prim.Native.Nat.{ℕ, _-_}
+use borrow.Rule.Slice.PartMut.{putMid, midOf}
+use lib.ListN.{length, take, drop}
+use Rattle.text.proofs.LentLaws.{tail-part, tail-back}
 use Rattle.store.specs.declared.calls.Answer.{Answer}
-use Rattle.store.specs.Book.{caller, turn, noRoom, bookAttempt, files}
-use Rattle.store.specs.Inner.{room, bookFile, known, storeFile}
-use Rattle.store.specs.Decode.{decode}
-use Rattle.store.specs.Held.{Held, file}
-use Rattle.store.specs.Inner.{Files}
-use Rattle.store.specs.Layout.{encodeRecords, encodeText}
-use Rattle.store.specs.Store.{Done, holding, onLines, storeAttempt}
-use Rattle.store.proofs.DecodeLaws.{lines-of}
 use Rattle.store.specs.declared.calls.Answer.the-variants as A
+use Rattle.store.specs.declared.claims.Dues.{Dues}
+use Rattle.store.specs.declared.table.Room.{Room}
+use Rattle.store.specs.declared.table.Room.the-variants as R
+use Rattle.store.specs.Book.{Caller, caller, Turn, turn, roomFor, byRoom, bookAttempt, files}
+use Rattle.store.specs.Claims.{Owed}
+use Rattle.store.specs.Decode.{decode, content}
+use Rattle.store.specs.Fronts.{Fronts}
+use Rattle.store.specs.Held.{Held, file}
+use Rattle.store.specs.Inner.{bookFile, known, storeFile, behind, roomAnswer}
+use Rattle.store.specs.Layout.{Bytes, encodeIndex, encodeText}
+use Rattle.store.specs.Shares.{Content}
+use Rattle.store.specs.Store.{Done, onLines, storeAttempt}
+use Rattle.store.specs.Table.{FilesLine}
+use Rattle.store.proofs.BoolLaws.{true-false}
+use Rattle.store.proofs.PartLaws.{Whole, whole}
 
 module _ (i t : List ℕ) (h : Held) where
-  pub file-unsound : known (decode i t) ≡ false → record { answer = A.Unsound; index = i; text = t } ≡ storeFile i t h
+  pub file-unsound : known (content i t) ≡ false → record { answer = A.Unsound; index = i; text = t } ≡ storeFile i t h
   unfolding storeFile
-  file-unsound e = sym (go (decode i t) e)
+  file-unsound e = sym (go (content i t) e)
     where
-      go : (o : Option (List Held)) → known o ≡ false
-          → onLines i t o A.Unsound (λ hs. bookFile (length i) (length t) hs h)
+      go : (o : Option Content) → known o ≡ false
+          → onLines i t o A.Unsound (λ c. bookFile (caller (length i) (length t) (c .shares) (h .key .owner))
+          (c .held) h)
           ≡ record { answer = A.Unsound; index = i; text = t }
       go none q = refl
-      go (some hs) q = let z : _≡_ {A = ℕ} 0 1 = cc in absurd (omega arith)
+      go (some c) q = absurd (true-false q)
 
   -- a sound store: r says whether there was room
-  module _ (k : known (decode i t) ≡ true) (r : Bool) (i′ t′ : List ℕ) (f : Files i t h r i′ t′) where
-    abbrev pub said : Bool → Answer
-    said true = A.Done
-    said false = A.NoRoom
+  filed : (c : Caller) (hs : List Held) (r : Room) → r ≡ roomFor c h hs
+      → bookFile c hs h ≡ turn (roomAnswer r) (byRoom r hs hs (file h hs))
+  unfolding bookFile
+  filed c hs r e = go (roomFor c h hs) ∙ ap (λ (v : Room). turn (roomAnswer v) (byRoom v hs hs (file h hs))) (sym e)
+    where
+      go : (v : Room) → byRoom v (turn A.NoRoom hs) (turn A.NoText hs) (turn A.Done (file h hs))
+          ≡ turn (roomAnswer v) (byRoom v hs hs (file h hs))
+      go R.Fits = refl
+      go R.IndexFull = refl
+      go R.TextFull = refl
 
-    filed : (n m : ℕ) (hs : List Held) (b : Bool) → b ≡ room n m h hs
-        → bookFile n m hs h ≡ turn (said b) (pick b (file h hs) hs)
-    unfolding bookFile
-    filed n m hs b e = go (noRoom (caller n m (h .key .owner)) h hs) ∙ ap (λ (y : Bool). turn (said y) (pick y (file h hs) hs)) (sym e)
-      where
-        go : (x : Bool) → pick x (turn A.NoRoom hs) (turn A.Done (file h hs))
-            ≡ turn (said (not x)) (pick (not x) (file h hs) hs)
-        go true = refl
-        go false = refl
+  pub file-sound : (g : List ℕ) (p : ℕ) → Fronts i g p → Bytes i → known (content i t) ≡ true → (d : Dues) (r : Room)
+      → (part t′ : List ℕ) → FilesLine d (drop p i) t h r part t′
+      → ((hs : List Held) → decode (drop p i) t ≡ some hs → Owed g (h .key .owner) hs d)
+      → record { answer = roomAnswer r; index = take p i ++ part; text = t′ } ≡ storeFile i t h
+  unfolding storeFile
+  file-sound g p f b k d r part t′ w owed =
+      let a : Whole i t g p = whole i t g p f b k in
+      let hs : List Held = a .all .held in
+      let z = w g hs (a .lines) (owed hs (a .lines)) in
+      let v : Turn Answer = turn (roomAnswer r) (byRoom r hs hs (file h hs)) in
+      ap₂ (λ (x y : List ℕ). record { answer = roomAnswer r; index = x; text = y })
+      (a .encoded part (v .held) (z .1 .index)) (z .1 .text)
+      ∙ ap (λ (x : Turn Answer). record {
+        answer = x .answer;
+        index = encodeIndex (length i) (a .all .shares) (x .held);
+        text = encodeText (length t) (x .held);
+      }) (sym (ap (λ (c : Caller). bookFile c hs h) (a .caller (h .key .owner))
+      ∙ filed (behind g (drop p i) t (h .key .owner)) hs r (z .0)))
+      ∙ sym (ap (λ (o : Option Content). onLines i t o A.Unsound
+      (λ c. bookFile (caller (length i) (length t) (c .shares) (h .key .owner)) (c .held) h)) (a .is))
 
-    pub file-sound : record { answer = said r; index = i′; text = t′ } ≡ storeFile i t h
-    unfolding storeFile
-    file-sound =
-        let q : (hs : List Held) × (decode i t ≡ some hs) = lines-of (decode i t) k in
-        let z : (r ≡ room (length i) (length t) h (q .0))
-        × (i′ ≡ encodeRecords (length i) (pick r (file h (q .0)) (q .0)))
-        × (t′ ≡ encodeText (length t) (pick r (file h (q .0)) (q .0))) = f (q .0) (q .1) in
-        ap₂ (λ (x y : List ℕ). record { answer = said r; index = x; text = y }) (z .1) (z .2)
-        ∙ sym (ap (λ (o : Option (List Held)). onLines i t o A.Unsound (λ hs. bookFile (length i) (length t) hs h))
-        (q .1)
-        ∙ ap (holding i t) (filed (length i) (length t) (q .0) r (z .0)))
+  -- the part is lent, and given back
+  pub file-lent : (g : List ℕ) (p : ℕ) → Fronts i g p → Bytes i → known (content i t) ≡ true → (d : Dues) (r : Room)
+      → (part t′ : List ℕ) → FilesLine d (midOf p (length i - p) i) t h r part t′
+      → ((hs : List Held) → decode (midOf p (length i - p) i) t ≡ some hs → Owed g (h .key .owner) hs d)
+      → (a : Answer) → a ≡ roomAnswer r
+      → record { answer = a; index = putMid p (length i - p) i part; text = t′ } ≡ storeFile i t h
+  file-lent g p f b k d r part t′ w owed a ea =
+      ap₂ (λ (x : Answer) (y : List ℕ). record { answer = x; index = y; text = t′ }) ea (tail-back p i part)
+      ∙ file-sound g p f b k d r part t′ (subst (λ (q : List ℕ). FilesLine d q t h r part t′) (tail-part p i) w)
+      (λ hs e. owed hs (ap (λ (q : List ℕ). decode q t) (tail-part p i) ∙ e))
 
-    pub file-done : r ≡ true → record { answer = A.Done; index = i′; text = t′ } ≡ storeFile i t h
-    file-done e = ap (λ (b : Bool). record { answer = said b; index = i′; text = t′ }) (sym e) ∙ file-sound
-
-    pub file-full : r ≡ false → record { answer = A.NoRoom; index = i′; text = t′ } ≡ storeFile i t h
-    file-full e = ap (λ (b : Bool). record { answer = said b; index = i′; text = t′ }) (sym e) ∙ file-sound
-
-  -- a save that gets as far answers by what filing answers: v when the line is filed, else the answers of 21 and 19
-  module _ {B : Type 0} (unsound full v : B) where
+  -- a save that gets as far answers by what filing answers: v when the line is filed, else the answers of 21, 25 and 19
+  module _ {B : Type 0} (unsound full crowded v : B) where
     abbrev pub valueOf : Answer → B
     valueOf A.Done = v
     valueOf (A.NotUtf8 place) = unsound
@@ -74,26 +92,34 @@ module _ (i t : List ℕ) (h : Held) where
     valueOf A.NoRoom = full
     valueOf A.BufferTooLarge = unsound
     valueOf A.NoOwner = unsound
+    valueOf A.NoText = crowded
+    valueOf A.ShareTooLarge = unsound
 
     pub attempt-files : (d : Done Answer) → d ≡ storeFile i t h
         → record { answer = valueOf (d .answer); index = d .index; text = d .text }
-        ≡ storeAttempt unsound full i t (h .key .owner) (files h v)
+        ≡ storeAttempt unsound full crowded i t (h .key .owner) (files h v)
     unfolding storeFile bookFile
-    attempt-files d e = ap said-by e ∙ go (decode i t)
+    attempt-files d e = ap said-by e ∙ go (content i t)
       where
         said-by : Done Answer → Done B
         said-by x = record { answer = valueOf (x .answer); index = x .index; text = x .text }
 
-        room? : (b : Bool) (hs : List Held)
-            → said-by (holding i t (pick b (turn A.NoRoom hs) (turn A.Done (file h hs))))
-            ≡ holding i t (pick b (turn full hs) (turn v (file h hs)))
-        room? true hs = refl
-        room? false hs = refl
+        by : Content → Caller
+        by c = caller (length i) (length t) (c .shares) (h .key .owner)
 
-        go : (o : Option (List Held))
+        room? : (r : Room) (c : Content)
+            → said-by (onLines i t (some c) A.Unsound
+            (λ c. byRoom r (turn A.NoRoom (c .held)) (turn A.NoText (c .held)) (turn A.Done (file h (c .held)))))
+            ≡ onLines i t (some c) unsound
+            (λ c. byRoom r (turn full (c .held)) (turn crowded (c .held)) (turn v (file h (c .held))))
+        room? R.Fits c = refl
+        room? R.IndexFull c = refl
+        room? R.TextFull c = refl
+
+        go : (o : Option Content)
             → said-by (onLines i t o A.Unsound
-            (λ hs. pick (noRoom (caller (length i) (length t) (h .key .owner)) h hs)
-            (turn A.NoRoom hs) (turn A.Done (file h hs))))
-            ≡ onLines i t o unsound (λ hs. bookAttempt full (caller (length i) (length t) (h .key .owner)) hs (files h v))
+            (λ c. byRoom (roomFor (by c) h (c .held)) (turn A.NoRoom (c .held)) (turn A.NoText (c .held))
+            (turn A.Done (file h (c .held)))))
+            ≡ onLines i t o unsound (λ c. bookAttempt full crowded (by c) (c .held) (files h v))
         go none = refl
-        go (some hs) = room? (noRoom (caller (length i) (length t) (h .key .owner)) h hs) hs
+        go (some c) = room? (roomFor (by c) h (c .held)) c

@@ -25,10 +25,13 @@ use Rattle.store.specs.declared.parties.Party.{Party}
 use Rattle.store.specs.Parties.{ownerOf, byOwner, Named}
 use Rattle.store.specs.Held.{Key, Held, keyBy, find, indexMax, textMax}
 use Rattle.store.specs.Layout.{Shape}
-use Rattle.store.specs.Book.{refused, files, Call, insert, save, saved, numberOf}
+use Rattle.store.specs.Shares.{nothingHeld, withHeld}
+use Rattle.store.specs.Decode.{content}
+use Rattle.store.specs.Book.{refused, files, Call, insert, save, saved, numberOf, bookTurn, sharesAfter}
 use Rattle.store.specs.Store.{Runs, storeCall, answered, noOwner, lookedIn, lookBy, lookUp}
 use Rattle.store.specs.Filings.{Filing, lastFiled, lineFiled, nth}
-use Rattle.store.specs.Guarantee.{Calls, stored, booked, lastOf, lookedFor, builtHeld, builtSave, FromSave, Guarantee}
+use Rattle.store.specs.Guarantee.{Calls, stored, booked, next, lastOf, lookedFor, builtHeld, builtSave, FromSave}
+use Rattle.store.specs.Guarantee.{Guarantee}
 use Rattle.store.specs.Inner.{Builds}
 use Rattle.store.specs.Saves.{SaveArgs, SaveCall, unsavedName, refusedSave, attemptAfter, attemptOf, storeSave}
 use Rattle.store.specs.Saves.{Passes, ReadsBack, saving}
@@ -142,7 +145,7 @@ module _ (n m : ℕ) (ln : n ≤ indexMax) (lm : m ≤ textMax) (xs : Calls) whe
       ≡ lookedIn (lineFiled (lastOf n m xs k))
   finds-key k =
       whole-look-up n m ln lm saving builds xs k
-      ∙ ap lookedIn (says-run k n m xs 0 [] [] (unfold find lastFiled in refl))
+      ∙ ap lookedIn (says-run k n m xs 0 nothingHeld [] (unfold find lastFiled in refl))
 
   finds-party : (p : Party) (u : Uuid) → lookUp p u (stored n m xs .index) (stored n m xs .text) ≡ lookedFor n m xs p u
   unfolding lookUp
@@ -153,6 +156,14 @@ module _ (n m : ℕ) (ln : n ≤ indexMax) (lm : m ≤ textMax) (xs : Calls) whe
           ≡ byOwner w noOwner (λ o. lookedIn (lineFiled (lastOf n m xs (keyBy o u))))
       go O.Nobody = refl
       go (O.Byte o) = finds-key (keyBy o u)
+
+  -- what is held after a call that leaves the shares
+  pub held-next : (x : Call saving) → sharesAfter n m (booked n m xs .content) x ≡ booked n m xs .content .shares
+      → content (next n m xs x .index) (next n m xs x .text)
+      ≡ some (withHeld (booked n m xs .content) (bookTurn n m (booked n m xs .content) x .held))
+  held-next x e =
+      next-held n m ln lm saving builds xs x
+      ∙ ap (λ (s : List ℕ). some (record { shares = s; held = bookTurn n m (booked n m xs .content) x .held })) e
 
   -- demand 3, whole
   pub whole-guarantee : Guarantee n m xs
@@ -165,20 +176,21 @@ module _ (n m : ℕ) (ln : n ≤ indexMax) (lm : m ≤ textMax) (xs : Calls) whe
     save-room = λ p o own c ok. record {
       answer =
           whole-next n m ln lm saving builds xs (save p c)
-          ∙ save-answers n m p o own saving c (builtHeld o (c .args)) (builtSave (c .args))
-          (attempt-files o (c .args) ok) (booked n m xs .held);
+          ∙ save-answers n m (booked n m xs .content) p o own saving c (builtHeld o (c .args)) (builtSave (c .args))
+          (attempt-files o (c .args) ok);
       held =
-          next-held n m ln lm saving builds xs (save p c)
-          ∙ ap some
-          (save-holds n m p o own saving c (builtHeld o (c .args)) (builtSave (c .args))
-          (attempt-files o (c .args) ok) (booked n m xs .held));
+          held-next (save p c) (unfold sharesAfter in refl)
+          ∙ ap (λ (hs : List Held). some (withHeld (booked n m xs .content) hs))
+          (save-holds n m (booked n m xs .content) p o own saving c (builtHeld o (c .args)) (builtSave (c .args))
+          (attempt-files o (c .args) ok));
     };
     insert-room = λ p o own s passed l rest u hs valid cut reached e q. record {
       answer =
           whole-next n m ln lm saving builds xs (insert p s)
-          ∙ insert-answers n m p o own saving s passed l rest u hs (booked n m xs .held) valid cut reached e q;
+          ∙ insert-answers n m (booked n m xs .content) p o own saving s passed l rest u hs valid cut reached e q;
       held =
-          next-held n m ln lm saving builds xs (insert p s)
-          ∙ ap some (insert-holds n m p o own saving s passed l rest u hs (booked n m xs .held) valid cut reached e q);
+          held-next (insert p s) (unfold sharesAfter in refl)
+          ∙ ap (λ (hs : List Held). some (withHeld (booked n m xs .content) hs))
+          (insert-holds n m (booked n m xs .content) p o own saving s passed l rest u hs valid cut reached e q);
     };
   }

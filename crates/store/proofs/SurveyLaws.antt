@@ -2,22 +2,27 @@
 -- Assumes nothing.
 use mathlib.Core.Bool.{Bool, true, false, _&&_}
 use mathlib.Core.List.{List}
+use mathlib.Core.Option.{Option, none, some}
 use mathlib.Core.Path.{_≡_, refl, sym, ap, _∙_, subst}
-use Prim.Native.Nat.{ℕ, zero, suc, _+_, _-_, _≤_, _<_}
+use Prim.Native.Nat.{ℕ, suc, _+_, _-_, _≤_, _<_}
 use native.Mathlib.Omega.{arith}
-use lib.ListN.{length, drop}
+use lib.ListN.{length, drop, length-drop}
+use borrow.Author.Tests.{le-leb, lt-leb}
+use Rattle.text.specs.Bytes.{pick}
 use Rattle.store.specs.declared.chains.Verdict.{Verdict}
 use Rattle.store.specs.declared.chains.Verdict.the-variants as Vd
 use Rattle.store.specs.declared.records.Head.{Head}
 use Rattle.store.specs.declared.table.Fill.{Fill}
 use Rattle.store.specs.declared.soundness.Stock.{Stock}
-use Rattle.store.specs.Decode.{noHead, headAt, headFits, walk, decode, zeroes}
-use Rattle.store.specs.Held.{Key, indexMax, recordSize}
+use Rattle.store.specs.Decode.{noHead, headAt, headFits, walk, decode, zeroes, fronted, withLines, content}
+use Rattle.store.specs.Held.{Held, indexMax, textMax, recordSize}
 use Rattle.store.specs.Layout.{Bytes}
+use Rattle.store.specs.Fronts.{Fronts}
+use Rattle.store.specs.Shares.{Content}
 use Rattle.store.specs.Inner.{known}
 use Rattle.store.specs.Keys.{rowsMax, Says, toldOf, Chained, Sought}
 use Rattle.store.specs.Rows.{Row, keyIn, rowPut, Long}
-use Rattle.store.specs.Table.{Surveys, Stocks}
+use Rattle.store.specs.Table.{Loads, Surveys, Stocks}
 use Rattle.store.proofs.BoolLaws.{true-false}
 use Rattle.store.proofs.ChainLaws.{says-turn, says-agree}
 use Rattle.store.proofs.DecodeLaws.{laid, lines-of}
@@ -25,6 +30,8 @@ use Rattle.store.proofs.LoadLaws.{Loading, load-first, load-less, load-
 use Rattle.store.proofs.OnceLaws.{list-end}
 use Rattle.store.proofs.RecordLaws.{Fits, fits-of, size-least}
 use Rattle.store.proofs.SoundLaws.{Walking, walking, walking-end, walking-bad, walking-turn, sound-walk}
+use Rattle.store.proofs.SoundLaws.{sound-text}
+use Rattle.store.proofs.ShareLaws.{content-parts}
 use Rattle.store.proofs.WriteLaws.{row-other}
 
 -- n records lie before `at`, and their lines before `used`
@@ -99,10 +106,70 @@ module _ (i t : List ℕ) (at : ℕ) (a : List ℕ) (heads next : List ℕ) (n u
         same k l = sym (ap (λ (x : List ℕ). keyIn x k) ec
             ∙ ap (λ (x : Row). x .key) (row-other a n (head .key) (head .off) (head .len) k (λ z. omega arith)))
 
--- `take_stock`
-pub no-stock : (i t : List ℕ) (a : List ℕ) (heads next : List ℕ) (r : Stock) → r .sound ≡ false
-    → known (decode i t) ≡ false → Stocks i t a heads next r
-no-stock i t a heads next r p q = record { is = p ∙ sym q; loads = λ e. absurd (true-false (sym e ∙ p)) }
+-- ---- `take_stock`
+
+pub no-stock : (i t g : List ℕ) (a : List ℕ) (heads next : List ℕ) (r : Stock) → r .sound ≡ false
+    → known (content i t) ≡ false → Stocks i t g a heads next r
+no-stock i t g a heads next r p q = record {
+  is = p ∙ sym q;
+  front = λ e. absurd (true-false (sym e ∙ p));
+  most = λ e. absurd (true-false (sym e ∙ p));
+  loads = λ e. absurd (true-false (sym e ∙ p));
+}
+
+module _ (i t : List ℕ) where
+  known-with : (s : List ℕ) (o : Option (List Held)) → known (withLines s o) ≡ known o
+  known-with s none = refl
+  known-with s (some hs) = refl
+
+  pub stock-index : indexMax < length i → known (content i t) ≡ false
+  unfolding content
+  stock-index l =
+      ap (λ (b : Bool). known (pick b (withLines (fronted i .shares) (decode (fronted i .rest) t)) none))
+      (lt-leb _ indexMax l)
+
+  -- the whole store is sound as the part behind the shares is
+  known-rest : length i ≤ indexMax → known (content i t) ≡ known (decode (fronted i .rest) t)
+  unfolding content
+  known-rest l =
+      ap (λ (b : Bool). known (pick b (withLines (fronted i .shares) (decode (fronted i .rest) t)) none))
+      (le-leb _ indexMax l)
+      ∙ known-with (fronted i .shares) (decode (fronted i .rest) t)
+
+  pub stock-text : length i ≤ indexMax → textMax < length t → known (content i t) ≡ false
+  stock-text l m = known-rest l ∙ sound-text (fronted i .rest) t m
+
+  -- the part q of the index that is lent is the one behind the shares
+  module _ (g : List ℕ) (p : ℕ) (f : Fronts i g p) (l : length i ≤ indexMax) (q : List ℕ) (e : q ≡ drop p i) where
+    pub part-most : length q ≤ indexMax
+    part-most = omega (arith, ap length e, length-drop p i, l)
+
+    pub stock-part : known (decode q t) ≡ known (content i t)
+    stock-part = ap (λ (r : List ℕ). known (decode r t)) (e ∙ f .rest) ∙ sym (known-rest l)
+
+    pub stock-loads : (a heads next : List ℕ) (n : Fill) → Loads q a heads next n → Loads (drop p i) a heads next n
+    stock-loads a heads next n x = subst (λ (r : List ℕ). Loads r a heads next n) e x
+
+-- what a sound store holds
+pub record Holds (i t g : List ℕ) (p : ℕ) : Type 0 where
+  pub all : Content
+  pub is : content i t ≡ some all
+  pub shares : g ≡ all .shares
+  pub lines : decode (drop p i) t ≡ some (all .held)
+
+pub sound-holds : (i t g : List ℕ) (p : ℕ) → Fronts i g p → known (content i t) ≡ true → Holds i t g p
+sound-holds i t g p f e = go (content i t) refl e
+  where
+    go : (o : Option Content) → content i t ≡ o → known o ≡ true → Holds i t g p
+    go none q k = absurd (true-false (sym k))
+    go (some c) q k =
+        let parts = content-parts i t c q in
+        record {
+          all = c;
+          is = q;
+          shares = f .shares ∙ sym (parts .1 .0);
+          lines = ap (λ (r : List ℕ). decode r t) (f .rest) ∙ parts .1 .1;
+        }
 
 -- the records of a sound store are whole
 pub walk-of : (i t : List ℕ) → Bytes i → known (decode i t) ≡ true → known (walk (suc (length i)) 0 i t) ≡ true

@@ -14,11 +14,14 @@ use Rattle.text.specs.declared.uuid.UuidParse.the-variants.{Parsed, Invalid}
 use Rattle.store.specs.declared.calls.Answer.the-variants as A
 use Rattle.store.specs.declared.calls.SaveAnswer.the-variants as Sv
 use Rattle.store.specs.declared.calls.Saved.{Saved}
+use Rattle.store.specs.declared.table.Room.{Room}
+use Rattle.store.specs.declared.table.Room.the-variants as R
 use Rattle.store.specs.Held.{Held, file}
 use Rattle.store.specs.Lines.{linesOf, wanted}
 use Rattle.store.specs.Refusals.{saveNumber}
 use Rattle.store.specs.Book.{Caller, under, Reached, after, stopped, reach, onReached, insertLines, insertTurn}
-use Rattle.store.specs.Book.{bookWalk, bookInsert, Attempt, refused, files, Call, Reply, noRoom, Turn, turn}
+use Rattle.store.specs.Book.{bookWalk, bookInsert, Attempt, refused, files, Call, Reply, roomFor, byRoom, Turn}
+use Rattle.store.specs.Book.{turn}
 use Rattle.store.specs.Book.{bookAttempt}
 use Rattle.store.specs.Filings.{Filing, filing, filedLine, filedLines, filedAttempt}
 use Rattle.store.specs.Saves.{SaveArgs, attemptOf, refusedSave, saving}
@@ -118,20 +121,24 @@ toldAttempt (files h v) k = pick (eqb k 0) (h ∷ []) []
 full-number : saveNumber Sv.NoRoom ≡ 0 → ⊥
 full-number e = omega (arith, e)
 
+crowded-number : saveNumber Sv.NoText ≡ 0 → ⊥
+crowded-number e = omega (arith, e)
+
 module _ (by : Caller) (p : ℕ) (x : Call saving) (a : Reply saving) (o : ℕ) (s : SaveArgs) (hs : List Held) where
   abbrev number : Attempt Saved → ℕ
-  number y = saveNumber (bookAttempt (refusedSave Sv.NoRoom) by hs y .answer .answer)
+  number y = saveNumber (bookAttempt (refusedSave Sv.NoRoom) (refusedSave Sv.NoText) by hs y .answer .answer)
 
   pub save-told : helds (filedAttempt p x a by hs (attemptOf o s)) ≡ toldAttempt (attemptOf o s) (number (attemptOf o s))
   save-told = go (attemptOf o s) refl
     where
-      room? : (h : Held) (v : Saved) → saveNumber (v .answer) ≡ 0 → (b : Bool)
-          → helds (pick b [] (filing p x a h ∷ []))
-          ≡ pick (eqb (saveNumber (pick {A = Turn Saved} b (turn (refusedSave Sv.NoRoom) hs) (turn v (file h hs)) .answer
-          .answer)) 0) (h ∷ []) []
-      room? h v z true = unfold helds in (ap (λ (t : Bool). pick t (h ∷ []) []) (sym (ne-eqb _ 0 full-number)))
-      room? h v z false = unfold helds in (ap (λ (t : Bool). pick t (h ∷ []) []) (sym (eq-eqb _ 0 z)))
+      room? : (h : Held) (v : Saved) → saveNumber (v .answer) ≡ 0 → (r : Room)
+          → helds (byRoom r [] [] (filing p x a h ∷ []))
+          ≡ pick (eqb (saveNumber (byRoom {A = Turn Saved} r (turn (refusedSave Sv.NoRoom) hs)
+          (turn (refusedSave Sv.NoText) hs) (turn v (file h hs)) .answer .answer)) 0) (h ∷ []) []
+      room? h v z R.IndexFull = unfold helds in (ap (λ (t : Bool). pick t (h ∷ []) []) (sym (ne-eqb _ 0 full-number)))
+      room? h v z R.TextFull = unfold helds in (ap (λ (t : Bool). pick t (h ∷ []) []) (sym (ne-eqb _ 0 crowded-number)))
+      room? h v z R.Fits = unfold helds in (ap (λ (t : Bool). pick t (h ∷ []) []) (sym (eq-eqb _ 0 z)))
 
       go : (y : Attempt Saved) → attemptOf o s ≡ y → helds (filedAttempt p x a by hs y) ≡ toldAttempt y (number y)
       go (refused v) e = unfold helds in refl
-      go (files h v) e = room? h v (files-done o s h v e) (noRoom by h hs)
+      go (files h v) e = room? h v (files-done o s h v e) (roomFor by h hs)

@@ -1,7 +1,7 @@
 -- The worked examples of docs/READING.md, computed by the definitions. Assumes nothing.
-use mathlib.Core.Path.{_≡_, refl, ap}
+use mathlib.Core.Path.{_≡_, refl, ap, _∙_}
 use mathlib.Core.Bool.{Bool, true, false, _&&_}
-use mathlib.Core.Option.{none}
+use mathlib.Core.Option.{Option, none}
 use mathlib.Core.List.{List, [], _∷_, _++_}
 use Prim.Native.Nat.{ℕ, suc}
 use lib.Dec.{leb}
@@ -36,9 +36,13 @@ use Rattle.map.specs.Build.{builtLine, builtMap}
 use Rattle.text.specs.Search.{firstText}
 use Rattle.store.specs.declared.calls.Look.the-variants as L
 use Rattle.store.specs.declared.parties.Party.the-variants as P
-use Rattle.store.specs.Held.{strike, distinct, indexMax, textMax}
-use Rattle.store.specs.Decode.{noHead, ownerAt, headAt, zeroes, walk, guarded, decode}
-use Rattle.store.specs.Book.{recordSizes, lengths, noRoom}
+use native.Mathlib.Omega.{arith}
+use Rattle.store.specs.Shares.{owners, Content, useOf, claimsFrom, shareSizes}
+use Rattle.store.proofs.ShareBufferLaws.{shares-none}
+use Rattle.store.specs.Held.{Held, strike, file, distinct, indexMax, textMax}
+use Rattle.store.specs.Decode.{noHead, ownerAt, headAt, zeroes, walk, guarded, decode, isShare, sharesAt}
+use Rattle.store.specs.Decode.{Fronted, fronted, withLines, content}
+use Rattle.store.specs.Book.{recordSizes, noIndex, noText, roomFor}
 use Rattle.store.specs.Store.{Looked, unsound, lookBy, lookUp, saysOf, lineOf}
 use Rattle.store.specs.Refusals.{saveNumber}
 use Rattle.store.specs.Saves.{SaveArgs, saveArgs, attemptOf, storeSave}
@@ -54,8 +58,8 @@ nil = record { high = 0; low = 0 }
 
 -- the pair at place 35, and what it puts
 dpup-pair : pairOf (ascii "dpup:h0.1") 35 ≡ An.Found (Tk.HatMapping 0 1 (Btn B.DPadUp) (rangesOf Full Full false))
-unfolding pairOf keyedOf halfOf valueOf hatOf countOf firstOf same readDigits unsigned indexNumber «AXES_SDL» AXES rowFrom
-    keyRow
+unfolding pairOf keyedOf halfOf valueOf hatOf countOf firstOf same readDigits unsigned indexNumber «AXES_SDL» AXES
+    rowFrom keyRow
 dpup-pair = refl
 
 dpup-puts : putsOf (Tk.HatMapping 0 1 (Btn B.DPadUp) (rangesOf Full Full false)) 45 [] []
@@ -73,10 +77,10 @@ dpup-map : readingOf (u ++ ascii ",T,dpup:h0.1,") [] []
       isDefault = false;
       hatFlags = 1;
     }))
-unfolding readingOf readLine lineFrom namedFrom pairsFrom taken putOne putsOf hatPuts dpadAxis hatCodes listed fieldsOf
-    pairOf keyedOf halfOf valueOf hatOf guidOf countOf firstOf emptyMap putEntry putOf toMap same
-    readDigits unsigned indexNumber begins firstLength charLength runOf validRun isUtf8 «AXES_SDL» AXES rowFrom keyRow
-    hexDigit readHex uuidOf u
+unfolding readingOf readLine lineFrom namedFrom pairsFrom taken putOne putsOf hatPuts dpadAxis hatCodes listed
+    fieldsOf pairOf keyedOf halfOf valueOf hatOf guidOf countOf firstOf emptyMap putEntry putOf toMap same readDigits
+    unsigned indexNumber begins firstLength charLength runOf validRun isUtf8 «AXES_SDL» AXES rowFrom keyRow hexDigit
+    readHex uuidOf u
 dpup-map = refl
 
 -- ---- 2. the place of refusal 4 in `U,T,dpright:h0.q`
@@ -96,23 +100,26 @@ dpright-place = refl
 emptySave : SaveArgs
 emptySave = saveArgs noSlots [] [] (ascii "T") nil
 
--- an index of 20 bytes; a text of 34; both as large as they have to be
+-- an index of 20 bytes; a text of 34, which is P10's 25 "in place of 21 for text"; both as large as they have to be
 index-short : saveNumber (storeSave (replicate 20 0) (replicate 35 0) P.Hall emptySave .answer .answer) ≡ 21
 unfolding storeSave attemptOf checksOf slotChecks axisChecks missingOf filledFrom buttonOf axisOf builtLine builtMap
-    ended pairTexts hexText firstText firstOf begins firstLength charLength runOf validRun isUtf8 decode walk headAt ownerAt
-    zeroes distinct noRoom recordSizes strike lengths emptySave nil same
+    ended pairTexts hexText firstText firstOf begins firstLength charLength runOf validRun isUtf8 content sharesAt
+    isShare decode walk headAt ownerAt zeroes distinct roomFor noIndex noText shareSizes claimsFrom useOf recordSizes
+    strike emptySave nil same file
 index-short = refl
 
-text-short : saveNumber (storeSave (replicate 21 0) (replicate 34 0) P.Hall emptySave .answer .answer) ≡ 21
+text-short : saveNumber (storeSave (replicate 21 0) (replicate 34 0) P.Hall emptySave .answer .answer) ≡ 25
 unfolding storeSave attemptOf checksOf slotChecks axisChecks missingOf filledFrom buttonOf axisOf builtLine builtMap
-    ended pairTexts hexText firstText firstOf begins firstLength charLength runOf validRun isUtf8 decode walk headAt ownerAt
-    zeroes distinct noRoom recordSizes strike lengths emptySave nil same
+    ended pairTexts hexText firstText firstOf begins firstLength charLength runOf validRun isUtf8 content sharesAt
+    isShare decode walk headAt ownerAt zeroes distinct roomFor noIndex noText shareSizes claimsFrom useOf recordSizes
+    strike emptySave nil same file
 text-short = refl
 
 just-fits : saveNumber (storeSave (replicate 21 0) (replicate 35 0) P.Hall emptySave .answer .answer) ≡ 0
 unfolding storeSave attemptOf checksOf slotChecks axisChecks missingOf filledFrom buttonOf axisOf builtLine builtMap
-    ended pairTexts hexText firstText firstOf begins firstLength charLength runOf validRun isUtf8 decode walk headAt ownerAt
-    zeroes distinct noRoom recordSizes strike lengths emptySave nil same
+    ended pairTexts hexText firstText firstOf begins firstLength charLength runOf validRun isUtf8 content sharesAt
+    isShare decode walk headAt ownerAt zeroes distinct roomFor noIndex noText shareSizes claimsFrom useOf recordSizes
+    strike emptySave nil same file
 just-fits = refl
 
 -- ---- 4. a look-up in a store whose index starts with byte 9, whatever follows
@@ -126,7 +133,7 @@ unfolding walk zeroes
 walk-nine f off i t = rw (head-nine i) refl
 
 decode-nine : (i t : List ℕ) → decode (9 ∷ i) t ≡ none
-unfolding decode
+unfolding content sharesAt isShare decode
 decode-nine i t =
     rw (walk-nine (length (9 ∷ i)) 0 i t) (by (leb (length (9 ∷ i)) indexMax && leb (length t) textMax))
   where
@@ -134,9 +141,26 @@ decode-nine i t =
     by true = refl
     by false = refl
 
+-- nor does a share stand there
+content-nine : (i t : List ℕ) → content (9 ∷ i) t ≡ none
+unfolding content
+content-nine i t = ap within lines ∙ by (leb (length (9 ∷ i)) indexMax)
+  where
+    within : Option (List Held) → Option Content
+    within o = pick (leb (length (9 ∷ i)) indexMax) (withLines (fronted (9 ∷ i) .shares) o) none
+
+    lines : decode (fronted (9 ∷ i) .rest) t ≡ none
+    lines =
+        ap (λ (f : Fronted). decode (f .rest) t) (shares-none owners 0 (9 ∷ i) (λ e. omega (arith, e)))
+        ∙ decode-nine i t
+
+    by : (b : Bool) → _≡_ {A = Option Content} (pick b none none) none
+    by true = refl
+    by false = refl
+
 byte-nine : (k : Uuid) (i t : List ℕ) → lookUp P.Hall k (9 ∷ i) t ≡ unsound
 unfolding lookUp lookBy
-byte-nine k i t = rw (decode-nine i t) refl
+byte-nine k i t = rw (content-nine i t) refl
 
 nine-says : (k : Uuid) (i t : List ℕ) → saysOf (lookUp P.Hall k (9 ∷ i) t) ≡ L.Unsound
 nine-says k i t = ap (λ (x : Looked). saysOf x) (byte-nine k i t)

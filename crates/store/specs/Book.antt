@@ -1,9 +1,10 @@
 -- Document 01's book: "fed the lengths of index and text and each call's arguments, never an answer or a byte of the
--- store". Document 02, P9: it "is told each call's party, checks 24 first, and keeps its lines by party and UUID".
+-- store". Document 02, P9: it "is told each call's party, checks 24 first, and keeps its lines by party and UUID". P10: its
+-- "list may hold share settings too; the book answers each by the rules here, 19 left out".
 -- Public contracts rest on these definitions; they assume nothing.
-use mathlib.Core.Bool.{Bool, _||_}
+use mathlib.Core.Bool.{Bool}
 use mathlib.Core.List.{List, [], _∷_}
-use Prim.Native.Nat.{ℕ, suc, _+_}
+use Prim.Native.Nat.{ℕ, suc, _+_, _<_}
 use lib.Dec.{ltb}
 use lib.ListN.{length, take}
 use Rattle.text.specs.Bytes.{pick}
@@ -18,18 +19,22 @@ use Rattle.store.specs.declared.calls.Answer.the-variants as A
 use Rattle.store.specs.declared.calls.Inserted.{Inserted}
 use Rattle.store.specs.declared.calls.Tally.{Tally}
 use Rattle.store.specs.Held.{Held, keyBy, strike, file, recordSize, lineMax}
-use Rattle.store.specs.Parties.{ownerOf, byOwner, Named}
+use Rattle.store.specs.Parties.{ownerOf, byOwner, Named, OwnerByte}
+use Rattle.store.specs.Shares.{Content, nothingHeld, claims, shareSizes, withShare}
+use Rattle.store.specs.declared.table.Room.{Room}
+use Rattle.store.specs.declared.table.Room.the-variants as R
 use Rattle.store.specs.Lines.{linesOf, wanted}
 use Rattle.store.specs.Refusals.{number}
 
--- who calls, in buffers of which lengths
+-- who calls, in buffers of which lengths, and the shares that are set
 pub record Caller : Type 0 where
   pub index : ℕ
   pub text : ℕ
+  pub shares : List ℕ
   pub owner : ℕ
 
-abbrev pub caller : ℕ → ℕ → ℕ → Caller
-caller n m o = record { index = n; text = m; owner = o }
+abbrev pub caller : ℕ → ℕ → List ℕ → ℕ → Caller
+caller n m s o = record { index = n; text = m; shares = s; owner = o }
 
 -- ---- no room
 
@@ -38,17 +43,26 @@ unfoldable pub recordSizes : List Held → ℕ
 recordSizes [] = 0
 recordSizes (h ∷ hs) = recordSize (h .key .owner) + recordSizes hs
 
--- the lengths of the lines, added up
-unfoldable pub lengths : List Held → ℕ
-lengths [] = 0
-lengths (h ∷ hs) = length (h .line) + lengths hs
+-- 21: P9's sum "over every line held but the caller's own of that UUID" and the line's record, P10: "for the index with
+-- kind 4's 4 bytes counted"
+unfoldable pub noIndex : Caller → Held → List Held → Bool
+noIndex c h hs =
+    ltb (c .index) (shareSizes (c .shares) + (recordSizes (strike (h .key) hs) + recordSize (h .key .owner)))
 
--- P9: "'No room' uses document 01's sum over every line held but the caller's own of that UUID": that of their records
--- and the line's "exceeds the index or the lengths of H plus the line exceed the text"
-unfoldable pub noRoom : Caller → Held → List Held → Bool
-noRoom c h hs =
-    ltb (c .index) (recordSizes (strike (h .key) hs) + recordSize (h .key .owner))
-    || ltb (c .text) (lengths (strike (h .key) hs) + length (h .line))
+-- 25, P10: "A filing fails on text exactly when, after it, the sum over all parties of the larger of use and share exceeds
+-- the text."
+unfoldable pub noText : Caller → Held → List Held → Bool
+noText c h hs = ltb (c .text) (claims (c .shares) (file h hs))
+
+-- P10: "'no room' is now 21 or 25"; 21 "comes before 25"
+unfoldable pub roomFor : Caller → Held → List Held → Room
+roomFor c h hs = pick (noIndex c h hs) R.IndexFull (pick (noText c h hs) R.TextFull R.Fits)
+
+-- what comes of it: 21, 25, or the line is filed
+abbrev pub byRoom : {A : Type 0} → Room → A → A → A → A
+byRoom R.IndexFull full crowded filed = full
+byRoom R.TextFull full crowded filed = crowded
+byRoom R.Fits full crowded filed = filed
 
 -- ---- one call's turn: its answer, and the lines held after it
 
@@ -71,13 +85,13 @@ pub data Reached : Type 0 where
 abbrev pub under : ℕ → Uuid → List ℕ → Held
 under o u l = record { key = keyBy o u; line = l }
 
--- "a wanted one over the limit (20), else without room (21, H being the book's), stops the call with that number; any
--- other is filed"
+-- "a wanted one over the limit (20), else without room (21, H being the book's)", or P10's 25, "stops the call with that
+-- number; any other is filed"
 abbrev pub reachWanted : Caller → List Held → List ℕ → UuidParse → Reached
 reachWanted c hs l Invalid = after hs
 reachWanted c hs l (Parsed g) =
     pick (ltb lineMax (length l)) (stopped A.LineTooLong)
-    (pick (noRoom c (under (c .owner) (g .id) l) hs) (stopped A.NoRoom)
+    (byRoom (roomFor c (under (c .owner) (g .id) l) hs) (stopped A.NoRoom) (stopped A.NoText)
     (after (file (under (c .owner) (g .id) l) hs)))
 
 -- a line that an insert reaches
@@ -150,62 +164,105 @@ pub record Saving : Type 1 where
   pub Value : Type 0
   -- what its own checks come to, for its owner
   pub attempt : ℕ → Args → Attempt Value
-  -- the answers of 24, 19 and 21, "with the empty map"
+  -- the answers of 24, 19, 21 and 25, "with the empty map"
   pub nobody : Value
   pub unsound : Value
   pub full : Value
+  pub crowded : Value
   -- document 01's number of an answer, 0 where nothing is refused
   pub number : Value → ℕ
   -- reading that line with that save's lists gives what the answer has
   pub Reads : Args → List ℕ → Value → Type 0
 
--- "Save makes its checks in order [..]; the first that applies (21 as before) is its number, with the empty map and
--- nothing filed. Else build's line is filed and build's map returned."
-abbrev pub bookAttempt : {B : Type 0} → B → Caller → List Held → Attempt B → Turn B
-bookAttempt full c hs (refused v) = turn v hs
-bookAttempt full c hs (files h v) = pick (noRoom c h hs) (turn full hs) (turn v (file h hs))
+-- "Save makes its checks in order [..]; the first that applies (21 as before)", and P10's 25 after it, "is its number, with
+-- the empty map and nothing filed. Else build's line is filed and build's map returned."
+abbrev pub bookAttempt : {B : Type 0} → B → B → Caller → List Held → Attempt B → Turn B
+bookAttempt full crowded c hs (refused v) = turn v hs
+bookAttempt full crowded c hs (files h v) =
+    byRoom (roomFor c h hs) (turn full hs) (turn crowded hs) (turn v (file h hs))
+
+-- ---- share settings, P10
+
+-- the answer to a setting, and what is held after it
+pub record Setting : Type 0 where
+  pub answer : Answer
+  pub content : Content
+
+abbrev pub setting : Answer → Content → Setting
+setting a c = record { answer = a; content = c }
+
+-- 26, "that sum too large when a share is set": with the shares as they would then stand
+unfoldable pub overText : ℕ → Content → Bool
+overText m c = ltb m (claims (c .shares) (c .held))
+
+-- 21, "for the index with kind 4's 4 bytes counted"
+unfoldable pub overIndex : ℕ → Content → Bool
+overIndex n c = ltb n (shareSizes (c .shares) + recordSizes (c .held))
+
+-- "26, [..] after 19 and before 21"; "takes an accepted one as that party's share"
+unfoldable pub bookShare : ℕ → ℕ → Content → ℕ → ℕ → Setting
+bookShare n m c o b =
+    pick (overText m (withShare o b c)) (setting A.ShareTooLarge c)
+    (pick (overIndex n (withShare o b c)) (setting A.NoRoom c)
+    (setting A.Done (withShare o b c)))
 
 -- ---- lists of calls
 
--- P9: "Insert, save and look-up name their party; clear is the hall's and empties everything."
+-- P9: "Insert, save and look-up name their party; clear is the hall's and empties everything." P10: "The hall may give
+-- each party, named by its owner byte (0 is the hall), a share in bytes"
 pub data Call (S : Saving) : Type 0 where
   clear : Call S
   insert : Named → List ℕ → Call S
   save : Named → S .Args → Call S
+  share : OwnerByte → ℕ → Call S
 
 pub data Reply (S : Saving) : Type 0 where
   cleared : Answer → Reply S
   inserted : Inserted → Reply S
   saved : S .Value → Reply S
+  shared : Answer → Reply S
 
 -- document 01's number of a reply, 0 where nothing is refused
 abbrev pub numberOf : {S : Saving} → Reply S → ℕ
 numberOf (cleared a) = number a
 numberOf (inserted r) = number (r .answer)
 numberOf {S} (saved v) = S .number v
+numberOf (shared a) = number a
 
 abbrev pub replied : {S : Saving} {A : Type 0} → (A → Reply S) → Turn A → Turn (Reply S)
 replied f r = turn (f (r .answer)) (r .held)
 
 -- "the book is told each call's party, checks 24 first"
-unfoldable pub bookTurn : {S : Saving} → ℕ → ℕ → List Held → Call S → Turn (Reply S)
-bookTurn n m hs clear = replied cleared bookClear
-bookTurn n m hs (insert p s) =
-    byOwner (ownerOf (p .party)) (turn (inserted nobodyInserts) hs)
-    (λ o. replied inserted (bookInsert (caller n m o) hs s))
-bookTurn {S} n m hs (save p a) =
-    byOwner (ownerOf (p .party)) (turn (saved (S .nobody)) hs)
-    (λ o. replied saved (bookAttempt (S .full) (caller n m o) hs (S .attempt o a)))
+unfoldable pub bookTurn : {S : Saving} → ℕ → ℕ → Content → Call S → Turn (Reply S)
+bookTurn n m c clear = replied cleared bookClear
+bookTurn n m c (insert p s) =
+    byOwner (ownerOf (p .party)) (turn (inserted nobodyInserts) (c .held))
+    (λ o. replied inserted (bookInsert (caller n m (c .shares) o) (c .held) s))
+bookTurn {S} n m c (save p a) =
+    byOwner (ownerOf (p .party)) (turn (saved (S .nobody)) (c .held))
+    (λ o. replied saved (bookAttempt (S .full) (S .crowded) (caller n m (c .shares) o) (c .held) (S .attempt o a)))
+bookTurn n m c (share q b) = turn (shared (bookShare n m c (q .byte) b .answer)) (c .held)
 
--- the answers to a list of calls, and the lines held at its end
+-- the shares after a call: "Clear drops them."; a setting that is accepted counts from then on
+unfoldable pub sharesAfter : {S : Saving} → ℕ → ℕ → Content → Call S → List ℕ
+sharesAfter n m c clear = nothingHeld .shares
+sharesAfter n m c (insert p s) = c .shares
+sharesAfter n m c (save p a) = c .shares
+sharesAfter n m c (share q b) = bookShare n m c (q .byte) b .content .shares
+
+-- what the book holds after a call
+abbrev pub bookAfter : {S : Saving} → ℕ → ℕ → Content → Call S → Content
+bookAfter n m c x = record { shares = sharesAfter n m c x; held = bookTurn n m c x .held }
+
+-- the answers to a list of calls, and what the book holds at its end
 pub record Run (S : Saving) : Type 0 where
   pub answers : List (Reply S)
-  pub held : List Held
+  pub content : Content
 
 abbrev pub andRun : {S : Saving} → Reply S → Run S → Run S
-andRun a r = record { answers = a ∷ r .answers; held = r .held }
+andRun a r = record { answers = a ∷ r .answers; content = r .content }
 
--- "It holds a list of lines, each under its" party and "UUID, at first empty.": the calls from a list of lines on
-unfoldable pub runBook : {S : Saving} → ℕ → ℕ → List Held → List (Call S) → Run S
-runBook n m hs [] = record { answers = []; held = hs }
-runBook n m hs (x ∷ xs) = andRun (bookTurn n m hs x .answer) (runBook n m (bookTurn n m hs x .held) xs)
+-- "It holds a list of lines, each under its" party and "UUID, at first empty.": the calls from what it holds on
+unfoldable pub runBook : {S : Saving} → ℕ → ℕ → Content → List (Call S) → Run S
+runBook n m c [] = record { answers = []; content = c }
+runBook n m c (x ∷ xs) = andRun (bookTurn n m c x .answer) (runBook n m (bookAfter n m c x) xs)

@@ -1,5 +1,5 @@
--- The list of lines that a sound store encodes, read off its bytes; none of another store.
--- For an index of bytes this is Layout's `Encodes`, no more and no less (`decode-encodes`, `encodes-decode`).
+-- The shares and the list of lines that a sound store encodes, read off its bytes; none of another store.
+-- For an index of bytes `content` is Layout's `Encodes`, no more and no less (`content-encodes`, `encodes-content`).
 -- Public contracts rest on these definitions; they assume nothing.
 use mathlib.Core.Bool.{Bool, true, false, _&&_}
 use mathlib.Core.Option.{Option, none, some}
@@ -12,6 +12,7 @@ use Rattle.store.specs.declared.records.Head.{Head}
 use Rattle.store.specs.declared.records.Body.{Body}
 use Rattle.store.specs.Held.{Held, keyBy, distinct, indexMax, textMax, recordSize, lineMax}
 use Rattle.store.specs.Layout.{kindBytes}
+use Rattle.store.specs.Shares.{owners, Content}
 
 -- the numbers in the two, four and eight bytes at k, high byte first
 abbrev pub word : List ℕ → ℕ → ℕ
@@ -82,6 +83,38 @@ abbrev pub guarded : Option (List Held) → Option (List Held)
 guarded none = none
 guarded (some hs) = pick (distinct hs) (some hs) none
 
--- the lines of a sound store, and none of another one (19); "An index or text over 65535 is 19"
+-- the lines of an index behind the shares, and of a text; none where they are not those of a sound store (19)
 unfoldable pub decode : List ℕ → List ℕ → Option (List Held)
 decode i t = pick (leb (length i) indexMax && leb (length t) textMax) (guarded (walk (suc (length i)) 0 i t)) none
+
+-- ---- shares, P10
+
+-- a share of owner o stands at the front: "kind 4, that byte, share (2)"; "share 0 has no record"
+unfoldable pub isShare : ℕ → List ℕ → Bool
+isShare o i = leb 4 (length i) && (eqb (getD i 0 0) 4 && (eqb (getD i 1 0) o && leb 1 (word i 2)))
+
+-- shares by owner, and the index behind their records
+pub record Fronted : Type 0 where
+  pub shares : List ℕ
+  pub rest : List ℕ
+
+abbrev pub andShare : ℕ → Fronted → Fronted
+andShare b f = record { shares = b ∷ f .shares; rest = f .rest }
+
+-- "These stand first, by owner; share 0 has no record.": the shares of k parties from owner o on. A record out of order,
+-- doubled or of share 0 stays in the rest, which then holds no line's record there: 19
+unfoldable pub sharesAt : ℕ → ℕ → List ℕ → Fronted
+sharesAt zero o i = record { shares = []; rest = i }
+sharesAt (suc k) o i =
+    andShare (pick (isShare o i) (word i 2) 0) (sharesAt k (suc o) (pick (isShare o i) (drop 4 i) i))
+
+abbrev pub fronted : List ℕ → Fronted
+fronted i = sharesAt owners 0 i
+
+abbrev pub withLines : List ℕ → Option (List Held) → Option Content
+withLines s none = none
+withLines s (some hs) = some (record { shares = s; held = hs })
+
+-- the shares and the lines of a sound store, and none of another one (19); "An index or text over 65535 is 19"
+unfoldable pub content : List ℕ → List ℕ → Option Content
+content i t = pick (leb (length i) indexMax) (withLines (fronted i .shares) (decode (fronted i .rest) t)) none

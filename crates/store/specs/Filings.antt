@@ -12,8 +12,9 @@ use Rattle.text.specs.declared.uuid.UuidParse.the-variants.{Parsed, Invalid}
 use Rattle.store.specs.Held.{Key, Held, sameKey}
 use Rattle.store.specs.Lines.{linesOf, wanted}
 use Rattle.store.specs.Parties.{ownerOf, byOwner}
-use Rattle.store.specs.Book.{Caller, caller, noRoom, under, reach, onReached, Attempt, refused, files, Saving}
-use Rattle.store.specs.Book.{Call, clear, insert, save, Reply, bookTurn}
+use Rattle.store.specs.Shares.{Content}
+use Rattle.store.specs.Book.{Caller, caller, roomFor, byRoom, under, reach, onReached, Attempt, refused, files}
+use Rattle.store.specs.Book.{Saving, Call, clear, insert, save, share, Reply, bookTurn, bookAfter}
 
 -- a line that was filed, the call that filed it, with its place in the list, counted from 0, and what it answered
 pub record Filing (S : Saving) : Type 0 where
@@ -41,33 +42,35 @@ filedLines p x a c hs (l ∷ ls) =
 abbrev pub filedAttempt : {S : Saving} {B : Type 0} → ℕ → Call S → Reply S → Caller → List Held → Attempt B
     → List (Filing S)
 filedAttempt p x a c hs (refused v) = []
-filedAttempt p x a c hs (files h v) = pick (noRoom c h hs) [] (filing p x a h ∷ [])
+filedAttempt p x a c hs (files h v) = byRoom (roomFor c h hs) [] [] (filing p x a h ∷ [])
 
--- an insert or a save files for its owner, and nothing on 24
-abbrev pub filedAs : {S : Saving} → ℕ → Reply S → ℕ → ℕ → List Held → Call S → List (Filing S)
-filedAs p a n m hs clear = []
-filedAs p a n m hs (insert q s) =
+-- an insert or a save files for its owner, and nothing on 24; a share's setting files nothing
+abbrev pub filedAs : {S : Saving} → ℕ → Reply S → ℕ → ℕ → Content → Call S → List (Filing S)
+filedAs p a n m c clear = []
+filedAs p a n m c (insert q s) =
     byOwner (ownerOf (q .party)) []
-    (λ o. pick (isUtf8 s) (filedLines p (insert q s) a (caller n m o) hs (linesOf s)) [])
-filedAs {S} p a n m hs (save q x) =
+    (λ o. pick (isUtf8 s) (filedLines p (insert q s) a (caller n m (c .shares) o) (c .held) (linesOf s)) [])
+filedAs {S} p a n m c (save q x) =
     byOwner (ownerOf (q .party)) []
-    (λ o. filedAttempt p (save q x) a (caller n m o) hs (S .attempt o x))
+    (λ o. filedAttempt p (save q x) a (caller n m (c .shares) o) (c .held) (S .attempt o x))
+filedAs p a n m c (share q b) = []
 
--- what one call, at that place of the list, files in a book that holds hs
-abbrev pub filedBy : {S : Saving} → ℕ → ℕ → ℕ → List Held → Call S → List (Filing S)
-filedBy p n m hs x = filedAs p (bookTurn n m hs x .answer) n m hs x
+-- what one call, at that place of the list, files in a book that holds c
+abbrev pub filedBy : {S : Saving} → ℕ → ℕ → ℕ → Content → Call S → List (Filing S)
+filedBy p n m c x = filedAs p (bookTurn n m c x .answer) n m c x
 
 -- what is filed since the last clear: a clear forgets, any other call adds what it files
 abbrev pub since : {S : Saving} → Call S → List (Filing S) → List (Filing S) → List (Filing S)
 since clear fs gs = []
 since (insert q s) fs gs = fs ++ gs
 since (save q a) fs gs = fs ++ gs
+since (share q b) fs gs = fs ++ gs
 
--- the calls from place p of the list on, in a book that holds hs, fs being filed before
-unfoldable pub filings : {S : Saving} → ℕ → ℕ → ℕ → List Held → List (Filing S) → List (Call S) → List (Filing S)
-filings p n m hs fs [] = fs
-filings p n m hs fs (x ∷ xs) =
-    filings (suc p) n m (bookTurn n m hs x .held) (since x fs (filedBy p n m hs x)) xs
+-- the calls from place p of the list on, in a book that holds c, fs being filed before
+unfoldable pub filings : {S : Saving} → ℕ → ℕ → ℕ → Content → List (Filing S) → List (Call S) → List (Filing S)
+filings p n m c fs [] = fs
+filings p n m c fs (x ∷ xs) =
+    filings (suc p) n m (bookAfter n m c x) (since x fs (filedBy p n m c x)) xs
 
 -- the last of the filings under a key, if there is one
 abbrev pub laterOr : {A : Type 0} → Option A → Option A → Option A

@@ -1,5 +1,6 @@
 -- Demand 3, proved as `whole-guarantee` in ../proofs/Saves.antt: one statement about every list of calls from a fresh
--- store of n and m bytes, with document 01's own save. Each call names its party (document 02, P9).
+-- store of n and m bytes, with document 01's own save. Each call names its party (document 02, P9), and the list may hold
+-- share settings (P10).
 -- The guarantee rests on these definitions; they assume nothing.
 use mathlib.Core.Path.{_≡_}
 use mathlib.Core.Bool.{true}
@@ -21,9 +22,10 @@ use Rattle.store.specs.declared.calls.Answer.the-variants as A
 use Rattle.store.specs.declared.calls.SaveAnswer.the-variants as Sv
 use Rattle.store.specs.declared.calls.Saved.{Saved}
 use Rattle.store.specs.Lines.{linesOf, wanted}
-use Rattle.store.specs.Decode.{decode}
-use Rattle.store.specs.Book.{caller, noRoom, under, insertTurn, insertLines, insertedOf, Call, insert, save}
-use Rattle.store.specs.Book.{Reply, inserted, saved, numberOf, Run, runBook}
+use Rattle.store.specs.Shares.{Content, nothingHeld, withHeld}
+use Rattle.store.specs.Decode.{content}
+use Rattle.store.specs.Book.{Caller, caller, roomFor, byRoom, under, insertTurn, insertLines, insertedOf, Call}
+use Rattle.store.specs.Book.{insert, save, Reply, inserted, saved, numberOf, Run, runBook}
 use Rattle.store.specs.Store.{Done, Runs, runStore, storeCall, Looked, noOwner, lookedIn, lookUp}
 use Rattle.store.specs.Filings.{Filing, filings, lastFiled, lineFiled, nth}
 use Rattle.store.specs.Saves.{SaveArgs, SaveCall, saving, Passes, ReadsBack, refusedSave, acceptedSave}
@@ -41,10 +43,17 @@ abbrev pub stored : ℕ → ℕ → Calls → Runs saving
 stored n m xs = runStore (fresh n) (fresh m) xs
 
 abbrev pub booked : ℕ → ℕ → Calls → Run saving
-booked n m xs = runBook n m [] xs
+booked n m xs = runBook n m nothingHeld xs
+
+-- the lines that the book holds then, and who calls next
+abbrev pub bookLines : ℕ → ℕ → Calls → List Held
+bookLines n m xs = booked n m xs .content .held
+
+abbrev pub callerAfter : ℕ → ℕ → Calls → ℕ → Caller
+callerAfter n m xs o = caller n m (booked n m xs .content .shares) o
 
 abbrev pub lastOf : ℕ → ℕ → Calls → Key → Option (Filing saving)
-lastOf n m xs k = lastFiled k (filings 0 n m [] [] xs)
+lastOf n m xs k = lastFiled k (filings 0 n m nothingHeld [] xs)
 
 -- P9: "'Last filed' in the guarantee means by the party that looks up": what it finds then, and else none; 24 for nobody
 abbrev pub lookedFor : ℕ → ℕ → Calls → Party → Uuid → Looked
@@ -78,18 +87,18 @@ pub record FromSave (n m : ℕ) (xs : Calls) (k : Key) (f : Filing saving) (p : 
   -- that the save returned"
   pub reads : ReadsBack (c .args) (f .held .line) returned
 
--- a call answers so, and these lines are held after it
-pub record Leaves (d : Done (Reply saving)) (a : Reply saving) (hs : List Held) : Type 0 where
+-- a call answers so, and these shares and lines are held after it
+pub record Leaves (d : Done (Reply saving)) (a : Reply saving) (c : Content) : Type 0 where
   pub answer : d .answer ≡ a
-  pub held : decode (d .index) (d .text) ≡ some hs
+  pub held : content (d .index) (d .text) ≡ some c
 
 pub record Guarantee (n m : ℕ) (xs : Calls) : Type 0 where
   -- "each call's success or refusal number, an insert's count of lines and a save's map are those of
   -- document 01's book"
   pub answers : stored n m xs .answers ≡ booked n m xs .answers
   pub numbers : map numberOf (stored n m xs .answers) ≡ map numberOf (booked n m xs .answers)
-  -- the lines that are held are the book's
-  pub held : decode (stored n m xs .index) (stored n m xs .text) ≡ some (booked n m xs .held)
+  -- the shares and the lines that are held are the book's
+  pub held : content (stored n m xs .index) (stored n m xs .text) ≡ some (booked n m xs .content)
   -- "looking up any UUID finds the line last filed under it since the last clear, and finds none exactly when
   -- there is no such line", for every party
   pub finds : (p : Party) (u : Uuid)
@@ -98,24 +107,26 @@ pub record Guarantee (n m : ℕ) (xs : Calls) : Type 0 where
   pub saves : (k : Key) (f : Filing saving) (p : Named) (c : SaveCall) → lastOf n m xs k ≡ some f → f .by ≡ save p c
       → FromSave n m xs k f p c
   -- "A save [..] that passes the earlier checks", of which 24 is one, "gets 'no room' exactly when document 01's sum
-  -- doesn't fit, and else is filed."
+  -- doesn't fit, and else is filed."; P10: "'no room' is now 21 or 25"
   pub save-room : (p : Named) (o : ℕ) → ownerOf (p .party) ≡ O.Byte o → (c : SaveCall) → Passes (c .args)
       → Leaves (next n m xs (save p c))
-      (pick (noRoom (caller n m o) (builtHeld o (c .args)) (booked n m xs .held))
-      (saved (refusedSave Sv.NoRoom)) (saved (builtSave (c .args))))
-      (pick (noRoom (caller n m o) (builtHeld o (c .args)) (booked n m xs .held))
-      (booked n m xs .held) (file (builtHeld o (c .args)) (booked n m xs .held)))
+      (byRoom (roomFor (callerAfter n m xs o) (builtHeld o (c .args)) (bookLines n m xs))
+      (saved (refusedSave Sv.NoRoom)) (saved (refusedSave Sv.NoText)) (saved (builtSave (c .args))))
+      (withHeld (booked n m xs .content)
+      (byRoom (roomFor (callerAfter n m xs o) (builtHeld o (c .args)) (bookLines n m xs))
+      (bookLines n m xs) (bookLines n m xs) (file (builtHeld o (c .args)) (bookLines n m xs))))
   -- "or a wanted line that its insert reaches": the lines before it are passed, and hs is held when it is reached;
   -- where it is filed, the insert goes on with the rest
   pub insert-room : (p : Named) (o : ℕ) → ownerOf (p .party) ≡ O.Byte o
       → (s : List ℕ) (passed : List (List ℕ)) (l : List ℕ) (rest : List (List ℕ)) (u : Spelled) (hs : List Held)
       → isUtf8 s ≡ true → linesOf s ≡ passed ++ (l ∷ rest)
-      → insertLines (caller n m o) (booked n m xs .held) 0 passed ≡ insertTurn hs A.Done (length passed)
+      → insertLines (callerAfter n m xs o) (bookLines n m xs) 0 passed ≡ insertTurn hs A.Done (length passed)
       → wanted l ≡ Parsed u → length l ≤ lineMax
       → Leaves (next n m xs (insert p s))
-      (pick (noRoom (caller n m o) (under o (u .id) l) hs)
+      (byRoom (roomFor (callerAfter n m xs o) (under o (u .id) l) hs)
       (inserted (insertedOf s (record { answer = A.NoRoom; count = length passed })))
+      (inserted (insertedOf s (record { answer = A.NoText; count = length passed })))
       (inserted (insertedOf s
-      (insertLines (caller n m o) (file (under o (u .id) l) hs) (suc (length passed)) rest .answer))))
-      (pick (noRoom (caller n m o) (under o (u .id) l) hs) hs
-      (insertLines (caller n m o) (file (under o (u .id) l) hs) (suc (length passed)) rest .held))
+      (insertLines (callerAfter n m xs o) (file (under o (u .id) l) hs) (suc (length passed)) rest .answer))))
+      (withHeld (booked n m xs .content) (byRoom (roomFor (callerAfter n m xs o) (under o (u .id) l) hs) hs hs
+      (insertLines (callerAfter n m xs o) (file (under o (u .id) l) hs) (suc (length passed)) rest .held)))

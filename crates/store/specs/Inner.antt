@@ -4,9 +4,9 @@ use mathlib.Core.Path.{_≡_}
 use mathlib.Core.Bool.{Bool, true, false, not}
 use mathlib.Core.Option.{Option, none, some}
 use mathlib.Core.List.{List, [], _∷_, _++_}
-use Prim.Native.Nat.{ℕ, _+_, _/_, _%_, _≤_, _<_}
+use Prim.Native.Nat.{ℕ, _+_, _-_, _/_, _%_, _≤_, _<_}
 use lib.Dec.{eqb, ltb}
-use lib.ListN.{length, drop, take, replicate, getD, set}
+use lib.ListN.{length, take, replicate, getD, set}
 use Rattle.text.specs.Bytes.{pick, firstOf}
 use Rattle.text.specs.declared.uuid.Uuid.{Uuid}
 use Rattle.store.specs.declared.records.Head.{Head}
@@ -16,12 +16,14 @@ use Rattle.store.specs.declared.calls.Answer.the-variants as A
 use Rattle.store.specs.declared.calls.SaveAnswer.the-variants as Sv
 use Rattle.store.specs.declared.calls.Saved.{Saved}
 use Rattle.store.specs.Held.{Key, Held, file, distinct, textMax, recordSize}
-use Rattle.store.specs.Layout.{Shape, Shapes, recordBytes, recordOf, records, texts, padded, encodeRecords}
-use Rattle.store.specs.Layout.{encodeText}
-use Rattle.store.specs.Decode.{ownerAt, decode}
+use Rattle.store.specs.Layout.{Shape, Shapes, recordBytes, recordOf, records, texts}
+use Rattle.store.specs.Decode.{ownerAt, content}
 use Rattle.store.specs.Lines.{cr}
 use Rattle.text.specs.Search.{lf}
-use Rattle.store.specs.Book.{caller, noRoom, Turn, turn, files, Saving}
+use Rattle.store.specs.declared.table.Room.{Room}
+use Rattle.store.specs.declared.table.Room.the-variants as R
+use Rattle.store.specs.Shares.{shareSizes}
+use Rattle.store.specs.Book.{Caller, caller, roomFor, byRoom, Turn, turn, files, Saving}
 use Rattle.store.specs.Store.{Done, onLines}
 use Rattle.store.specs.Saves.{refusedSave, acceptedSave}
 
@@ -106,29 +108,37 @@ Once i r = (off : ℕ) (hs : List Held) → Lies off hs i → r ≡ distinct hs
 
 -- ---- filing
 
--- there is room for the line
-abbrev pub room : ℕ → ℕ → Held → List Held → Bool
-room n m h hs = not (noRoom (caller n m (h .key .owner)) h hs)
+-- the lengths of the lines, added up
+unfoldable pub lengths : List Held → ℕ
+lengths [] = 0
+lengths (h ∷ hs) = length (h .line) + lengths hs
 
--- `file_line`: r says whether there was room for the line
-abbrev pub Files : List ℕ → List ℕ → Held → Bool → List ℕ → List ℕ → Type 0
-Files i t h r i′ t′ =
-    (hs : List Held) → decode i t ≡ some hs
-    → (r ≡ room (length i) (length t) h hs)
-    × (i′ ≡ encodeRecords (length i) (pick r (file h hs) hs))
-    × (t′ ≡ encodeText (length t) (pick r (file h hs) hs))
+-- who calls, of an index of which the part behind the shares g is i
+abbrev pub behind : List ℕ → List ℕ → List ℕ → ℕ → Caller
+behind g i t o = caller (shareSizes g + length i) (length t) g o
+
+-- lines that a caller's buffers can hold beside the shares
+abbrev pub GoodFor : Caller → List Held → Type 0
+GoodFor c hs = Good (c .index - shareSizes (c .shares)) (c .text) hs
 
 -- ---- saving
 
 -- `file_built`: the end of a save, in the book and in the store
-unfoldable pub bookFile : ℕ → ℕ → List Held → Held → Turn Answer
-bookFile n m hs h =
-    pick (noRoom (caller n m (h .key .owner)) h hs) (turn A.NoRoom hs) (turn A.Done (file h hs))
+unfoldable pub bookFile : Caller → List Held → Held → Turn Answer
+bookFile c hs h = byRoom (roomFor c h hs) (turn A.NoRoom hs) (turn A.NoText hs) (turn A.Done (file h hs))
 
 unfoldable pub storeFile : List ℕ → List ℕ → Held → Done Answer
-storeFile i t h = onLines i t (decode i t) A.Unsound (λ hs. bookFile (length i) (length t) hs h)
+storeFile i t h =
+    onLines i t (content i t) A.Unsound
+    (λ c. bookFile (caller (length i) (length t) (c .shares) (h .key .owner)) (c .held) h)
 
--- `saved_as`: what a save answers by what filing its line answers (which is done, 21 or 19)
+-- `room_answer`: what filing a line answers by its room
+abbrev pub roomAnswer : Room → Answer
+roomAnswer R.Fits = A.Done
+roomAnswer R.IndexFull = A.NoRoom
+roomAnswer R.TextFull = A.NoText
+
+-- `saved_as`: what a save answers by what filing its line answers (which is done, 21, 25 or 19)
 abbrev pub saidBy : Mapping → Answer → Saved
 saidBy m A.Done = acceptedSave m
 saidBy m (A.NotUtf8 place) = refusedSave Sv.Unsound
@@ -137,8 +147,11 @@ saidBy m A.LineTooLong = refusedSave Sv.Unsound
 saidBy m A.NoRoom = refusedSave Sv.NoRoom
 saidBy m A.BufferTooLarge = refusedSave Sv.Unsound
 saidBy m A.NoOwner = refusedSave Sv.Unsound
+saidBy m A.NoText = refusedSave Sv.NoText
+saidBy m A.ShareTooLarge = refusedSave Sv.Unsound
 
--- what the layer that builds owes: a line that is attempted is its owner's, has from 1 to `lineMax` bytes, and reads back
+-- what the layer that builds owes: a line that is attempted is its owner's, has from 1 to `lineMax` bytes, and reads
+-- back
 pub record Builds (S : Saving) : Type 0 where
   pub owner : (o : ℕ) (a : S .Args) (h : Held) (v : S .Value) → S .attempt o a ≡ files h v → h .key .owner ≡ o
   pub shape : (o : ℕ) → o < 256 → (a : S .Args) (h : Held) (v : S .Value) → S .attempt o a ≡ files h v → Shape h

@@ -12,7 +12,7 @@ use Rattle.store.specs.declared.parties.Party.{Party}
 use Rattle.store.specs.declared.owners.Owner.the-variants as O
 use Rattle.store.specs.Parties.{ownerOf, byOwner}
 use Rattle.store.specs.Held.{indexMax, textMax}
-use Rattle.store.specs.Book.{Call, clear, insert, save, Reply}
+use Rattle.store.specs.Book.{Call, clear, insert, save, share, Reply}
 use Rattle.store.specs.Store.{Runs, lookUp}
 use Rattle.store.specs.Saves.{SaveArgs, saving}
 use Rattle.store.specs.Guarantee.{Calls, stored}
@@ -24,11 +24,13 @@ pub data Own : Type 0 where
   inserts : List ℕ → Own
   saves : SaveArgs → Own
 
--- what a call asks if it is a clear or that owner's own; none of another party's, and of nobody's (24)
+-- what a call asks if it is a clear or that owner's own; none of another party's, of nobody's (24), and
+-- of a share's setting, which files nothing (P10)
 abbrev pub ownCall : ℕ → Call saving → Option Own
 ownCall o clear = some clears
 ownCall o (insert p s) = byOwner (ownerOf (p .party)) none (λ q. pick (eqb q o) (some (inserts s)) none)
 ownCall o (save p c) = byOwner (ownerOf (p .party)) none (λ q. pick (eqb q o) (some (saves (c .args))) none)
+ownCall o (share q b) = none
 
 -- such a call and its result: number, place, count and spellings of an insert, number, place, code and map of a save
 pub record Deed : Type 0 where

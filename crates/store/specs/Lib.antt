@@ -2,6 +2,7 @@
 -- Table and Sights serve private functions only.
 pub mod Parties
 pub mod Held
+pub mod Shares
 pub mod Layout
 pub mod Decode
 pub mod Lines
@@ -15,9 +16,13 @@ pub mod Promises
 pub mod Older
 pub mod Near
 pub mod Isolation
+pub mod SharesKept
 pub mod Forms
 -- what private functions and proofs need
 pub mod Inner
+pub mod Fronts
+pub mod Claims
+pub mod Settings
 pub mod Keys
 pub mod Rows
 pub mod Table

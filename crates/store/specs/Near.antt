@@ -15,8 +15,9 @@ use Rattle.store.specs.declared.parties.Party.{Party}
 use Rattle.store.specs.Parties.{ownerOf, byOwner}
 use Rattle.store.specs.declared.near.NearLook.{NearLook}
 use Rattle.store.specs.declared.near.NearLook.the-variants as N
-use Rattle.store.specs.Held.{Key, Held, keyBy, find}
-use Rattle.store.specs.Decode.{decode}
+use Rattle.store.specs.Held.{Key, keyBy, find}
+use Rattle.store.specs.Shares.{Content}
+use Rattle.store.specs.Decode.{content}
 use Rattle.store.specs.Store.{Looked, found, nothing, unsound, noOwner, lookUp}
 use Rattle.store.specs.Filings.{lineFiled}
 use Rattle.store.specs.Guarantee.{Calls, stored, lastOf}
@@ -40,13 +41,13 @@ nearIn none none = neither
 abbrev pub plainKey : Key → Key
 plainKey k = keyBy (k .owner) (withoutChecksum (k .uuid))
 
-abbrev pub nearAt : Key → Option (List Held) → Nearby
+abbrev pub nearAt : Key → Option Content → Nearby
 nearAt k none = damaged
-nearAt k (some hs) = nearIn (find k hs) (find (plainKey k) hs)
+nearAt k (some c) = nearIn (find k (c .held)) (find (plainKey k) (c .held))
 
 -- what two buffers hold under a key, or under it without its checksum; 19 where they encode no list of lines
 unfoldable pub nearBy : Key → List ℕ → List ℕ → Nearby
-nearBy k i t = nearAt k (decode i t)
+nearBy k i t = nearAt k (content i t)
 
 -- the look-up names its party; 24 first
 unfoldable pub nearUp : Party → Uuid → List ℕ → List ℕ → Nearby

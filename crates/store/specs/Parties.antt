@@ -28,3 +28,8 @@ EightBits (P.Organiser b) = b < 256
 pub record Named : Type 0 where
   pub party : Party
   pub bits : EightBits party
+
+-- P10: "each party, named by its owner byte (0 is the hall)", in a list of calls
+pub record OwnerByte : Type 0 where
+  pub byte : ℕ
+  pub bits : byte < 256

@@ -28,8 +28,8 @@ use Rattle.store.specs.Parties.{ownerOf, Named}
 use Rattle.store.specs.Held.{keyBy}
 use Rattle.store.specs.Lines.{linesOf, wanted}
 use Rattle.store.specs.Refusals.{number, saveNumber}
-use Rattle.store.specs.Book.{Call, clear, insert, save, saved}
-use Rattle.store.specs.Store.{Done, unchanged, storeClear, storeInsert, lookUp, found}
+use Rattle.store.specs.Book.{Call, clear, insert, save, share, saved}
+use Rattle.store.specs.Store.{Done, unchanged, storeClear, storeInsert, storeShare, lookUp, found}
 use Rattle.store.specs.Saves.{SaveArgs, SaveCall, storeSave, saving, ReadsBack}
 use Rattle.store.specs.Filings.{Filing, filings, lastFiled}
 use Rattle.store.specs.Guarantee.{Calls, stored, booked, next, builtSave}
@@ -60,6 +60,7 @@ pub record RefusalsLeave (i t : List ℕ) : Type 0 where
   pub clear-refused : (number (storeClear i t .answer) ≡ 0 → ⊥) → Untouched i t (storeClear i t)
   pub save-refused : (p : Party) (a : SaveArgs) → (saveNumber (storeSave i t p a .answer .answer) ≡ 0 → ⊥)
       → Untouched i t (storeSave i t p a)
+  pub share-refused : (o b : ℕ) → (number (storeShare i t o b .answer) ≡ 0 → ⊥) → Untouched i t (storeShare i t o b)
   pub insert-24 : (p : Party) (s : List ℕ) → number (storeInsert i t p s .answer .answer) ≡ 24
       → Untouched i t (storeInsert i t p s)
   pub insert-19 : (p : Party) (s : List ℕ) → number (storeInsert i t p s .answer .answer) ≡ 19
@@ -107,10 +108,11 @@ hasClear [] = false
 hasClear (clear ∷ xs) = true
 hasClear (insert p s ∷ xs) = hasClear xs
 hasClear (save p c ∷ xs) = hasClear xs
+hasClear (share q b ∷ xs) = hasClear xs
 
 -- what the calls ys file after the calls xs
 abbrev pub filedAfter : ℕ → ℕ → Calls → Calls → List (Filing saving)
-filedAfter n m xs ys = filings (length xs) n m (booked n m xs .held) [] ys
+filedAfter n m xs ys = filings (length xs) n m (booked n m xs .content) [] ys
 
 -- the calls xs, a save, and the calls ys
 abbrev pub around : Calls → Named → SaveCall → Calls → Calls

@@ -51,7 +51,7 @@ refusedSave a = record { answer = a; map = emptyMap }
 abbrev pub acceptedSave : Mapping → Saved
 acceptedSave m = record { answer = Sv.Done; map = m }
 
--- "Save: as build without 18, then 22", and then 19, 21: an owner's save
+-- "Save: as build without 18, then 22", and then 19, 21, P10's 25: an owner's save
 abbrev pub attemptAfter : ℕ → SaveArgs → MappingAnswer → Attempt Saved
 attemptAfter o a (Refused e) = refused (refusedSave (Sv.Refused e))
 attemptAfter o a Accepted =
@@ -62,16 +62,16 @@ attemptAfter o a Accepted =
 unfoldable pub attemptOf : ℕ → SaveArgs → Attempt Saved
 attemptOf o a = attemptAfter o a (checksOf (a .slots) (a .buttons) (a .axes) (a .name))
 
--- a save that passes build's checks and 22: what comes then are 19 and 21
+-- a save that passes build's checks and 22: what comes then are 19, 21 and 25
 pub record Passes (a : SaveArgs) : Type 0 where
   pub build : checksOf (a .slots) (a .buttons) (a .axes) (a .name) ≡ Accepted
   pub name : unsavedName (a .name) ≡ false
 
--- "Save builds a line and files it": 24, then "as build without 18, then 22, 19, 21"
+-- "Save builds a line and files it": 24, then "as build without 18, then 22, 19, 21", and 25
 unfoldable pub storeSave : List ℕ → List ℕ → Party → SaveArgs → Done Saved
 storeSave i t p a =
     byOwner (ownerOf p) (unchanged i t (refusedSave Sv.NoOwner))
-    (λ o. storeAttempt (refusedSave Sv.Unsound) (refusedSave Sv.NoRoom) i t o (attemptOf o a))
+    (λ o. storeAttempt (refusedSave Sv.Unsound) (refusedSave Sv.NoRoom) (refusedSave Sv.NoText) i t o (attemptOf o a))
 
 -- "reading it with that save's button and axis lists gives the map, name, default flag (off) and hat flags (zero) that
 -- the save returned"; the name is the bytes of the line at the map's name start and length
@@ -95,6 +95,7 @@ saving = record {
   nobody = refusedSave Sv.NoOwner;
   unsound = refusedSave Sv.Unsound;
   full = refusedSave Sv.NoRoom;
+  crowded = refusedSave Sv.NoText;
   number = λ v. saveNumber (v .answer);
   Reads = λ c. ReadsBack (c .args);
 }

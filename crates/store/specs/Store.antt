@@ -13,14 +13,18 @@ use Rattle.store.specs.declared.calls.Inserted.{Inserted}
 use Rattle.store.specs.declared.calls.Tally.{Tally}
 use Rattle.store.specs.declared.calls.Look.{Look}
 use Rattle.store.specs.declared.calls.Look.the-variants as L
+use Rattle.store.specs.declared.sharing.ShareTold.{ShareTold}
+use Rattle.store.specs.declared.sharing.ShareTold.the-variants as T
 use Rattle.text.specs.declared.uuid.Uuid.{Uuid}
 use Rattle.store.specs.declared.parties.Party.{Party}
 use Rattle.store.specs.Parties.{ownerOf, byOwner}
-use Rattle.store.specs.Held.{Key, Held, keyBy, find, indexMax, textMax}
-use Rattle.store.specs.Layout.{encodeRecords, encodeText}
-use Rattle.store.specs.Decode.{decode}
-use Rattle.store.specs.Book.{caller, Turn, bookWalk, insertedOf, nobodyInserts, bookAttempt, Attempt, refused}
-use Rattle.store.specs.Book.{files, Saving, Call, clear, insert, save, Reply, cleared, inserted, saved}
+use Rattle.store.specs.Held.{Key, keyBy, find, indexMax, textMax}
+use Rattle.store.specs.Shares.{Content, shareOf, useOf, withHeld}
+use Rattle.store.specs.Layout.{encodeIndex, encodeText}
+use Rattle.store.specs.Decode.{content}
+use Rattle.store.specs.Book.{caller, Turn, turn, bookWalk, insertedOf, nobodyInserts, bookAttempt, Attempt, refused}
+use Rattle.store.specs.Book.{files, Setting, bookShare, Saving, Call, clear, insert, save, share}
+use Rattle.store.specs.Book.{Reply, cleared, inserted, saved, shared}
 
 -- an answer, and the two buffers afterwards
 pub record Done (A : Type 0) : Type 0 where
@@ -31,19 +35,23 @@ pub record Done (A : Type 0) : Type 0 where
 abbrev pub unchanged : {A : Type 0} → List ℕ → List ℕ → A → Done A
 unchanged i t a = record { answer = a; index = i; text = t }
 
--- the buffers afterwards encode the lines that the book holds
-abbrev pub holding : {A : Type 0} → List ℕ → List ℕ → Turn A → Done A
-holding i t r = record {
-  answer = r .answer;
-  index = encodeRecords (length i) (r .held);
-  text =
-      encodeText (length t) (r .held);
+-- the buffers afterwards encode the shares and the lines that the book holds
+abbrev pub holding : {A : Type 0} → List ℕ → List ℕ → A → Content → Done A
+holding i t a c = record {
+  answer = a;
+  index = encodeIndex (length i) (c .shares) (c .held);
+  text = encodeText (length t) (c .held);
 }
 
 -- of a sound store, what the book does to its lines; of another one, the answer of 19 and nothing changed
-abbrev pub onLines : {A : Type 0} → List ℕ → List ℕ → Option (List Held) → A → (List Held → Turn A) → Done A
+abbrev pub onLines : {A : Type 0} → List ℕ → List ℕ → Option Content → A → (Content → Turn A) → Done A
 onLines i t none e f = unchanged i t e
-onLines i t (some hs) e f = holding i t (f hs)
+onLines i t (some c) e f = holding i t (f c .answer) (withHeld c (f c .held))
+
+-- the same for its shares
+abbrev pub onShares : List ℕ → List ℕ → Option Content → (Content → Setting) → Done Answer
+onShares i t none f = unchanged i t A.Unsound
+onShares i t (some c) f = holding i t (f c .answer) (f c .content)
 
 -- both buffers are within the limit
 abbrev pub fitting : List ℕ → List ℕ → Bool
@@ -56,11 +64,11 @@ storeClear i t =
     (record { answer = A.Done; index = replicate (length i) 0; text = replicate (length t) 0 })
     (unchanged i t A.BufferTooLarge)
 
--- "Insert 19, 10, then per line 20, 21"; "0 on 19 or 10": for an owner
+-- "Insert 19, 10, then per line 20, 21", and P10's 25; "0 on 19 or 10": for an owner
 unfoldable pub storeWalk : List ℕ → List ℕ → ℕ → List ℕ → Done Tally
 storeWalk i t o s =
-    onLines i t (decode i t) (record { answer = A.Unsound; count = 0 })
-    (λ hs. bookWalk (caller (length i) (length t) o) hs s)
+    onLines i t (content i t) (record { answer = A.Unsound; count = 0 })
+    (λ c. bookWalk (caller (length i) (length t) (c .shares) o) (c .held) s)
 
 -- with the number of lines that were filed in another form than 32 digits (request P11)
 unfoldable pub ownInsert : List ℕ → List ℕ → ℕ → List ℕ → Done Inserted
@@ -74,11 +82,25 @@ ownInsert i t o s = record {
 unfoldable pub storeInsert : List ℕ → List ℕ → Party → List ℕ → Done Inserted
 storeInsert i t p s = byOwner (ownerOf p) (unchanged i t nobodyInserts) (λ o. ownInsert i t o s)
 
--- "then 22, 19, 21": an owner's save, by what its own checks come to
-abbrev pub storeAttempt : {B : Type 0} → B → B → List ℕ → List ℕ → ℕ → Attempt B → Done B
-storeAttempt unsound full i t o (refused v) = unchanged i t v
-storeAttempt unsound full i t o (files h v) =
-    onLines i t (decode i t) unsound (λ hs. bookAttempt full (caller (length i) (length t) o) hs (files h v))
+-- "then 22, 19, 21", and 25: an owner's save, by what its own checks come to
+abbrev pub storeAttempt : {B : Type 0} → B → B → B → List ℕ → List ℕ → ℕ → Attempt B → Done B
+storeAttempt unsound full crowded i t o (refused v) = unchanged i t v
+storeAttempt unsound full crowded i t o (files h v) =
+    onLines i t (content i t) unsound
+    (λ c. bookAttempt full crowded (caller (length i) (length t) (c .shares) o) (c .held) (files h v))
+
+-- P10: the share of an owner's party is set; 19, 26, 21
+unfoldable pub storeShare : List ℕ → List ℕ → ℕ → ℕ → Done Answer
+storeShare i t o b = onShares i t (content i t) (λ c. bookShare (length i) (length t) c o b)
+
+-- P10: what is told of a party, its share and its use; 19 where the store is not sound
+abbrev pub toldOf : ℕ → Option Content → ShareTold
+toldOf o none = T.Unsound
+toldOf o (some c) = T.Told (record { share = shareOf o (c .shares); used = useOf o (c .held) })
+
+-- P10: the share and the use of an owner's party, or 19
+unfoldable pub storeTold : List ℕ → List ℕ → ℕ → ShareTold
+storeTold i t o = toldOf o (content i t)
 
 -- ---- look-up
 
@@ -93,13 +115,13 @@ abbrev pub lookedIn : Option (List ℕ) → Looked
 lookedIn none = nothing
 lookedIn (some l) = found l
 
-abbrev pub lookedAt : Key → Option (List Held) → Looked
+abbrev pub lookedAt : Key → Option Content → Looked
 lookedAt k none = unsound
-lookedAt k (some hs) = lookedIn (find k hs)
+lookedAt k (some c) = lookedIn (find k (c .held))
 
 -- what two buffers hold under a key; 19 where they encode no list of lines
 unfoldable pub lookBy : Key → List ℕ → List ℕ → Looked
-lookBy k i t = lookedAt k (decode i t)
+lookBy k i t = lookedAt k (content i t)
 
 -- a look-up names its party, and finds that party's line; 24 first
 unfoldable pub lookUp : Party → Uuid → List ℕ → List ℕ → Looked
@@ -129,7 +151,8 @@ storeCall i t clear = answered cleared (storeClear i t)
 storeCall i t (insert p s) = answered inserted (storeInsert i t (p .party) s)
 storeCall {S} i t (save p a) =
     answered saved (byOwner (ownerOf (p .party)) (unchanged i t (S .nobody))
-    (λ o. storeAttempt (S .unsound) (S .full) i t o (S .attempt o a)))
+    (λ o. storeAttempt (S .unsound) (S .full) (S .crowded) i t o (S .attempt o a)))
+storeCall i t (share q b) = answered shared (storeShare i t (q .byte) b)
 
 -- the answers to a list of calls, and the buffers at its end
 pub record Runs (S : Saving) : Type 0 where

@@ -10,20 +10,27 @@ use lib.Dec.{eqb, ltb}
 use lib.ListN.{length, take, drop, replicate}
 use Rattle.text.specs.Bytes.{pick}
 use Rattle.store.specs.declared.table.Fill.{Fill}
+use Rattle.store.specs.declared.table.Room.{Room}
+use Rattle.store.specs.declared.table.Room.the-variants as R
+use Rattle.store.specs.declared.table.Tried.{Tried}
+use Rattle.store.specs.declared.claims.Dues.{Dues}
 use Rattle.store.specs.declared.settle.Kept.{Kept}
 use Rattle.store.specs.declared.soundness.Surveyed.{Surveyed}
 use Rattle.store.specs.declared.soundness.Stock.{Stock}
 use Rattle.store.specs.declared.look.Seen.{Seen}
+use Rattle.store.specs.declared.calls.Tally.{Tally}
 use Rattle.store.specs.declared.batch.Step.{Step}
 use Rattle.store.specs.declared.batch.Walked.{Walked}
 use Rattle.store.specs.Held.{Key, Held, file, indexMax, textMax, lineMax}
-use Rattle.store.specs.Decode.{walk, decode}
-use Rattle.store.specs.Book.{Caller, caller, after, stopped, reach, insertTurn, insertLines}
+use Rattle.store.specs.Decode.{walk, decode, content}
+use Rattle.store.specs.Fronts.{Fronts}
+use Rattle.store.specs.Claims.{Owed}
+use Rattle.store.specs.Book.{Caller, roomFor, byRoom, after, stopped, reach, insertTurn, insertLines}
 use Rattle.store.specs.Lines.{linesOf}
 use Rattle.store.specs.Layout.{recordBytes, records, texts, encodeRecords, encodeText}
 use Rattle.store.specs.Keys.{rowsMax, Says, Lists, Chained}
 use Rattle.store.specs.Rows.{keyIn, startIn, lenIn, lenPut, Long}
-use Rattle.store.specs.Inner.{known, Good, Fitted, room, sizes}
+use Rattle.store.specs.Inner.{known, Fitted, behind, GoodFor, sizes}
 use Rattle.store.specs.Store.{lookBy, saysOf, lineOf}
 
 -- the lines of the first n numbers, each of which gives one line or none
@@ -154,9 +161,11 @@ pub record Surveys (i t : List ℕ) (a : List ℕ) (heads next : List ℕ) (r : 
   pub loads : r .whole ≡ true → Loads i a heads next (r .fill)
 
 -- `take_stock`: the store is sound
-pub record Stocks (i t : List ℕ) (a : List ℕ) (heads next : List ℕ) (r : Stock) : Type 0 where
-  pub is : r .sound ≡ known (decode i t)
-  pub loads : r .sound ≡ true → Loads i a heads next (r .fill) × (r .fill .count < rowsMax)
+pub record Stocks (i t g : List ℕ) (a : List ℕ) (heads next : List ℕ) (r : Stock) : Type 0 where
+  pub is : r .sound ≡ known (content i t)
+  pub front : r .sound ≡ true → Fronts i g (r .front)
+  pub most : r .sound ≡ true → length i ≤ indexMax
+  pub loads : r .sound ≡ true → Loads (drop (r .front) i) a heads next (r .fill) × (r .fill .count < rowsMax)
 
 -- `look`: what a look-up says, and where the line lies
 pub record Sees (i t : List ℕ) (k : Key) (r : Seen) : Type 0 where
@@ -181,45 +190,63 @@ pub record Short (l : List ℕ) : Type 0 where
   pub most : length l ≤ lineMax
 
 -- `file_row`: a line of those that are inserted, for lines that are so written down
-pub record Files′ (i t s : List ℕ) (a : List ℕ) (heads next : List ℕ) (old : ℕ) (f : Fill) (u : Key)
-    (start len : ℕ) (hs : List Held) : Type 0 where
+pub record Files′ (g : List ℕ) (d : Dues) (i t s : List ℕ) (a : List ℕ) (heads next : List ℕ) (old : ℕ) (f : Fill)
+    (u : Key) (start len : ℕ) (hs : List Held) : Type 0 where
+  pub owed : Owed g (u .owner) hs d
   pub in-rows : InRows i t s a heads next old f hs
   pub inside : start + len ≤ length s
   pub shape : Short (take len (drop start s))
 
-abbrev pub Fileable : List ℕ → List ℕ → List ℕ → List ℕ → List ℕ → Fill → Key → ℕ → ℕ → Type 0
-Fileable i t a heads next f u start len =
-    (s : List ℕ) × ((old : ℕ) × ((hs : List Held) × Files′ i t s a heads next old f u start len hs))
+abbrev pub Fileable : Dues → List ℕ → List ℕ → List ℕ → List ℕ → List ℕ → Fill → Key → ℕ → ℕ → Type 0
+Fileable d i t a heads next f u start len =
+    (g s : List ℕ) × ((old : ℕ) × ((hs : List Held) × Files′ g d i t s a heads next old f u start len hs))
 
 -- it is filed, or there is no room and the lines are as before
-pub data Filed (i t s : List ℕ) (a : List ℕ) (heads next : List ℕ) (old : ℕ) (f : Fill) (h : Held)
-    (hs : List Held) (r : Fill) : Type 0 where
-  fits : room (length i) (length t) h hs ≡ true → r .count ≡ f .count + 1 → InRows i t s a heads next old r (file h hs)
-      → Filed i t s a heads next old f h hs r
-  full : room (length i) (length t) h hs ≡ false → r .count ≡ f .count → Tabled i t s a old (f .count) hs
-      → Filed i t s a heads next old f h hs r
+pub data Filed (g i t s : List ℕ) (a : List ℕ) (heads next : List ℕ) (old : ℕ) (f : Fill) (h : Held)
+    (hs : List Held) (r : Tried) : Type 0 where
+  fits : roomFor (behind g i t (h .key .owner)) h hs ≡ R.Fits → r .room ≡ R.Fits
+      → InRows i t s a heads next old (r .fill) (file h hs) → Filed g i t s a heads next old f h hs r
+  full : roomFor (behind g i t (h .key .owner)) h hs ≡ r .room → (r .room ≡ R.Fits → ⊥)
+      → Tabled i t s a old (f .count) hs → Filed g i t s a heads next old f h hs r
 
-abbrev pub FilesRow : List ℕ → List ℕ → List ℕ → List ℕ → List ℕ → Fill → Key → ℕ → ℕ → List ℕ → List ℕ → List ℕ
-    → Fill → Type 0
-FilesRow i t a heads next f u start len a′ heads′ next′ r =
-    (s : List ℕ) (old : ℕ) (hs : List Held) → Files′ i t s a heads next old f u start len hs
-    → Filed i t s a′ heads′ next′ old f (record { key = u; line = take len (drop start s) }) hs r
+abbrev pub FilesRow : Dues → List ℕ → List ℕ → List ℕ → List ℕ → List ℕ → Fill → Key → ℕ → ℕ → List ℕ → List ℕ
+    → List ℕ → Tried → Type 0
+FilesRow d i t a heads next f u start len a′ heads′ next′ r =
+    (g s : List ℕ) (old : ℕ) (hs : List Held) → Files′ g d i t s a heads next old f u start len hs
+    → Filed g i t s a′ heads′ next′ old f (record { key = u; line = take len (drop start s) }) hs r
 
-abbrev pub SomeRows : List ℕ → List ℕ → List ℕ → List ℕ → List ℕ → List ℕ → Fill → Type 0
-SomeRows i t s a heads next f = (old : ℕ) × ((hs : List Held) × InRows i t s a heads next old f hs)
+-- the buffers encode those lines
+pub record Encoded (n m : ℕ) (i t : List ℕ) (hs : List Held) : Type 0 where
+  pub index : i ≡ encodeRecords n hs
+  pub text : t ≡ encodeText m hs
+
+-- `file_line`: one line of a save; r says whether there was room for it. The index is the part behind the shares g
+abbrev pub SomeDues : Dues → ℕ → List ℕ → List ℕ → Type 0
+SomeDues d o i t = (g : List ℕ) × ((hs : List Held) → decode i t ≡ some hs → Owed g o hs d)
+
+abbrev pub FilesLine : Dues → List ℕ → List ℕ → Held → Room → List ℕ → List ℕ → Type 0
+FilesLine d i t h r i′ t′ =
+    (g : List ℕ) (hs : List Held) → decode i t ≡ some hs → Owed g (h .key .owner) hs d
+    → (r ≡ roomFor (behind g i t (h .key .owner)) h hs)
+    × Encoded (length i) (length t) i′ t′ (byRoom r hs hs (file h hs))
+
+abbrev pub SomeRows : Dues → ℕ → List ℕ → List ℕ → List ℕ → List ℕ → List ℕ → List ℕ → Fill → Type 0
+SomeRows d o i t s a heads next f =
+    (g : List ℕ) × ((old : ℕ) × ((hs : List Held) × (Owed g o hs d × InRows i t s a heads next old f hs)))
 
 -- `reach_row`: what one line of an insert does
-pub data Comes (i t s : List ℕ) (a : List ℕ) (heads next : List ℕ) (old o : ℕ) (l : List ℕ) (hs : List Held)
+pub data Comes (g i t s : List ℕ) (a : List ℕ) (heads next : List ℕ) (old o : ℕ) (l : List ℕ) (hs : List Held)
     (r : Step) : Type 0 where
-  goes : (ks : List Held) → reach (caller (length i) (length t) o) hs l ≡ after ks → r .on ≡ true
-      → InRows i t s a heads next old (r .fill) ks → Comes i t s a heads next old o l hs r
-  stops : reach (caller (length i) (length t) o) hs l ≡ stopped (r .answer) → r .on ≡ false
-      → Tabled i t s a old (r .fill .count) hs → Comes i t s a heads next old o l hs r
+  goes : (ks : List Held) → reach (behind g i t o) hs l ≡ after ks → r .on ≡ true
+      → InRows i t s a heads next old (r .fill) ks → Comes g i t s a heads next old o l hs r
+  stops : reach (behind g i t o) hs l ≡ stopped (r .answer) → r .on ≡ false
+      → Tabled i t s a old (r .fill .count) hs → Comes g i t s a heads next old o l hs r
 
-abbrev pub ReachesRow : List ℕ → List ℕ → List ℕ → List ℕ → List ℕ → List ℕ → Fill → ℕ → List ℕ → List ℕ → List ℕ
-    → List ℕ → Step → Type 0
-ReachesRow i t s a heads next f o l a′ heads′ next′ r =
-    (old : ℕ) (hs : List Held) → InRows i t s a heads next old f hs → Comes i t s a′ heads′ next′ old o l hs r
+abbrev pub ReachesRow : Dues → List ℕ → List ℕ → List ℕ → List ℕ → List ℕ → List ℕ → Fill → ℕ → List ℕ → List ℕ
+    → List ℕ → List ℕ → Step → Type 0
+ReachesRow d i t s a heads next f o l a′ heads′ next′ r =
+    (g : List ℕ) (old : ℕ) (hs : List Held) → Owed g o hs d → InRows i t s a heads next old f hs
+    → Comes g i t s a′ heads′ next′ old o l hs r
 
 -- `take_lines`, `insert_batch`: the lines from `from` on are walked, to the end, to one that stops the insert, or to a
 -- place from which it goes on; P holds of the lines that are held then
@@ -228,10 +255,10 @@ pub data Takes (by : Caller) (s : List ℕ) (from : ℕ) (hs : List Held) (r : W
   onward : (ks : List Held) → r .on ≡ true
       → ((c : ℕ) → insertLines by hs c (linesOf (drop from s))
       ≡ insertLines by ks (c + r .count) (linesOf (drop (r .at) s)))
-      → (Good (by .index) (by .text) hs → Good (by .index) (by .text) ks) → P ks → Takes by s from hs r P
+      → (GoodFor by hs → GoodFor by ks) → P ks → Takes by s from hs r P
   halted : (ks : List Held) → r .on ≡ false
       → ((c : ℕ) → insertLines by hs c (linesOf (drop from s)) ≡ insertTurn ks (r .answer) (c + r .count))
-      → (Good (by .index) (by .text) hs → Good (by .index) (by .text) ks) → P ks → Takes by s from hs r P
+      → (GoodFor by hs → GoodFor by ks) → P ks → Takes by s from hs r P
 
 -- how far it went; f numbers were taken before
 pub record Went (s : List ℕ) (from f : ℕ) (r : Walked) : Type 0 where
@@ -239,17 +266,20 @@ pub record Went (s : List ℕ) (from f : ℕ) (r : Walked) : Type 0 where
   pub counted : from + r .count ≤ r .at
   pub moved : f < rowsMax → from < length s → r .on ≡ true → from < r .at
 
-abbrev pub TakesLines : List ℕ → List ℕ → List ℕ → List ℕ → List ℕ → List ℕ → ℕ → ℕ → Fill → List ℕ → Walked → Type 0
-TakesLines i t s a heads next o from f a′ r =
-    (old : ℕ) (hs : List Held) → InRows i t s a heads next old f hs
-    → Takes (caller (length i) (length t) o) s from hs r (Tabled i t s a′ old (r .filled))
+abbrev pub TakesLines : Dues → List ℕ → List ℕ → List ℕ → List ℕ → List ℕ → List ℕ → ℕ → ℕ → Fill → List ℕ → Walked
+    → Type 0
+TakesLines d i t s a heads next o from f a′ r =
+    (g : List ℕ) (old : ℕ) (hs : List Held) → Owed g o hs d → InRows i t s a heads next old f hs
+    → Takes (behind g i t o) s from hs r (Tabled i t s a′ old (r .filled))
 
--- the buffers encode those lines
-pub record Encoded (n m : ℕ) (i t : List ℕ) (hs : List Held) : Type 0 where
-  pub index : i ≡ encodeRecords n hs
-  pub text : t ≡ encodeText m hs
-
-abbrev pub Batches : List ℕ → List ℕ → ℕ → List ℕ → ℕ → Walked → List ℕ → List ℕ → Type 0
-Batches i t o s from r i′ t′ =
+abbrev pub Batches : List ℕ → List ℕ → List ℕ → ℕ → List ℕ → ℕ → Walked → List ℕ → List ℕ → Type 0
+Batches g i t o s from r i′ t′ =
     (hs : List Held) → decode i t ≡ some hs
-    → Takes (caller (length i) (length t) o) s from hs r (Encoded (length i) (length t) i′ t′)
+    → Takes (behind g i t o) s from hs r (Encoded (length i) (length t) i′ t′)
+
+-- `insert_all`: all lines are walked, into the index behind the shares
+abbrev pub InsertsAll : List ℕ → List ℕ → List ℕ → ℕ → List ℕ → Tally → List ℕ → List ℕ → Type 0
+InsertsAll g i t o s r i′ t′ =
+    (hs : List Held) → decode i t ≡ some hs
+    → (r ≡ insertLines (behind g i t o) hs 0 (linesOf s) .answer)
+    × Encoded (length i) (length t) i′ t′ (insertLines (behind g i t o) hs 0 (linesOf s) .held)

@@ -1,5 +1,7 @@
 // A part of an insert: lines are filed by number, as long as there are numbers, and what is held is then written out.
 use crate::calls::Answer;
+use crate::claims::Dues;
+use crate::claims::dues_of;
 use crate::lines::line_length;
 use crate::lines::wanted;
 use crate::parties::Key;
@@ -7,9 +9,11 @@ use crate::rows::CELLS;
 use crate::rows::ROWS;
 use crate::search::find_far;
 use crate::settle::settle;
+use crate::shares::OWNERS;
 use crate::soundness::LINE_MAX;
 use crate::soundness::survey;
 use crate::table::Fill;
+use crate::table::Room;
 use crate::table::file_row;
 use text::uuid::UuidParse;
 ghost use mathlib.Core.Path.{_≡_};
@@ -18,6 +22,7 @@ ghost use Prim.Native.Nat.{ℕ, suc, _+_, _-_, _≤_, _<_};
 ghost use lib.ListN.{length, take, drop};
 ghost use Rattle.store.specs.Decode.{decode};
 ghost use Rattle.store.specs.Inner.{known};
+ghost use Rattle.store.specs.Layout.{Given};
 ghost use Rattle.store.specs.Keys.{rowsMax};
 ghost use Rattle.store.specs.Table.{SomeRows, ReachesRow, TakesLines, Went, Batches};
 
@@ -58,17 +63,18 @@ fn reach_row(
     heads: &mut [u16; ROWS],
     next: &mut [u16; ROWS],
     fill: Fill,
+    dues: Dues,
     owner: u8,
     at: usize,
     len: usize,
 ) -> Step
     requires { ⌜ (fill .count < rowsMax) × (at + len ≤ length (now lines)) ⌝ }
     requires { ⌜
-        SomeRows (now index) (now text) (now lines)
+        SomeRows dues owner (now index) (now text) (now lines)
         (now rows) (now heads) (now next)
         fill ⌝ }
     ensures { λ r. ⌜
-        ReachesRow (now (index .entry)) (now (text .entry))
+        ReachesRow dues (now (index .entry)) (now (text .entry))
         (now (lines .entry))
         (now (rows .entry)) (now (heads .entry)) (now (next .entry)) fill owner
         (take len (drop at (now (lines .entry))))
@@ -86,14 +92,17 @@ fn reach_row(
     }
     let uuid = spelled.id;
     let key = Key { owner, uuid };
-    let filled = file_row(index, text, rows, heads, next, fill, key, at, len);
-    if filled.count == fill.count {
-        return stop(Answer::NoRoom, fill);
-    }
-    Step {
-        on: true,
-        answer: Answer::Done,
-        fill: filled,
+    let tried = file_row(index, text, rows, heads, next, fill, dues, key, at, len);
+    let room = tried.room;
+    let filled = tried.fill;
+    match room {
+        Room::IndexFull => stop(Answer::NoRoom, fill),
+        Room::TextFull => stop(Answer::NoText, fill),
+        Room::Fits => Step {
+            on: true,
+            answer: Answer::Done,
+            fill: filled,
+        },
     }
 }
 
@@ -120,16 +129,17 @@ fn take_lines(
     heads: &mut [u16; ROWS],
     next: &mut [u16; ROWS],
     first: Fill,
+    dues: Dues,
     owner: u8,
     from: usize,
 ) -> Walked
     requires { ⌜ from ≤ length (now lines) + 1 ⌝ }
     requires { ⌜
-        SomeRows (now index) (now text) (now lines)
+        SomeRows dues owner (now index) (now text) (now lines)
         (now rows) (now heads) (now next)
         first ⌝ }
     ensures { λ r. ⌜
-        TakesLines (now (index .entry)) (now (text .entry))
+        TakesLines dues (now (index .entry)) (now (text .entry))
         (now (lines .entry))
         (now (rows .entry)) (now (heads .entry)) (now (next .entry)) owner from first
         (now (rows .exit)) r ⌝ }
@@ -150,6 +160,7 @@ fn take_lines(
             heads,
             next,
             fill,
+            dues,
             owner,
             start,
             len,
@@ -165,19 +176,22 @@ fn take_lines(
     report(true, Answer::Done, at, count, fill)
 }
 
-// Files the lines from a place on, into a sound store, as far as there are numbers for them.
+// Files the lines from a place on, into a sound store, as far as there are numbers for them. The index is the part
+// behind the shares.
 pub fn insert_batch(
     index: &mut [u8],
     text: &mut [u8],
+    shares: &[u64; OWNERS],
     owner: u8,
     lines: &[u8],
     from: usize,
 ) -> Walked
     requires { ⌜ known (decode (now index) (now text)) ≡ true ⌝ }
+    requires { ⌜ Given (now shares) ⌝ }
     requires { ⌜ from ≤ length (now lines) + 1 ⌝ }
     ensures { λ r. ⌜
-        Batches (now (index .entry)) (now (text .entry)) owner (now (lines .entry)) from r (now (index .exit))
-        (now (text .exit)) ⌝ }
+        Batches (now (shares .entry)) (now (index .entry)) (now (text .entry)) owner (now (lines .entry)) from r
+        (now (index .exit)) (now (text .exit)) ⌝ }
     ensures { λ r. ⌜ Went (now (lines .entry)) from 0 r ⌝ }
 {
     let mut rows = [0u64; CELLS];
@@ -185,6 +199,7 @@ pub fn insert_batch(
     let mut next = [0u16; ROWS];
     let seen = survey(index, text, &mut rows, &mut heads, &mut next);
     let fill = seen.fill;
+    let dues = dues_of(&rows, fill, shares, owner);
     let part = take_lines(
         index,
         text,
@@ -193,6 +208,7 @@ pub fn insert_batch(
         &mut heads,
         &mut next,
         fill,
+        dues,
         owner,
         from,
     );

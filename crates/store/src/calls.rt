@@ -10,6 +10,8 @@ use crate::saving::file_built;
 use crate::saving::refused_save;
 use crate::saving::saved_as;
 use crate::saving::unsaved_name;
+use crate::shares::OWNERS;
+use crate::shares::read_shares;
 use crate::soundness::INDEX_MAX;
 use crate::soundness::LINE_MAX;
 use crate::soundness::TEXT_MAX;
@@ -24,10 +26,16 @@ use text::utf8::is_utf8;
 use text::utf8::valid_up_to;
 use text::uuid::Uuid;
 ghost use mathlib.Core.Path.{_≡_};
+ghost use mathlib.Core.Bool.{true};
+ghost use Rattle.store.specs.Decode.{decode};
+ghost use Rattle.store.specs.Inner.{known};
+ghost use Rattle.store.specs.Layout.{Given};
+ghost use Rattle.store.specs.Table.{InsertsAll};
 ghost use Rattle.store.specs.Saves.{saveArgs, storeSave};
 ghost use Rattle.store.specs.Store.{storeClear, storeWalk, storeInsert, lookUp, lineOf, saysOf};
 
-// What a call answers; `NotUtf8` with the length of the text's valid run, `NoOwner` where an organiser names itself 0.
+// What a call answers; `NotUtf8` with the length of the text's valid run, `NoOwner` where an organiser names itself 0,
+// `NoText` and `ShareTooLarge` where shares and uses would exceed the text.
 pub enum Answer {
     Done,
     NotUtf8(usize),
@@ -36,6 +44,8 @@ pub enum Answer {
     NoRoom,
     BufferTooLarge,
     NoOwner,
+    NoText,
+    ShareTooLarge,
 }
 
 // What a walk over the lines of an insert comes to: the answer, and the lines walked.
@@ -59,6 +69,7 @@ pub enum SaveAnswer {
     Unsound,
     NoRoom,
     NoOwner,
+    NoText,
 }
 
 // A save's answer, and its map.
@@ -117,7 +128,39 @@ pub fn clear(index: &mut [u8], text: &mut [u8]) -> Answer
     Answer::Done
 }
 
-// Files the wanted lines of a text for an owner, in order, up to one that is too long or has no room.
+// Files the wanted lines of a text for an owner, in order, up to one that is too long or has no room: into a sound
+// store, of whose index the part behind the shares is lent.
+fn insert_all(
+    part: &mut [u8],
+    text: &mut [u8],
+    shares: &[u64; OWNERS],
+    owner: u8,
+    lines: &[u8],
+) -> Tally
+    requires { ⌜ known (decode (now part) (now text)) ≡ true ⌝ }
+    requires { ⌜ Given (now shares) ⌝ }
+    ensures { λ r. ⌜
+        InsertsAll (now (shares .entry)) (now (part .entry)) (now (text .entry)) owner (now (lines .entry)) r
+        (now (part .exit)) (now (text .exit)) ⌝ }
+{
+    let mut at = 0;
+    let mut count = 0;
+    while at < lines.len() {
+        let some = insert_batch(part, text, shares, owner, lines, at);
+        count += some.count;
+        if !some.on {
+            let answer = some.answer;
+            return Tally { answer, count };
+        }
+        at = some.at;
+    }
+    Tally {
+        answer: Answer::Done,
+        count,
+    }
+}
+
+// The same, for buffers that may not be a sound store and a text that may not be UTF-8.
 fn walk_insert(index: &mut [u8], text: &mut [u8], owner: u8, lines: &[u8]) -> Tally
     ensures { λ r. ⌜
         record { answer = r; index = now (index .exit); text = now (text .exit) }
@@ -135,21 +178,9 @@ fn walk_insert(index: &mut [u8], text: &mut [u8], owner: u8, lines: &[u8]) -> Ta
             count: 0,
         };
     }
-    let mut at = 0;
-    let mut count = 0;
-    while at < lines.len() {
-        let part = insert_batch(index, text, owner, lines, at);
-        count += part.count;
-        if !part.on {
-            let answer = part.answer;
-            return Tally { answer, count };
-        }
-        at = part.at;
-    }
-    Tally {
-        answer: Answer::Done,
-        count,
-    }
+    let mut shares = [0u64; OWNERS];
+    let front = read_shares(index, &mut shares);
+    insert_all(&mut index[front..], text, &shares, owner, lines)
 }
 
 // The same for a party, with the number of lines that were filed in another form of the UUID than 32 digits.

@@ -6,6 +6,7 @@ use crate::rows::CELLS;
 use crate::rows::ROWS;
 use crate::rows::put_row;
 use crate::rows::start_at;
+use crate::shares::OWNERS;
 use crate::soundness::take_stock;
 use crate::table::Fill;
 use crate::table::len_before;
@@ -62,7 +63,8 @@ pub fn look(index: &[u8], text: &[u8], key: Key) -> Seen
     let mut rows = [0u64; CELLS];
     let mut heads = [0u16; ROWS];
     let mut next = [0u16; ROWS];
-    let stock = take_stock(index, text, &mut rows, &mut heads, &mut next);
+    let mut shares = [0u64; OWNERS];
+    let stock = take_stock(index, text, &mut shares, &mut rows, &mut heads, &mut next);
     if !stock.sound {
         return Seen {
             how: Look::Unsound,

@@ -6,6 +6,7 @@ use crate::parties::Key;
 use crate::parties::Party;
 use crate::rows::CELLS;
 use crate::rows::ROWS;
+use crate::shares::OWNERS;
 use crate::soundness::take_stock;
 use crate::table::Fill;
 use text::uuid::Uuid;
@@ -79,7 +80,8 @@ fn look_near(index: &[u8], text: &[u8], key: Key) -> NearSeen
     let mut rows = [0u64; CELLS];
     let mut heads = [0u16; ROWS];
     let mut next = [0u16; ROWS];
-    let stock = take_stock(index, text, &mut rows, &mut heads, &mut next);
+    let mut shares = [0u64; OWNERS];
+    let stock = take_stock(index, text, &mut shares, &mut rows, &mut heads, &mut next);
     if !stock.sound {
         return NearSeen {
             how: NearLook::Unsound,

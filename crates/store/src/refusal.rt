@@ -3,10 +3,11 @@ use crate::calls::Answer;
 use crate::calls::Look;
 use crate::calls::SaveAnswer;
 use crate::near::NearLook;
+use crate::sharing::ShareTold;
 use line::refusal::Outcome;
 use line::refusal::Refusal;
 ghost use mathlib.Core.Path.{_≡_};
-ghost use Rattle.store.specs.Refusals.{storeOutcome, saveOutcome, lookOutcome};
+ghost use Rattle.store.specs.Refusals.{storeOutcome, saveOutcome, lookOutcome, toldOutcome};
 ghost use Rattle.store.specs.Near.{nearOutcome};
 
 // What a look-up comes to: a line is held, none is, or it is refused.
@@ -17,7 +18,7 @@ pub enum LookOutcome {
 }
 
 impl Answer {
-    // The answer of a clear or an insert.
+    // The answer of a clear, an insert or a share's setting.
     pub fn outcome(self) -> Outcome
         ensures { λ r. ⌜ r ≡ storeOutcome self ⌝ }
     {
@@ -29,6 +30,8 @@ impl Answer {
             Answer::NoRoom => Outcome::Refuses(Refusal::plain(21)),
             Answer::BufferTooLarge => Outcome::Refuses(Refusal::plain(23)),
             Answer::NoOwner => Outcome::Refuses(Refusal::plain(24)),
+            Answer::NoText => Outcome::Refuses(Refusal::plain(25)),
+            Answer::ShareTooLarge => Outcome::Refuses(Refusal::plain(26)),
         }
     }
 }
@@ -45,6 +48,7 @@ impl SaveAnswer {
             SaveAnswer::Unsound => Outcome::Refuses(Refusal::plain(19)),
             SaveAnswer::NoRoom => Outcome::Refuses(Refusal::plain(21)),
             SaveAnswer::NoOwner => Outcome::Refuses(Refusal::plain(24)),
+            SaveAnswer::NoText => Outcome::Refuses(Refusal::plain(25)),
         }
     }
 }
@@ -75,6 +79,18 @@ impl NearLook {
             NearLook::Missing => Outcome::Passes,
             NearLook::Unsound => Outcome::Refuses(Refusal::plain(19)),
             NearLook::NoOwner => Outcome::Refuses(Refusal::plain(24)),
+        }
+    }
+}
+
+impl ShareTold {
+    // The answer of the call that tells a party's share; what is told stands in the answer itself.
+    pub fn outcome(self) -> Outcome
+        ensures { λ r. ⌜ r ≡ toldOutcome self ⌝ }
+    {
+        match self {
+            ShareTold::Told(_) => Outcome::Passes,
+            ShareTold::Unsound => Outcome::Refuses(Refusal::plain(19)),
         }
     }
 }

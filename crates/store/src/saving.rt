@@ -2,20 +2,34 @@
 use crate::calls::Answer;
 use crate::calls::SaveAnswer;
 use crate::calls::Saved;
+use crate::claims::dues_of;
 use crate::filing::file_line;
 use crate::parties::Key;
 use crate::rows::CELLS;
 use crate::rows::ROWS;
 use crate::search::find_text;
+use crate::shares::OWNERS;
 use crate::soundness::take_stock;
+use crate::table::Room;
 use line::mapping::Mapping;
 use text::bytes::find_byte;
 ghost use mathlib.Core.Path.{_≡_};
 ghost use Prim.Native.Nat.{_≤_};
 ghost use lib.ListN.{length};
 ghost use Rattle.store.specs.Held.{lineMax};
-ghost use Rattle.store.specs.Inner.{storeFile, saidBy};
+ghost use Rattle.store.specs.Inner.{storeFile, roomAnswer, saidBy};
 ghost use Rattle.store.specs.Saves.{unsavedName, refusedSave};
+
+// What filing a line answers, by its room.
+fn room_answer(room: Room) -> Answer
+    ensures { λ r. ⌜ r ≡ roomAnswer room ⌝ }
+{
+    match room {
+        Room::Fits => Answer::Done,
+        Room::IndexFull => Answer::NoRoom,
+        Room::TextFull => Answer::NoText,
+    }
+}
 
 // Files a line that was built under its key, unless the store is not sound or has no room.
 pub fn file_built(index: &mut [u8], text: &mut [u8], key: Key, line: &[u8]) -> Answer
@@ -27,24 +41,26 @@ pub fn file_built(index: &mut [u8], text: &mut [u8], key: Key, line: &[u8]) -> A
     let mut rows = [0u64; CELLS];
     let mut heads = [0u16; ROWS];
     let mut next = [0u16; ROWS];
-    let stock = take_stock(index, text, &mut rows, &mut heads, &mut next);
+    let mut shares = [0u64; OWNERS];
+    let stock = take_stock(index, text, &mut shares, &mut rows, &mut heads, &mut next);
     if !stock.sound {
         return Answer::Unsound;
     }
     let fill = stock.fill;
-    if !file_line(
-        index,
+    let front = stock.front;
+    let dues = dues_of(&rows, fill, &shares, key.owner);
+    let room = file_line(
+        &mut index[front..],
         text,
         &mut rows,
         &mut heads,
         &mut next,
         fill,
+        dues,
         key,
         line,
-    ) {
-        return Answer::NoRoom;
-    }
-    Answer::Done
+    );
+    room_answer(room)
 }
 
 // Whether a name has LF or `platform:`.
@@ -82,5 +98,7 @@ pub fn saved_as(filed: Answer, map: Mapping) -> Saved
         Answer::LineTooLong => refused_save(SaveAnswer::Unsound),
         Answer::BufferTooLarge => refused_save(SaveAnswer::Unsound),
         Answer::NoOwner => refused_save(SaveAnswer::Unsound),
+        Answer::NoText => refused_save(SaveAnswer::NoText),
+        Answer::ShareTooLarge => refused_save(SaveAnswer::Unsound),
     }
 }

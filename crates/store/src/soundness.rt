@@ -9,6 +9,8 @@ use crate::records::stands;
 use crate::records::whole_head;
 use crate::rows::CELLS;
 use crate::rows::ROWS;
+use crate::shares::OWNERS;
+use crate::shares::read_shares;
 use crate::table::Fill;
 use crate::table::add_row;
 ghost use mathlib.Core.Path.{_≡_};
@@ -16,9 +18,10 @@ ghost use mathlib.Core.Bool.{_&&_, false};
 ghost use mathlib.Core.List.{List, _∷_, _++_};
 ghost use Prim.Native.Nat.{ℕ, suc, _+_, _-_, _≤_, _<_};
 ghost use lib.ListN.{length, take, drop};
-ghost use Rattle.store.specs.Decode.{headFits, zeroes, decode};
+ghost use Rattle.store.specs.Decode.{headFits, zeroes, content};
 ghost use Rattle.store.specs.Held.{indexMax, textMax};
 ghost use Rattle.store.specs.Inner.{known};
+ghost use Rattle.store.specs.Shares.{noShares};
 ghost use Rattle.store.specs.Keys.{Chained};
 ghost use Rattle.store.specs.Rows.{keyIn, Long};
 ghost use Rattle.store.specs.Table.{Surveys, Stocks};
@@ -38,9 +41,10 @@ pub struct Surveyed {
     pub fill: Fill,
 }
 
-// Whether a store is sound, and how much of it is in use.
+// Whether a store is sound, where in the index the records of the lines start, and how much is in use behind that.
 pub struct Stock {
     pub sound: bool,
+    pub front: usize,
     pub fill: Fill,
 }
 
@@ -135,6 +139,7 @@ fn unsound() -> Stock
 {
     Stock {
         sound: false,
+        front: 0,
         fill: Fill {
             count: 0,
             end: 0,
@@ -143,18 +148,20 @@ fn unsound() -> Stock
     }
 }
 
-// Whether the store is sound. Writes its lines down.
+// Whether the store is sound. Writes its shares and its lines down.
 pub fn take_stock(
     index: &[u8],
     text: &[u8],
+    shares: &mut [u64; OWNERS],
     rows: &mut [u64; CELLS],
     heads: &mut [u16; ROWS],
     next: &mut [u16; ROWS],
 ) -> Stock
+    requires { ⌜ now shares ≡ noShares ⌝ }
     requires { ⌜ Chained (keyIn (now rows)) (now heads) (now next) 0 ⌝ }
     requires { ⌜ Long (now rows) ⌝ }
     ensures { λ r. ⌜
-        Stocks (now (index .entry)) (now (text .entry))
+        Stocks (now (index .entry)) (now (text .entry)) (now (shares .exit))
         (now (rows .exit)) (now (heads .exit)) (now (next .exit)) r ⌝ }
 {
     if INDEX_MAX < index.len() {
@@ -163,23 +170,25 @@ pub fn take_stock(
     if TEXT_MAX < text.len() {
         return unsound();
     }
-    let seen = survey(index, text, rows, heads, next);
+    let front = read_shares(index, shares);
+    let seen = survey(&index[front..], text, rows, heads, next);
     if !seen.whole {
         return unsound();
     }
     let fill = seen.fill;
     let verdict = seen.verdict;
     let sound = each_once(rows, next, fill.count, verdict);
-    Stock { sound, fill }
+    Stock { sound, front, fill }
 }
 
 // Whether the store is sound.
 pub fn sound(index: &[u8], text: &[u8]) -> bool
-    ensures { λ r. ⌜ r ≡ known (decode (now (index .entry)) (now (text .entry))) ⌝ }
+    ensures { λ r. ⌜ r ≡ known (content (now (index .entry)) (now (text .entry))) ⌝ }
 {
     let mut rows = [0u64; CELLS];
     let mut heads = [0u16; ROWS];
     let mut next = [0u16; ROWS];
-    let stock = take_stock(index, text, &mut rows, &mut heads, &mut next);
+    let mut shares = [0u64; OWNERS];
+    let stock = take_stock(index, text, &mut shares, &mut rows, &mut heads, &mut next);
     stock.sound
 }

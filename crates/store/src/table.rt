@@ -1,5 +1,7 @@
 // Lines by number: a row for each, and chains by the keys. A line that is struck out keeps its row, with length 0.
 use crate::chains::link;
+use crate::claims::Dues;
+use crate::claims::claimed;
 use crate::parties::Key;
 use crate::records::record_size;
 use crate::rows::CELLS;
@@ -16,11 +18,24 @@ ghost use Rattle.store.specs.Keys.{rowsMax, Chained, Sought};
 ghost use Rattle.store.specs.Rows.{keyIn, rowPut};
 ghost use Rattle.store.specs.Table.{lenBefore, struckBefore, Ends, Fileable, FilesRow};
 
+// Whether a line has room: it fits, the index has no room for its record, or the text none for it.
+pub enum Room {
+    Fits,
+    IndexFull,
+    TextFull,
+}
+
 // How many numbers are taken, and how many bytes of the index and of the text the lines that are held take.
 pub struct Fill {
     pub count: usize,
     pub end: usize,
     pub used: usize,
+}
+
+// Whether a line had room, and what is filled once it is filed.
+pub struct Tried {
+    pub room: Room,
+    pub fill: Fill,
 }
 
 // Writes a line down under number n, and answers as `seek` does: one more than the last number before it with the same
@@ -80,6 +95,13 @@ fn end_with(end: usize, had: usize, key: Key) -> usize
     end
 }
 
+// Both in one.
+fn told_room(room: Room, fill: Fill) -> Tried
+    ensures { λ r. ⌜ r ≡ record { room = room; fill = fill } ⌝ }
+{
+    Tried { room, fill }
+}
+
 // Files a line of the inserted text under a key, if there is room: the one held under it is struck out. Without room
 // the count stays.
 pub fn file_row(
@@ -89,17 +111,18 @@ pub fn file_row(
     heads: &mut [u16; ROWS],
     next: &mut [u16; ROWS],
     fill: Fill,
+    dues: Dues,
     key: Key,
     start: usize,
     len: usize,
-) -> Fill
+) -> Tried
     requires { ⌜ fill .count < rowsMax ⌝ }
     requires { ⌜
-        Fileable (now index) (now text)
+        Fileable dues (now index) (now text)
         (now rows) (now heads) (now next)
         fill key start len ⌝ }
     ensures { λ r. ⌜
-        FilesRow (now (index .entry)) (now (text .entry))
+        FilesRow dues (now (index .entry)) (now (text .entry))
         (now (rows .entry)) (now (heads .entry)) (now (next .entry)) fill key start len
         (now (rows .exit)) (now (heads .exit)) (now (next .exit)) r ⌝ }
 {
@@ -109,15 +132,18 @@ pub fn file_row(
     let used = fill.used - had + len;
     let end = end_with(fill.end, had, key);
     if index.len() < end {
-        return fill;
+        return told_room(Room::IndexFull, fill);
     }
-    if text.len() < used {
-        return fill;
+    if text.len() < claimed(dues, used) {
+        return told_room(Room::TextFull, fill);
     }
     strike_before(rows, r);
-    Fill {
-        count: n + 1,
-        end: end,
-        used: used,
-    }
+    told_room(
+        Room::Fits,
+        Fill {
+            count: n + 1,
+            end: end,
+            used: used,
+        },
+    )
 }

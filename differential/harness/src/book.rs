@@ -1,6 +1,8 @@
-//! Document 01's store and book in plain Rust; a line is held under its owner and its UUID (document 02, P9).
+//! Document 01's store and book in plain Rust; a line is held under its owner and its UUID, and parties have shares of the
+//! text (document 02, P9 and P10).
 use crate::doc01;
 use crate::plain::{owner, refusal, refusal_at, Map, Party, Refusal, Slots, Uuid};
+use std::collections::BTreeMap;
 
 pub const INDEX_MAX: usize = 65535;
 pub const TEXT_MAX: usize = 65535;
@@ -11,6 +13,28 @@ pub type Key = (u8, Uuid);
 /// The bytes of a record: the hall's, or an organiser's.
 pub fn record(k: Key) -> usize {
     if k.0 == 0 { 21 } else { 22 }
+}
+
+/// The shares that are set, by owner; none of 0 bytes.
+pub type Shares = BTreeMap<u8, usize>;
+
+/// The index that shares and lines of these keys take.
+fn records(shares: &Shares, lines: &[(Key, usize)]) -> usize {
+    4 * shares.len() + lines.iter().map(|l| record(l.0)).sum::<usize>()
+}
+
+/// The bytes of an owner's lines.
+fn used(lines: &[(Key, usize)], owner: u8) -> usize {
+    lines.iter().filter(|l| l.0 .0 == owner).map(|l| l.1).sum()
+}
+
+/// The sum over all parties of the larger of use and share.
+fn claims(shares: &Shares, lines: &[(Key, usize)]) -> u128 {
+    let mut each: BTreeMap<u8, (usize, usize)> = shares.iter().map(|(o, b)| (*o, (0, *b))).collect();
+    for ((o, _), n) in lines {
+        each.entry(*o).or_default().0 += n;
+    }
+    each.values().map(|(used, share)| *used.max(share) as u128).sum()
 }
 
 /// The lines of a text: cut at LF, one CR before it dropped, nothing after a final LF.
@@ -40,29 +64,59 @@ pub fn wanted(line: &[u8]) -> Option<Uuid> {
 pub struct Book {
     pub index: usize,
     pub text: usize,
+    pub shares: Shares,
     pub lines: Vec<(Key, Vec<u8>)>,
 }
 
 impl Book {
     pub fn new(index: usize, text: usize) -> Self {
-        Book { index, text, lines: Vec::new() }
+        Book { index, text, shares: Shares::new(), lines: Vec::new() }
     }
 
     pub fn clear(&mut self) {
+        self.shares.clear();
         self.lines.clear();
     }
 
-    /// False: no room.
-    fn file(&mut self, k: Key, line: &[u8]) -> bool {
-        let held: Vec<_> = self.lines.iter().filter(|l| l.0 != k).collect();
-        let records: usize = held.iter().map(|l| record(l.0)).sum();
-        let bytes: usize = held.iter().map(|l| l.1.len()).sum();
-        if records + record(k) > self.index || bytes + line.len() > self.text {
-            return false;
+    /// The keys of the lines held, and their lengths.
+    fn sizes(&self) -> Vec<(Key, usize)> {
+        self.lines.iter().map(|l| (l.0, l.1.len())).collect()
+    }
+
+    /// What a party has as its share, and the bytes of its lines.
+    pub fn told(&self, owner: u8) -> (usize, usize) {
+        (self.shares.get(&owner).copied().unwrap_or(0), used(&self.sizes(), owner))
+    }
+
+    /// Sets a share, 0 taking it away; 26, then 21.
+    pub fn share(&mut self, owner: u8, bytes: usize) -> Option<Refusal> {
+        let (mut shares, lines) = (self.shares.clone(), self.sizes());
+        shares.insert(owner, bytes);
+        shares.retain(|_, b| *b > 0);
+        if claims(&shares, &lines) > self.text as u128 {
+            return Some(refusal(26));
+        }
+        if records(&shares, &lines) > self.index {
+            return Some(refusal(21));
+        }
+        self.shares = shares;
+        None
+    }
+
+    /// 21 where the index has no room, else 25 where the text has none.
+    fn file(&mut self, k: Key, line: &[u8]) -> Result<(), Refusal> {
+        let mut after = self.sizes();
+        after.retain(|l| l.0 != k);
+        after.push((k, line.len()));
+        if records(&self.shares, &after) > self.index {
+            return Err(refusal(21));
+        }
+        if claims(&self.shares, &after) > self.text as u128 {
+            return Err(refusal(25));
         }
         self.lines.retain(|l| l.0 != k);
         self.lines.push((k, line.to_vec()));
-        true
+        Ok(())
     }
 
     /// A refusal, if any, the number of lines walked, and of those filed in another form than 32 digits (P11).
@@ -80,8 +134,8 @@ impl Book {
                 if line.len() > LINE_MAX {
                     return (Some(refusal(20)), n, others);
                 }
-                if !self.file((owner, u), line) {
-                    return (Some(refusal(21)), n, others);
+                if let Err(full) = self.file((owner, u), line) {
+                    return (Some(full), n, others);
                 }
                 others += usize::from(line.split(|b| *b == b',').next().unwrap().len() != 32);
             }
@@ -90,7 +144,7 @@ impl Book {
         (None, n, others)
     }
 
-    /// 24, build's answer, or 22 or 21; the line is filed where nothing is refused.
+    /// 24, build's answer, or 22, 21 or 25; the line is filed where nothing is refused.
     pub fn save(
         &mut self, p: Party, slots: &Slots, buttons: &[u32], axes: &[u32], name: &[u8], uuid: Uuid,
     ) -> Result<Map, Refusal> {
@@ -99,9 +153,7 @@ impl Book {
         if unsaved(name) {
             return Err(refusal(22));
         }
-        if !self.file((owner, uuid), &line) {
-            return Err(refusal(21));
-        }
+        self.file((owner, uuid), &line)?;
         Ok(m)
     }
 
@@ -111,9 +163,13 @@ impl Book {
         Ok(self.lines.iter().find(|l| l.0 == key).map(|l| l.1.clone()))
     }
 
-    /// The two buffers that encode the list.
+    /// The two buffers that encode shares and list.
     pub fn buffers(&self) -> (Vec<u8>, Vec<u8>) {
         let (mut index, mut text) = (Vec::with_capacity(self.index), Vec::with_capacity(self.text));
+        for (o, b) in &self.shares {
+            index.extend_from_slice(&[4, *o]);
+            index.extend_from_slice(&(*b as u16).to_be_bytes());
+        }
         for ((o, u), l) in &self.lines {
             match o {
                 0 => index.push(1),
@@ -129,13 +185,19 @@ impl Book {
         (index, text)
     }
 
-    /// The list that two buffers encode, or None where the store is not sound.
+    /// What two buffers encode, or None where the store is not sound.
     pub fn of(index: &[u8], text: &[u8]) -> Option<Book> {
         if index.len() > INDEX_MAX || text.len() > TEXT_MAX {
             return None;
         }
         let mut b = Book::new(index.len(), text.len());
         let (mut at, mut used) = (0, 0);
+        while index.get(at) == Some(&4) {
+            let record = index.get(at..at + 4)?;
+            b.shares.insert(record[1], u16::from_be_bytes([record[2], record[3]]) as usize);
+            at += 4;
+        }
+        b.shares.retain(|_, share| *share > 0);
         while let Some(&kind) = index.get(at).filter(|k| [1, 3].contains(k)) {
             let (owner, body) = if kind == 1 { (0, at + 1) } else { (*index.get(at + 1)?, at + 2) };
             let body = index.get(body..body + 20)?;
@@ -148,7 +210,7 @@ impl Book {
             used += n;
             at += if kind == 1 { 21 } else { 22 };
         }
-        // the encoding is unique: every other byte, offsets and owners too, must be as `buffers` writes it
+        // the encoding is unique: every other byte, offsets, owners and the order of shares too, must be as `buffers` writes it
         (b.buffers() == (index.to_vec(), text.to_vec())).then_some(b)
     }
 }

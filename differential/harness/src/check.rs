@@ -29,6 +29,7 @@ pub enum Group {
     Clear,
     Buffers,
     Apart,
+    Shares,
     Values,
     Events,
     Pads,
@@ -36,7 +37,7 @@ pub enum Group {
     TwoPads,
 }
 
-pub const GROUPS: [(&str, &str); 29] = [
+pub const GROUPS: [(&str, &str); 30] = [
     ("utf8", "the longest valid run of UTF-8, with Rust's own reader"),
     ("uuid", "UUID texts, with the crate uuid"),
     ("forms", "how a UUID is spelled, by the reader and in the walker's first token (document 02, P11, alone)"),
@@ -61,6 +62,7 @@ pub const GROUPS: [(&str, &str); 29] = [
     ("clear", "clear (document 01 alone)"),
     ("buffers", "both buffers after each call, byte by byte, by the book (document 01 alone)"),
     ("apart", "a party's look-ups, beside those after its own calls and the clears alone (document 02, P9, alone)"),
+    ("shares", "a share is set; each party's share and use (document 02, P10, alone)"),
     ("values", "what every raw value gives to every kind of entry (document 02, P3, alone)"),
     ("events", "raw values of codes by maps of any content (document 02, P3, alone)"),
     ("pads", "a pad's raw events and changes of map: refusal, events, state and values (document 02, P13, alone)"),

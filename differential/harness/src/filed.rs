@@ -39,6 +39,7 @@ pub fn stores(t: &mut Tally) {
         }
     }
     shared_stores(t);
+    stores_with_shares(t);
     damaged_stores(t);
 }
 
@@ -66,7 +67,35 @@ fn shared_stores(t: &mut Tally) {
     }
 }
 
-/// Every byte of a small store, changed: of the hall's lines, and of those of the hall and two organisers.
+/// Shares: lengths at which a share's record fits or does not, the sum at the text's end, a filing within its share, and
+/// settings that need no room.
+fn stores_with_shares(t: &mut Tally) {
+    let line = |k: usize, n: usize| format!("{k:032x},{}\n", "n".repeat(n)).into_bytes();
+    for index in [0, 3, 4, 7, 8, 20, 21, 24, 25, 28, 29, 46, 47, 50, 51, 52, 65535, 65536] {
+        for text in [0, 33, 34, 66, 67, 100, 101, 133, 65535, 65536] {
+            let mut s = Sides::fresh(index, text);
+            for (owner, bytes) in [(255, text), (255, 0), (0, 34), (0, text + 1), (7, usize::MAX)] {
+                s.share(t, owner, bytes);
+            }
+            s.insert(t, Some(1), &line(1, 0));
+            s.insert(t, Some(1), &line(2, 0));
+            s.insert(t, HALL, &line(1, 1));
+            s.insert(t, HALL, &line(1, 2));
+            for (owner, bytes) in [(1, 33), (1, 34), (1, text / 2), (0, 33), (255, 1), (0, 0), (1, 0)] {
+                s.share(t, owner, bytes);
+                s.look_up(t);
+            }
+            s.save(t, Some(255), &AllSlots::new(), &[], &[], b"", [1; 16]);
+            s.share(t, 255, 40);
+            s.clear(t);
+            s.share(t, 3, text);
+            s.insert(t, HALL, &line(1, 0));
+            s.look_up(t);
+        }
+    }
+}
+
+/// Every byte of a small store, changed: of the hall's lines, of those of the hall and two organisers, and of shares.
 fn damaged_stores(t: &mut Tally) {
     let lines = format!("{}1,a\n{}2,b\n", &U[1..], &U[1..]);
     let mut good = Sides::fresh(65, 80);
@@ -74,6 +103,14 @@ fn damaged_stores(t: &mut Tally) {
     every_byte(t, &good.store);
     let mut good = Sides::fresh(67, 107);
     for by in [HALL, Some(1), Some(255)] {
+        good.insert(t, by, &lines.as_bytes()[..34]);
+    }
+    every_byte(t, &good.store);
+    let mut good = Sides::fresh(58, 107);
+    for (owner, share) in [(0, 36), (1, 1)] {
+        good.share(t, owner, share);
+    }
+    for by in [HALL, Some(1)] {
         good.insert(t, by, &lines.as_bytes()[..34]);
     }
     every_byte(t, &good.store);

@@ -45,6 +45,24 @@ impl Store {
             )
         })
     }
+    pub fn set_share(&mut self, owner: u8, bytes: usize) -> Option<Refusal> {
+        let (i, t) = (&mut self.index, &self.text);
+        refused(unsafe {
+            ffi::raspteal_store_set_share(i.as_mut_ptr(), i.len(), t.as_ptr(), t.len(), owner, bytes)
+        })
+    }
+    /// A party's share, and the bytes of its lines.
+    pub fn share(&self, owner: u8) -> Result<(usize, usize), Refusal> {
+        let (i, t) = (&self.index, &self.text);
+        let told = unsafe { ffi::raspteal_store_share(i.as_ptr(), i.len(), t.as_ptr(), t.len(), owner) };
+        match refused(told.refusal) {
+            Some(r) => {
+                assert!(told.share == 0 && told.used == 0);
+                Err(r)
+            }
+            None => Ok((told.share, told.used)),
+        }
+    }
     /// A party's line under a UUID, by both calls.
     pub fn look_up(&self, p: Party, uuid: Uuid) -> Result<Option<Vec<u8>>, Refusal> {
         let (i, t) = (&self.index, &self.text);

@@ -1,14 +1,15 @@
 //! The hall and league organisers in one store (document 02, P9): one party's look-ups beside those after its own calls and
-//! the clears alone.
+//! the clears alone. A setting of a share (P10) is nobody's own call.
 use crate::check::{shown, Group, Tally};
 use crate::compare::AllSlots;
 use crate::gen::{self, Rng};
 use crate::lent::Store;
 use crate::plain::{Map, Party, Refusal, Uuid, HALL};
 
-/// A call of a party, or a clear.
+/// A call of a party, a clear, or a share that is set.
 enum Call {
     Clear,
+    Share(u8, usize),
     Insert(Party, Vec<u8>),
     Save(Party, Vec<u8>, Uuid),
 }
@@ -17,6 +18,7 @@ enum Call {
 #[derive(Debug, PartialEq)]
 enum Reply {
     Cleared(Option<Refusal>),
+    Shared(Option<Refusal>),
     Inserted((Option<Refusal>, usize, usize)),
     Saved(Result<Map, Refusal>),
 }
@@ -26,10 +28,20 @@ pub fn party(r: &mut Rng) -> Party {
     if r.one_in(12) { Some(0) } else { r.pick(&[HALL, Some(1), Some(255)]) }
 }
 
+/// A share at random: of the hall, of an organiser that calls or of another; none, small, about the text or beyond it.
+pub fn share(r: &mut Rng, text: usize) -> (u8, usize) {
+    let some = r.below(text + 2);
+    (r.pick(&[0, 1, 255, 255, 3]), r.pick(&[0, 1, 40, text / 3, some, some, text, 65536]))
+}
+
 impl Call {
     fn any(r: &mut Rng) -> Call {
-        match r.below(12) {
+        match r.below(15) {
             0 => Call::Clear,
+            12.. => {
+                let (o, b) = share(r, 4000);
+                Call::Share(o, b)
+            }
             1..=8 => Call::Insert(party(r), gen::bytes(r)),
             _ => Call::Save(party(r), gen::name(r), [r.below(3) as u8; 16]),
         }
@@ -39,6 +51,7 @@ impl Call {
     fn is_for(&self, p: Party) -> bool {
         match self {
             Call::Clear => true,
+            Call::Share(..) => false,
             Call::Insert(by, _) | Call::Save(by, _, _) => *by == p,
         }
     }
@@ -46,6 +59,7 @@ impl Call {
     fn run(&self, store: &mut Store) -> Reply {
         match self {
             Call::Clear => Reply::Cleared(store.clear()),
+            Call::Share(owner, bytes) => Reply::Shared(store.set_share(*owner, *bytes)),
             Call::Insert(p, lines) => Reply::Inserted(store.insert(*p, lines)),
             Call::Save(p, name, id) => Reply::Saved(store.save(*p, &AllSlots::new().here, &[], &[], name, *id)),
         }
@@ -54,6 +68,7 @@ impl Call {
     fn told(&self) -> String {
         match self {
             Call::Clear => "clear".into(),
+            Call::Share(owner, bytes) => format!("share of {owner}: {bytes}"),
             Call::Insert(p, lines) => format!("{p:?} insert {}", shown(lines)),
             Call::Save(p, name, id) => format!("{p:?} save name {}, uuid {id:02x?}", shown(name)),
         }

@@ -102,6 +102,15 @@ impl Sides {
         self.buffers(t);
     }
 
+    /// A share is set. It is no party's call, and no database of gilrs's is touched by it.
+    pub fn share(&mut self, t: &mut Tally, owner: u8, bytes: usize) {
+        self.history += &format!("; share of {owner}: {bytes}");
+        let doc = if self.sized() { self.book.share(owner, bytes) } else { Some(refusal(19)) };
+        let here = self.store.set_share(owner, bytes);
+        t.case(Group::Shares, doc.map_or(0, |r| r.number), None, &doc, &here, &|| self.input());
+        self.buffers(t);
+    }
+
     pub fn save(&mut self, t: &mut Tally, p: Party, s: &AllSlots, b: &[u32], a: &[u32], name: &[u8], id: Uuid) {
         self.callers.push(p);
         let told = format!("buttons {b:x?}, axes {a:x?}, name {}, uuid {id:02x?}", shown(name));
@@ -157,6 +166,11 @@ impl Sides {
                 });
             }
             near::compare(t, self, p, ids);
+            let o = p.unwrap_or(0);
+            let doc = if self.sized() { Ok(self.book.told(o)) } else { Err(refusal(19)) };
+            t.case(Group::Shares, number(&doc), None, &doc, &self.store.share(o), &|| {
+                format!("{}; share and use of {o}", self.input())
+            });
             let owned = owner(p).map_or(0, |o| self.book.lines.iter().filter(|l| l.0 .0 == o).count());
             let size = self.dbs[&p].as_ref().map(|d| d.len());
             t.case(Group::LookUp, 0, size.as_ref(), &owned, &owned, &|| {
@@ -184,6 +198,10 @@ impl Sides {
             t.case(Group::LookUp, number, None, &Err(refusal(number)), &here, &input);
             let here = near::look_near(&self.store, p, [0; 16]);
             t.case(Group::Near, number, None, &Err(refusal(number)), &here, &input);
+            let here = self.store.share(p.unwrap_or(0));
+            t.case(Group::Shares, 19, None, &Err(refusal(19)), &here, &input);
+            let here = self.store.set_share(p.unwrap_or(0), lines.len());
+            t.case(Group::Shares, 19, None, &Some(refusal(19)), &here, &input);
             let here = self.store.insert(p, lines);
             t.case(Group::Insert, number, None, &(Some(refusal(number)), 0, 0), &here, &input);
             // save makes build's checks and 22 first

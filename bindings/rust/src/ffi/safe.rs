@@ -261,6 +261,15 @@ pub fn store_save(
     unsafe { raspteal_store_save(index, index_len, text, text_len, party, data, b, b_len, a, a_len, n, n_len, id) }
 }
 
+pub fn store_set_share(index: &mut [u8], text: &[u8], owner: u8, bytes: usize) -> Refusal {
+    let (index, index_len) = (index.as_mut_ptr(), index.len());
+    unsafe { raspteal_store_set_share(index, index_len, text.as_ptr(), text.len(), owner, bytes) }
+}
+
+pub fn store_share(index: &[u8], text: &[u8], owner: u8) -> Share {
+    unsafe { raspteal_store_share(index.as_ptr(), index.len(), text.as_ptr(), text.len(), owner) }
+}
+
 pub fn store_found(index: &[u8], text: &[u8], party: Party, id: Uuid) -> Look {
     unsafe { raspteal_store_found(index.as_ptr(), index.len(), text.as_ptr(), text.len(), party, id) }
 }

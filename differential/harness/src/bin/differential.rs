@@ -121,8 +121,12 @@ fn one_store(t: &mut Tally, r: &mut Rng) {
     let hall_alone = r.one_in(3);
     for _ in 0..1 + r.below(5) {
         let by = if hall_alone { HALL } else { owners::party(r) };
-        match r.below(8) {
+        match r.below(10) {
             0 => s.clear(t),
+            8.. => {
+                let (owner, bytes) = owners::share(r, text);
+                s.share(t, owner, bytes);
+            }
             1..=4 => s.insert(t, by, &gen::bytes(r)),
             _ => {
                 let (b, a) = (gen::codes(r, 6), gen::codes(r, 4));

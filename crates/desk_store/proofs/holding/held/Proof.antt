@@ -25,8 +25,8 @@ returns c = search needs
 section-requires : tie.Need-section-requires Inv-loop μ-loop
 section-requires c κs = search needs
 
-say-owned-requires : tie.Need-say-owned-requires Inv-loop μ-loop
-say-owned-requires c κs = search needs
+say-record-requires : tie.Need-say-record-requires Inv-loop μ-loop
+say-record-requires c κs = search needs
 
 with-record-requires : tie.Need-with-record-requires Inv-loop μ-loop
 with-record-requires c κs = search needs
@@ -59,7 +59,7 @@ held-spec =
     record-at-requires
     returns
     section-requires
-    say-owned-requires
+    say-record-requires
     with-record-requires
     sub-if3
     returns-2

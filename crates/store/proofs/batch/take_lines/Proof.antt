@@ -1,6 +1,6 @@
 -- The loop's invariant, `Taking`: the lines before `at` are filed, and the rest has the whole's answer.
 use mathlib.Core.Logic.{⊎-elim}
-use mathlib.Core.Path.{_≡_, sym, ap, _∙_}
+use mathlib.Core.Path.{sym, ap, _∙_}
 use Prim.Native.Nat.{_+_, _-_, _≤_}
 use native.Mathlib.Nat.{eq-or-lt-of-le}
 use native.Mathlib.Omega.{arith}
@@ -18,14 +18,14 @@ use Rattle.store.proofs.batch.take_lines.Statement.{statement}
 use Rattle.store.proofs.batch.take_lines.Tie as tie
 
 abbrev Inv-loop : tie.InvT-loop
-Inv-loop index text lines rows₀ heads₀ next₀ owner from at₀ count₀ fill₀ rows heads
+Inv-loop index text lines rows₀ heads₀ next₀ dues owner from at₀ count₀ fill₀ rows heads
     next at count fill =
-    Taking index text lines
+    Taking dues index text lines
     rows₀ heads₀ next₀ owner from fill₀
     rows heads next fill at count
 
 abbrev μ-loop : tie.MeasureT-loop
-μ-loop index text lines rows₀ heads₀ next₀ owner from at₀ count₀ fill₀ rows heads next
+μ-loop index text lines rows₀ heads₀ next₀ dues owner from at₀ count₀ fill₀ rows heads next
     at count fill =
     length lines + 1 - at
 
@@ -33,7 +33,7 @@ loop-holds : tie.Need-loop-holds Inv-loop μ-loop
 loop-holds c =
     let args = c .before .before .before .args in
     let pre = c .before .before .before .pre in
-    take-first (args .index .now) (args .text .now) (args .lines .now)
+    take-first (args .dues) (args .index .now) (args .text .now) (args .lines .now)
     (args .rows .now)
     (args .heads .now) (args .next .now) (args .owner) (args .from) (args .first) (pre .0)
 
@@ -70,7 +70,7 @@ reach-row-requires c κs =
     let loop = back10 .loop in
     let if1 = back5 .before .before .if1 in
     let cut = c .before .before .before .line-length in
-    let now = taken (args .index .now) (args .text .now) (args .lines .now)
+    let now = taken (args .dues) (args .index .now) (args .text .now) (args .lines .now)
     (args .rows .now)
     (args .heads .now) (args .next .now) (args .owner) (args .from) (args .first)
     (loop .rows)
@@ -97,7 +97,7 @@ returns c =
     let find-far = back10 .find-far in
     let line-length = back5 .before .before .before .line-length in
     let reach-row = c .before .before .before .before .reach-row in
-    take-off (args .index .now) (args .text .now) (args .lines .now)
+    take-off (args .dues) (args .index .now) (args .text .now) (args .lines .now)
     (args .rows .now)
     (args .heads .now) (args .next .now) (args .owner) (args .from) (args .first)
     (loop .rows)
@@ -195,7 +195,7 @@ loop-again c =
       first-le lf (take (length (args .lines .now) - loop .at) (drop (loop .at) (args .lines .now))),
       tail-length (loop .at) (args .lines .now),
     ) in
-    take-turn (args .index .now) (args .text .now) (args .lines .now)
+    take-turn (args .dues) (args .index .now) (args .text .now) (args .lines .now)
     (args .rows .now)
     (args .heads .now) (args .next .now) (args .owner) (args .from) (args .first)
     (loop .rows)
@@ -214,7 +214,7 @@ returns-2 c =
     let back5 = c .before .before .before .before .before in
     let args = back5 .before .args in
     let loop = c .before .before .loop in
-    take-on (args .index .now) (args .text .now) (args .lines .now)
+    take-on (args .dues) (args .index .now) (args .text .now) (args .lines .now)
     (args .rows .now)
     (args .heads .now) (args .next .now) (args .owner) (args .from) (args .first)
     (loop .rows)
@@ -222,7 +222,7 @@ returns-2 c =
     (λ p q. ⊎-elim
     (λ x. ⊎-elim (λ e. absurd (omega
     (arith, loop .inv .still (sym e), ltb-false (loop .fill .count) rowsMax (x .2 .left)))) (λ l. l)
-    (eq-or-lt-of-le (first-at (args .index .now) (args .text .now)
+    (eq-or-lt-of-le (first-at (args .dues) (args .index .now) (args .text .now)
     (args .lines .now)
     (args .rows .now)
     (args .heads .now) (args .next .now) (args .owner) (args .from) (args .first)

@@ -22,8 +22,10 @@ enum-told c = search needs
 
 returns : tie.Need-returns
 returns c =
-    let args = c .before .before .before .before .before .before .args in
-    insert-nobody (args .party) (args .index .now) (args .text .now) (sym (c .before .before .owner-of .ensures) ∙ c .enum-told .given .1) (args .lines .now)
+    let back5 = c .before .before .before .before .before in
+    let args = back5 .before .args in
+    insert-nobody (args .party) (args .index .now) (args .text .now)
+    (sym (c .before .before .owner-of .ensures) ∙ c .enum-told .given .1) (args .lines .now)
 
 walk-insert-requires : tie.Need-walk-insert-requires
 walk-insert-requires c κs = search needs
@@ -39,9 +41,13 @@ same-length-2 c = search needs
 
 returns-2 : tie.Need-returns-2
 returns-2 c =
-    let args = c .before .before .before .before .before .before .before .before .before .before .before .before .before .before .before .args in
-    let walk = c .before .before .before .before .before .walk-insert in
-    insert-told (args .party) _ (sym (c .before .before .before .before .before .before .before .before .before .before .before .owner-of .ensures) ∙ c .before .before .before .before .before .before .before .before .before .owner .given .1)
+    let back5 = c .before .before .before .before .before in
+    let back10 = back5 .before .before .before .before .before in
+    let back15 = back10 .before .before .before .before .before in
+    let args = back15 .args in
+    let walk = back5 .walk-insert in
+    insert-told (args .party) _ (sym (back10 .before .owner-of .ensures)
+    ∙ back5 .before .before .before .before .owner .given .1)
     (args .index .now) (args .text .now) (args .lines .now) _ _ (walk .result) (c .other-spellings .result)
     (walk .ensures) (c .other-spellings .ensures)
 

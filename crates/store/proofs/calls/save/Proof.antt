@@ -1,5 +1,5 @@
--- 24 where the party is nobody. Build's answer and what it left in the scratch array say what the save attempts; the end
--- of the save is `file_built`.
+-- 24 where the party is nobody. Build's answer and what it left in the scratch array say what the save attempts; the
+-- end of the save is `file_built`.
 use mathlib.Core.Path.{sym, ap, _∙_}
 use native.Mathlib.Omega.{arith}
 use borrow.Author.Needs.{needs}
@@ -24,10 +24,12 @@ refused-save-requires c κs = search needs
 
 returns : tie.Need-returns
 returns c =
-    let a = c .before .before .before .before .before .before .before .before .before .args in
+    let back5 = c .before .before .before .before .before in
+    let a = back5 .before .before .before .before .args in
     let args = saveArgs (a .«data») (a .buttons .now) (a .axes .now) (a .name .now) (a .uuid) in
     ap (λ (x : Saved). record { answer = x; index = a .index .now; text = a .text .now }) (c .refused-save .ensures)
-    ∙ save-nobody (a .party) (a .index .now) (a .text .now) (sym (c .before .before .before .owner-of .ensures) ∙ c .before .enum-told .given .1) args
+    ∙ save-nobody (a .party) (a .index .now) (a .text .now) (sym (c .before .before .before .owner-of .ensures)
+    ∙ c .before .enum-told .given .1) args
 
 slice-aggregate-from-data : tie.Need-slice-aggregate-from-data
 slice-aggregate-from-data c = search needs
@@ -43,10 +45,13 @@ refused-save-requires-2 c κs = search needs
 
 returns-2 : tie.Need-returns-2
 returns-2 c =
-    let a = c .before .before .before .before .before .before .before .before .before .before .before .before .before .before .before .before .args in
+    let back5 = c .before .before .before .before .before in
+    let back10 = back5 .before .before .before .before .before in
+    let back15 = back10 .before .before .before .before .before in
+    let a = back15 .before .args in
     let args = saveArgs (a .«data») (a .buttons .now) (a .axes .now) (a .name .now) (a .uuid) in
-    let built = c .before .before .before .before .before .from-data in
-    let own = (sym (c .before .before .before .before .before .before .before .before .before .before .owner-of .ensures) ∙ c .before .before .before .before .before .before .before .before .owner .given .1) in
+    let built = back5 .from-data in
+    let own = (sym (back10 .owner-of .ensures) ∙ back5 .before .before .before .owner .given .1) in
     ap (λ (x : Saved). record { answer = x; index = a .index .now; text = a .text .now }) (c .refused-save2 .ensures)
     ∙ save-refused (a .party) _ own args _ (built .result) _ (omega arith) (built .ensures) _
     (c .before .before .answer .given .1) (a .index .now) (a .text .now)
@@ -62,10 +67,13 @@ refused-save-requires-3 c κs = search needs
 
 returns-3 : tie.Need-returns-3
 returns-3 c =
-    let a = c .before .before .before .before .before .before .before .before .before .before .before .before .before .before .before .before .before .args in
+    let back5 = c .before .before .before .before .before in
+    let back10 = back5 .before .before .before .before .before in
+    let back15 = back10 .before .before .before .before .before in
+    let a = back15 .before .before .args in
     let args = saveArgs (a .«data») (a .buttons .now) (a .axes .now) (a .name .now) (a .uuid) in
-    let built = c .before .before .before .before .before .before .from-data in
-    let own = (sym (c .before .before .before .before .before .before .before .before .before .before .before .owner-of .ensures) ∙ c .before .before .before .before .before .before .before .before .before .owner .given .1) in
+    let built = back5 .before .from-data in
+    let own = (sym (back10 .before .owner-of .ensures) ∙ back5 .before .before .before .before .owner .given .1) in
     let accepted = c .before .before .before .enum-told2 in
     ap (λ (x : Saved). record { answer = x; index = a .index .now; text = a .text .now }) (c .refused-save3 .ensures)
     ∙ save-unsaved (a .party) _ own args _ (built .result) _ (omega arith) (built .ensures)
@@ -80,20 +88,32 @@ part-file-built-start c = search needs
 
 part-file-built-end : tie.Need-part-file-built-end
 part-file-built-end c =
-    let a = c .before .before .before .before .before .before .before .before .before .before .before .before .before .before .before .before .before .before .before .args in
+    let back5 = c .before .before .before .before .before in
+    let back10 = back5 .before .before .before .before .before in
+    let back15 = back10 .before .before .before .before .before in
+    let a = back15 .before .before .before .before .args in
     let args = saveArgs (a .«data») (a .buttons .now) (a .axes .now) (a .name .now) (a .uuid) in
-    let built = c .before .before .before .before .before .before .before .before .from-data in
-    let own = (sym (c .before .before .before .before .before .before .before .before .before .before .before .before .before .owner-of .ensures) ∙ c .before .before .before .before .before .before .before .before .before .before .before .owner .given .1) in
-    let accepted = c .before .before .before .before .before .enum-told2 in
-    omega (arith, made (a .party) _ own args _ (built .result) _ (omega arith) (built .ensures) (accepted .given .1) .within)
+    let built = back5 .before .before .before .from-data in
+    let own = (sym (back10 .before .before .before .owner-of .ensures) ∙ back10 .before .owner .given .1) in
+    let accepted = back5 .enum-told2 in
+    omega (
+      arith,
+      made (a .party) _ own args _ (built .result) _ (omega arith) (built .ensures)
+          (accepted .given .1) .within,
+    )
 
 file-built-requires : tie.Need-file-built-requires
 file-built-requires c κs =
-    let a = c .before .before .before .before .before .before .before .before .before .before .before .before .before .before .before .before .before .before .before .before .args in
+    let back5 = c .before .before .before .before .before in
+    let back10 = back5 .before .before .before .before .before in
+    let back15 = back10 .before .before .before .before .before in
+    let back20 = back15 .before .before .before .before .before in
+    let a = back20 .args in
     let args = saveArgs (a .«data») (a .buttons .now) (a .axes .now) (a .name .now) (a .uuid) in
-    let built = c .before .before .before .before .before .before .before .before .before .from-data in
-    let own = (sym (c .before .before .before .before .before .before .before .before .before .before .before .before .before .before .owner-of .ensures) ∙ c .before .before .before .before .before .before .before .before .before .before .before .before .owner .given .1) in
-    let accepted = c .before .before .before .before .before .before .enum-told2 in
+    let built = back5 .before .before .before .before .from-data in
+    let own = (sym (back10 .before .before .before .before .owner-of .ensures)
+    ∙ back10 .before .before .owner .given .1) in
+    let accepted = back5 .before .enum-told2 in
     let m = made (a .party) _ own args _ (built .result) _ (omega arith) (built .ensures) (accepted .given .1) in
     (omega (arith, m .some, m .within), omega (arith, m .most, m .within))
 
@@ -108,14 +128,19 @@ same-length-2 c = search needs
 
 returns-4 : tie.Need-returns-4
 returns-4 c =
-    let a = c .before .before .before .before .before .before .before .before .before .before .before .before .before .before .before .before .before .before .before .before .before .before .before .before .before .before .before .args in
+    let back5 = c .before .before .before .before .before in
+    let back10 = back5 .before .before .before .before .before in
+    let back15 = back10 .before .before .before .before .before in
+    let back20 = back15 .before .before .before .before .before in
+    let back25 = back20 .before .before .before .before .before in
+    let a = back25 .before .before .args in
     let args = saveArgs (a .«data») (a .buttons .now) (a .axes .now) (a .name .now) (a .uuid) in
-    let built = c .before .before .before .before .before .before .before .before .before .before .before .before .before .before .before .before .from-data in
-    let own = (sym (c .before .before .before .before .before .before .before .before .before .before .before .before .before .before .before .before .before .before .before .before .before .owner-of .ensures) ∙ c .before .before .before .before .before .before .before .before .before .before .before .before .before .before .before .before .before .before .before .owner .given .1) in
-    let accepted = c .before .before .before .before .before .before .before .before .before .before .before .before .before .enum-told2 in
-    let named = c .before .before .before .before .before .before .before .before .before .before .before .before .unsaved-name in
-    let if1 = c .before .before .before .before .before .before .before .before .before .before .before .if1 in
-    let filed = c .before .before .before .before .before .before .file-built in
+    let built = back15 .before .from-data in
+    let own = (sym (back20 .before .owner-of .ensures) ∙ back15 .before .before .before .before .owner .given .1) in
+    let accepted = back10 .before .before .before .enum-told2 in
+    let named = back10 .before .before .unsaved-name in
+    let if1 = back10 .before .if1 in
+    let filed = back5 .before .file-built in
     let m = made (a .party) _ own args _ (built .result) _ (omega arith) (built .ensures) (accepted .given .1) in
     ap (λ (x : Saved). record { answer = x; index = filed .last .0; text = filed .last .1 .0 }) (c .saved-as .ensures)
     ∙ save-filed (a .party) _ own args _ (built .result) _ (omega arith) (built .ensures) m (a .index .now)

@@ -44,6 +44,18 @@ enum-told-7 c = search needs
 refused-save-requires-6 : tie.Need-refused-save-requires-6
 refused-save-requires-6 c κs = search needs
 
+enum-told-8 : tie.Need-enum-told-8
+enum-told-8 c = search needs
+
+refused-save-requires-7 : tie.Need-refused-save-requires-7
+refused-save-requires-7 c κs = search needs
+
+enum-told-9 : tie.Need-enum-told-9
+enum-told-9 c = search needs
+
+refused-save-requires-8 : tie.Need-refused-save-requires-8
+refused-save-requires-8 c κs = search needs
+
 returns : tie.Need-returns
 returns c = sym (ap (saidBy (c .before .before .args .map)) (c .enum-told .given .1))
 
@@ -77,6 +89,16 @@ returns-7 c =
     c .refused-save6 .ensures
     ∙ sym (ap (saidBy (c .before .before .before .args .map)) (c .before .enum-told7 .given .1))
 
+returns-8 : tie.Need-returns-8
+returns-8 c =
+    c .refused-save7 .ensures
+    ∙ sym (ap (saidBy (c .before .before .before .args .map)) (c .before .enum-told8 .given .1))
+
+returns-9 : tie.Need-returns-9
+returns-9 c =
+    c .refused-save8 .ensures
+    ∙ sym (ap (saidBy (c .before .before .before .args .map)) (c .before .enum-told9 .given .1))
+
 pub saved-as-spec : {M : Type 1} → statement M
 saved-as-spec =
     tie.close
@@ -94,10 +116,16 @@ saved-as-spec =
     refused-save-requires-5
     enum-told-7
     refused-save-requires-6
+    enum-told-8
+    refused-save-requires-7
+    enum-told-9
+    refused-save-requires-8
     returns
     returns-2
     returns-3
     returns-4
     returns-5
     returns-6
-    returns-7)
+    returns-7
+    returns-8
+    returns-9)

@@ -1,6 +1,6 @@
 -- The loop's invariant, `Surveying`: the records before `at` are written down, and the others are walked as `walk` does.
 use mathlib.Core.Path.{ap, _∙_}
-use Prim.Native.Nat.{_+_, _-_}
+use Prim.Native.Nat.{_-_}
 use native.Mathlib.Omega.{arith}
 use lib.ListN.{length}
 use borrow.Author.Needs.{needs}

@@ -43,6 +43,18 @@ enum-told-6 c = search needs
 plain-requires-5 : tie.Need-plain-requires-5
 plain-requires-5 c κs = search needs
 
+enum-told-7 : tie.Need-enum-told-7
+enum-told-7 c = search needs
+
+plain-requires-6 : tie.Need-plain-requires-6
+plain-requires-6 c κs = search needs
+
+enum-told-8 : tie.Need-enum-told-8
+enum-told-8 c = search needs
+
+plain-requires-7 : tie.Need-plain-requires-7
+plain-requires-7 c κs = search needs
+
 returns : tie.Need-returns
 returns c = search needs
 
@@ -64,6 +76,12 @@ returns-6 c = simp (c .before .enum-told5 .given .1, c .plain4 .ensures)
 returns-7 : tie.Need-returns-7
 returns-7 c = simp (c .before .enum-told6 .given .1, c .plain5 .ensures)
 
+returns-8 : tie.Need-returns-8
+returns-8 c = simp (c .before .enum-told7 .given .1, c .plain6 .ensures)
+
+returns-9 : tie.Need-returns-9
+returns-9 c = simp (c .before .enum-told8 .given .1, c .plain7 .ensures)
+
 pub outcome-spec : {M : Type 1} → statement M
 outcome-spec =
     tie.close
@@ -81,10 +99,16 @@ outcome-spec =
     plain-requires-4
     enum-told-6
     plain-requires-5
+    enum-told-7
+    plain-requires-6
+    enum-told-8
+    plain-requires-7
     returns
     returns-2
     returns-3
     returns-4
     returns-5
     returns-6
-    returns-7)
+    returns-7
+    returns-8
+    returns-9)

@@ -37,6 +37,12 @@ enum-told-5 c = search needs
 plain-requires-4 : tie.Need-plain-requires-4
 plain-requires-4 c κs = search needs
 
+enum-told-6 : tie.Need-enum-told-6
+enum-told-6 c = search needs
+
+plain-requires-5 : tie.Need-plain-requires-5
+plain-requires-5 c κs = search needs
+
 returns : tie.Need-returns
 returns c = search needs
 
@@ -55,6 +61,9 @@ returns-5 c = simp (c .before .enum-told4 .given .1, c .plain3 .ensures)
 returns-6 : tie.Need-returns-6
 returns-6 c = simp (c .before .enum-told5 .given .1, c .plain4 .ensures)
 
+returns-7 : tie.Need-returns-7
+returns-7 c = simp (c .before .enum-told6 .given .1, c .plain5 .ensures)
+
 pub outcome-spec : {M : Type 1} → statement M
 outcome-spec =
     tie.close
@@ -70,9 +79,12 @@ outcome-spec =
     plain-requires-3
     enum-told-5
     plain-requires-4
+    enum-told-6
+    plain-requires-5
     returns
     returns-2
     returns-3
     returns-4
     returns-5
-    returns-6)
+    returns-6
+    returns-7)
