@@ -12,8 +12,8 @@ ghost use Rattle.store.specs.Keys.{rowsMax, bucket, NotIn, Linked, Kin, 
 ghost use Rattle.store.specs.Keys.{seekSays, toldOf, Tells};
 ghost use Rattle.store.specs.Rows.{keyIn};
 
-// The most steps in a chain where an order can be had instead.
-const CHAIN_MAX: usize = 16;
+// The most steps in a chain behind the first one, where an order can be had instead.
+const CHAIN_MAX: usize = 15;
 
 // Whether a key stands twice, as far as a check shows it.
 pub enum Verdict {
