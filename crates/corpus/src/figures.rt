@@ -8,7 +8,7 @@ use std::num::wrapping_add_u64;
 const NUMBERS: usize = 13;
 
 // Sums over the accepted lines, and how many lines were refused by each number.
-#[derive(Drop)]
+#[derive(Clone, Copy)]
 pub struct Figures {
     lines: u64,
     accepted: u64,

@@ -1,5 +1,7 @@
 // Reads the lists of mapping lines that the arguments name, each line with the buttons 10130 to 1014F and the axes
 // 30000 to 3000F, and prints what became of them: a line for each list, and one for all.
+#![tactic(auto)]
+
 mod figures;
 
 ghost use Rattle.std.specs.Prelude.{◌<◌, length};

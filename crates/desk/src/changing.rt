@@ -14,7 +14,7 @@ const PATH_ROOM: usize = 16400;
 
 // What the script says: whether it holds the lock, and the mode, the owner and the group that the new store gets,
 // where there is a store.
-#[derive(Drop)]
+#[derive(Clone, Copy)]
 pub struct Held {
     pub locked: bool,
     pub kept: bool,
@@ -23,7 +23,7 @@ pub struct Held {
     pub group: u32,
 }
 
-#[derive(Drop)]
+#[derive(Clone, Copy)]
 struct Path {
     bytes: [u8; PATH_ROOM],
     len: usize,

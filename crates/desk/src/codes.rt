@@ -19,7 +19,7 @@ pub const ABS: u32 = 3;
 const KIND_UNIT: u32 = 65536;
 
 // A list of codes, and whether a part of it was none.
-#[derive(Drop)]
+#[derive(Clone, Copy)]
 pub struct Codes {
     pub list: [u32; LONGEST],
     pub len: usize,
@@ -27,7 +27,7 @@ pub struct Codes {
 }
 
 // What a text is as a code.
-#[derive(Drop)]
+#[derive(Clone, Copy)]
 pub enum CodeParse {
     Parsed(u32),
     Invalid,

@@ -34,7 +34,7 @@ pub fn arg_space() -> [u8; ARG_ROOM]
 }
 
 // How many bytes were read, if none failed.
-#[derive(Drop)]
+#[derive(Clone, Copy)]
 pub enum Got {
     Bytes(usize),
     Failed,
@@ -62,7 +62,7 @@ fn more(fd: i32) -> Got {
 }
 
 // How many bytes a list has, if it was read.
-#[derive(Drop)]
+#[derive(Clone, Copy)]
 pub enum List {
     Read(usize),
     Failed,

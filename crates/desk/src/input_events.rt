@@ -6,7 +6,7 @@ use crate::files::{Got, read_all};
 const RECORD: usize = 24;
 
 // A record: type and code are numbers of linux/input-event-codes.h, the value is in two's complement.
-#[derive(Drop)]
+#[derive(Clone, Copy)]
 pub struct Input {
     pub seconds: u64,
     pub micros: u64,
@@ -16,7 +16,7 @@ pub struct Input {
 }
 
 // The next record, if there is a whole one: else the bytes that are left.
-#[derive(Drop)]
+#[derive(Clone, Copy)]
 pub enum NextInput {
     Is(Input),
     End,

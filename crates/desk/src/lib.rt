@@ -1,4 +1,6 @@
 // The desk of support staff: what is printed and typed, help, refusals in words, codes, files and recordings. Needs no line.
+#![tactic(auto)]
+
 pub mod arguments;
 pub mod changing;
 pub mod codes;

@@ -9,14 +9,14 @@ use crate::shown::{complain_shown, fail};
 const NO_FILE: i32 = -1;
 
 // A recording: where it is read, and its next record.
-#[derive(Drop)]
+#[derive(Clone, Copy)]
 pub struct Stream {
     pub fd: i32,
     pub next: NextInput,
 }
 
 // Whose record comes next.
-#[derive(Drop)]
+#[derive(Clone, Copy)]
 pub enum Turn {
     First(Input),
     Second(Input),

@@ -9,7 +9,7 @@ const NAME_ROOM: usize = 16;
 
 const FAR: usize = 3;
 
-#[derive(Drop)]
+#[derive(Clone, Copy)]
 pub struct Near {
     pub name: [u8; NAME_ROOM],
     pub len: usize,

@@ -4,7 +4,7 @@ use std::num::wrapping_add_usize;
 
 // How many records told an event; how many of a button or an axis told none, and why; how many are of other kinds; and
 // how often a map was changed, and how many events that told.
-#[derive(Drop)]
+#[derive(Clone, Copy)]
 pub struct Tally {
     pub told: usize,
     pub unmapped: usize,

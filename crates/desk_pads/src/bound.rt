@@ -8,7 +8,7 @@ use line::parser::{Answer, Token, start_state};
 use map::mapping_data::{MappingData, SlotCode};
 
 // Whether each element is bound, in the elements' order.
-#[derive(Drop)]
+#[derive(Clone, Copy)]
 pub struct Bound {
     pub has: [bool; ELEMENTS],
 }
@@ -168,7 +168,7 @@ fn twin(slots: MappingData, k: usize) -> usize {
 }
 
 // Two elements with one code, if there are such.
-#[derive(Drop)]
+#[derive(Clone, Copy)]
 pub struct Pair {
     pub found: bool,
     pub first: usize,

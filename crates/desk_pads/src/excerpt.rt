@@ -19,7 +19,7 @@ const HEAD: usize = 64;
 const PAIR: usize = 160;
 
 // What is shown: the first `head` bytes, then those from `from` to `to`.
-#[derive(Drop)]
+#[derive(Clone, Copy)]
 struct Cut {
     head: usize,
     from: usize,

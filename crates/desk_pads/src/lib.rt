@@ -1,4 +1,6 @@
 // Pads in words: elements, lines and maps, slots, and what the events of recorded pads give.
+#![tactic(auto)]
+
 pub mod bound;
 pub mod elements;
 pub mod excerpt;

@@ -12,7 +12,7 @@ use pad::two::{Pads, Which};
 pub const NEVER: usize = 18446744073709551615;
 
 // A pad's map, how many of its records were told, and after how many it gets its next map.
-#[derive(Drop)]
+#[derive(Clone, Copy)]
 pub struct Seat {
     pub map: Mapping,
     pub records: usize,
@@ -20,7 +20,7 @@ pub struct Seat {
 }
 
 // Where there is one recording, the second pad has no codes and the empty map.
-#[derive(Drop)]
+#[derive(Clone, Copy)]
 pub struct Play {
     pub two: bool,
     pub pads: Pads,

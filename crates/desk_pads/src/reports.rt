@@ -6,7 +6,7 @@ use line::ev::Code;
 use pad::events::Raw;
 
 // What a pad reports of a code.
-#[derive(Drop)]
+#[derive(Clone, Copy)]
 pub struct RawEvent {
     pub code: Code,
     pub raw: Raw,
@@ -14,7 +14,7 @@ pub struct RawEvent {
 
 // What a record says: a raw event; a button that is held and repeats; a value that no button or axis has; or what is
 // neither a button's nor an axis's (EV_SYN, EV_MSC and others).
-#[derive(Drop)]
+#[derive(Clone, Copy)]
 pub enum Report {
     Is(RawEvent),
     Repeats(Code),

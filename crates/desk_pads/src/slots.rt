@@ -12,7 +12,7 @@ use map::mapping_data::{Changed, MappingData};
 use text::bytes::same_bytes;
 
 // The slots, how many arguments filled one, and whether one could not.
-#[derive(Drop)]
+#[derive(Clone, Copy)]
 pub struct Slots {
     pub filled: MappingData,
     pub given: usize,

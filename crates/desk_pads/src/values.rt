@@ -4,7 +4,7 @@ ghost use Rattle.std.specs.Prelude.{◌<◌};
 use desk::say::{put, put_number};
 
 // A value of an axis, if it is within.
-#[derive(Drop)]
+#[derive(Clone, Copy)]
 pub enum AxisValue {
     Is(i16),
     Beyond,

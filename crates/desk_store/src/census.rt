@@ -9,7 +9,7 @@ use store::parties::Party;
 use text::bytes::same_bytes;
 use text::uuid::{Uuid, UuidParse};
 
-#[derive(Drop)]
+#[derive(Clone, Copy)]
 pub enum LineKind {
     Empty,
     Comment,
@@ -24,7 +24,7 @@ pub enum LineKind {
 
 // How many lines of each kind; of those with no UUID the number and the place of the first, of those wanted how many
 // can't be read.
-#[derive(Drop)]
+#[derive(Clone, Copy)]
 pub struct Census {
     pub empty: usize,
     pub comments: usize,

@@ -12,7 +12,7 @@ use store::parties::Party;
 use text::uuid::Uuid;
 
 // A pad's codes, in the order by which lines count them.
-#[derive(Drop)]
+#[derive(Clone, Copy)]
 pub struct Lists {
     pub buttons: Codes,
     pub axes: Codes,

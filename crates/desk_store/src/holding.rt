@@ -18,7 +18,7 @@ use text::uuid::{Uuid, UuidParse};
 
 // A record of the index: its bytes, whether it is a line's, its owner, 0 for the hall, and the length of its line; all 0
 // where there is none.
-#[derive(Drop)]
+#[derive(Clone, Copy)]
 struct Record {
     size: usize,
     line: bool,
@@ -27,7 +27,7 @@ struct Record {
 }
 
 // The lines held, how many of them are organisers', their bytes, the shares, and the end of all records.
-#[derive(Drop)]
+#[derive(Clone, Copy)]
 struct Extent {
     shares: usize,
     lines: usize,
@@ -37,7 +37,7 @@ struct Extent {
 }
 
 // The lines held, and the room left in the index.
-#[derive(Drop)]
+#[derive(Clone, Copy)]
 pub struct Room {
     pub held: usize,
     pub index: usize,

@@ -1,4 +1,6 @@
 // The commands on a hall's store, on lists of lines and on maps.
+#![tactic(auto)]
+
 pub mod census;
 pub mod demo;
 pub mod filing;

@@ -16,7 +16,7 @@ use text::bytes::same_bytes;
 const SHOWN: usize = 1000;
 
 // How many lines were read, how many were refused, and how many an insert passes over, with the first of each kind.
-#[derive(Drop)]
+#[derive(Clone, Copy)]
 struct Tally {
     lines: usize,
     comments: usize,

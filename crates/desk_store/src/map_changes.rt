@@ -20,7 +20,7 @@ use text::uuid::{Uuid, UuidParse};
 const DIGITS_MAX: usize = 9;
 
 // After how many records of a pad the map of which line comes; NEVER where it is not so written.
-#[derive(Drop)]
+#[derive(Clone, Copy)]
 struct MapChange {
     records: usize,
     id: Uuid,

@@ -17,7 +17,7 @@ use store::near::{NearLook, found_near, get_near};
 use text::uuid::{Uuid, UuidParse};
 
 // What the arguments from a place on say; `anyway`: whether that word is among them.
-#[derive(Drop)]
+#[derive(Clone, Copy)]
 pub struct Request {
     pub buttons: Codes,
     pub axes: Codes,

@@ -16,7 +16,7 @@ pub const OWNED_RECORD: usize = 22;
 pub const SHARE_RECORD: usize = 4;
 
 // Who calls, how many arguments say so, how many say something else, and whether one was not understood.
-#[derive(Drop)]
+#[derive(Clone, Copy)]
 pub struct Caller {
     pub party: Party,
     pub given: usize,

@@ -18,21 +18,21 @@ use text::decimal::{IndexParse, parse_u16};
 const OWNERS: usize = 256;
 
 // How many parties have a share, and the sum over all parties of the larger of use and share.
-#[derive(Drop)]
+#[derive(Clone, Copy)]
 pub struct Claims {
     pub shares: usize,
     pub bytes: usize,
 }
 
 // The owner byte of a party that is named, or that none is.
-#[derive(Drop)]
+#[derive(Clone, Copy)]
 enum Named {
     Owner(u8),
     Nobody,
 }
 
 // A number of bytes, or none.
-#[derive(Drop)]
+#[derive(Clone, Copy)]
 enum Size {
     Bytes(usize),
     NoSize,

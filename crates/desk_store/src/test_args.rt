@@ -15,7 +15,7 @@ use text::bytes::same_bytes;
 
 // Which arguments name the recordings and the second pad's UUID, and how many do; which lists the second pad has of its
 // own; one that is about a second pad; and whether one was not understood.
-#[derive(Drop)]
+#[derive(Clone, Copy)]
 pub struct Named {
     pub stream: usize,
     pub streams: usize,
@@ -30,7 +30,7 @@ pub struct Named {
 }
 
 // Both pads' codes, whose lines they go by, and the arguments' places; they stand from `from` on.
-#[derive(Drop)]
+#[derive(Clone, Copy)]
 pub struct Request {
     pub first: Lists,
     pub second: Lists,

@@ -22,7 +22,7 @@ use text::uuid::{Uuid, UuidParse};
 const RECORDS_MAX: usize = 1099511627776;
 
 // A pad before its recording: the status, and where that is DONE its map.
-#[derive(Drop)]
+#[derive(Clone, Copy)]
 struct Start {
     status: u8,
     seat: Seat,

@@ -17,7 +17,7 @@ use map::keys::{KEYS, key_button, key_table};
 
 // A refused one has the empty map.
 #[repr(C)]
-#[derive(Drop)]
+#[derive(Clone, Copy)]
 pub struct FlatDefault {
     pub refusal: FlatRefusal,
     pub map: FlatMapping,
@@ -25,14 +25,14 @@ pub struct FlatDefault {
 
 // The table of key codes, as numbers.
 #[repr(C)]
-#[derive(Drop)]
+#[derive(Clone, Copy)]
 pub struct FlatKeys {
     pub buttons: [u8; KEYS],
 }
 
 // A refused build has the empty map and length 0.
 #[repr(C)]
-#[derive(Drop)]
+#[derive(Clone, Copy)]
 pub struct FlatBuilt {
     pub refusal: FlatRefusal,
     pub map: FlatMapping,

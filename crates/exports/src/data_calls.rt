@@ -12,7 +12,7 @@ use map::mapping_data::{Changed, MappingData, Slot, SlotCode};
 
 // What an insert or a remove hands back: the former code, and the changed slots.
 #[repr(C)]
-#[derive(Drop)]
+#[derive(Clone, Copy)]
 pub struct FlatChanged {
     pub former: FlatCode,
     pub slots: FlatData,

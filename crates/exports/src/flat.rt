@@ -11,14 +11,14 @@ use text::uuid::{Form, Uuid};
 
 // Where a writer stopped; 0 where the text did not fit.
 #[repr(C)]
-#[derive(Drop)]
+#[derive(Clone, Copy)]
 pub struct FlatWritten {
     pub fits: bool,
     pub next: usize,
 }
 
 #[repr(C)]
-#[derive(Drop)]
+#[derive(Clone, Copy)]
 pub struct FlatUuid {
     pub high: u64,
     pub low: u64,
@@ -26,7 +26,7 @@ pub struct FlatUuid {
 
 // A button, or an axis, by its number.
 #[repr(C)]
-#[derive(Drop)]
+#[derive(Clone, Copy)]
 pub struct FlatElement {
     pub is_axis: bool,
     pub number: u16,
@@ -34,7 +34,7 @@ pub struct FlatElement {
 
 // A refusal by document 01's number, 0 where nothing was refused; its place and the code that it carries, 0 where it has none.
 #[repr(C)]
-#[derive(Drop)]
+#[derive(Clone, Copy)]
 pub struct FlatRefusal {
     pub number: u8,
     pub has_place: bool,

@@ -6,14 +6,14 @@ use line::ev::Code;
 use map::mapping_data::{AXES, BUTTONS, MappingData, Slot};
 
 #[repr(C)]
-#[derive(Drop)]
+#[derive(Clone, Copy)]
 pub struct FlatSlot {
     pub filled: bool,
     pub code: u32,
 }
 
 #[repr(C)]
-#[derive(Drop)]
+#[derive(Clone, Copy)]
 pub struct FlatData {
     pub buttons: [FlatSlot; BUTTONS],
     pub axes: [FlatSlot; AXES],

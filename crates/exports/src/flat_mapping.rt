@@ -9,7 +9,7 @@ use line::mapping::{CODES_MAX, Entry, Mapping};
 use line::parser::Ranges;
 
 #[repr(C)]
-#[derive(Drop)]
+#[derive(Clone, Copy)]
 pub struct FlatEntry {
     pub code: u32,
     pub element: FlatElement,
@@ -19,7 +19,7 @@ pub struct FlatEntry {
 }
 
 #[repr(C)]
-#[derive(Drop)]
+#[derive(Clone, Copy)]
 pub struct FlatMapping {
     pub count: usize,
     pub entries: [FlatEntry; CODES_MAX],

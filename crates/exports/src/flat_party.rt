@@ -6,7 +6,7 @@ use store::parties::Party;
 
 // An organiser by its owner byte, or the hall, where the byte is not read.
 #[repr(C)]
-#[derive(Drop)]
+#[derive(Clone, Copy)]
 pub struct FlatParty {
     pub organiser: bool,
     pub owner: u8,

@@ -10,7 +10,7 @@ use line::parser::{Answer, AxisRange, Ranges, State, Token};
 
 // What a pair says. `from` is the index, or the hat's number.
 #[repr(C)]
-#[derive(Drop)]
+#[derive(Clone, Copy)]
 pub struct FlatPair {
     pub from: u16,
     pub direction: u16,
@@ -23,7 +23,7 @@ pub struct FlatPair {
 // An answer of the walker by its kind: 0 end, 1 refused, 2 UUID, 3 platform, 4 name, 5 axis, 6 button, 7 hat. What its
 // kind has no use for is 0.
 #[repr(C)]
-#[derive(Drop)]
+#[derive(Clone, Copy)]
 pub struct FlatToken {
     pub kind: u8,
     pub refusal: FlatRefusal,

@@ -1,5 +1,7 @@
 // The C boundary: one thin call for each public call of the layers. What crosses is numbers, slices and #[repr(C)] structs
 // of them; an enum is laid out as numbers. bindings/raspteal.h says what each function does.
+#![tactic(auto)]
+
 mod build_calls;
 mod data_calls;
 mod flat;

@@ -8,7 +8,7 @@ use line::ev::{Axis, Button, SecondAxis, ToNec};
 
 // A code, if there is one.
 #[repr(C)]
-#[derive(Drop)]
+#[derive(Clone, Copy)]
 pub struct FlatCode {
     pub found: bool,
     pub code: u32,
@@ -16,7 +16,7 @@ pub struct FlatCode {
 
 // An axis, if there is one.
 #[repr(C)]
-#[derive(Drop)]
+#[derive(Clone, Copy)]
 pub struct FlatAxis {
     pub found: bool,
     pub number: u16,

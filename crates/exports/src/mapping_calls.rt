@@ -20,7 +20,7 @@ use line::tables::{IDENT_MAX, KeyElement};
 
 // A map after a put. A refused put leaves it as it was.
 #[repr(C)]
-#[derive(Drop)]
+#[derive(Clone, Copy)]
 pub struct FlatPut {
     pub refusal: FlatRefusal,
     pub map: FlatMapping,
@@ -28,7 +28,7 @@ pub struct FlatPut {
 
 // An element, if there is one.
 #[repr(C)]
-#[derive(Drop)]
+#[derive(Clone, Copy)]
 pub struct FlatMapped {
     pub found: bool,
     pub element: FlatElement,
@@ -36,7 +36,7 @@ pub struct FlatMapped {
 
 // An entry, if there is one; else an unused one.
 #[repr(C)]
-#[derive(Drop)]
+#[derive(Clone, Copy)]
 pub struct FlatEntered {
     pub found: bool,
     pub entry: FlatEntry,
@@ -44,7 +44,7 @@ pub struct FlatEntered {
 
 // The name of an element: the first `len` bytes.
 #[repr(C)]
-#[derive(Drop)]
+#[derive(Clone, Copy)]
 pub struct FlatIdent {
     pub name: [u8; IDENT_MAX],
     pub len: usize,

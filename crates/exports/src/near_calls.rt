@@ -13,7 +13,7 @@ use text::bytes::write_bytes;
 
 // What is held, or 19 or 24: 0 nothing, 1 a line under the whole UUID, 2 one under that without its checksum alone.
 #[repr(C)]
-#[derive(Drop)]
+#[derive(Clone, Copy)]
 pub struct FlatNearLook {
     pub refusal: FlatRefusal,
     pub how: u8,

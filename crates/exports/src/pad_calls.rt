@@ -14,7 +14,7 @@ use pad::value::{ElementValue, Emitted, entry_value, event};
 
 // The value of an element, if there is one.
 #[repr(C)]
-#[derive(Drop)]
+#[derive(Clone, Copy)]
 pub struct FlatValue {
     pub found: bool,
     pub value: i16,
@@ -22,7 +22,7 @@ pub struct FlatValue {
 
 // An element's value, if there is one.
 #[repr(C)]
-#[derive(Drop)]
+#[derive(Clone, Copy)]
 pub struct FlatEmitted {
     pub found: bool,
     pub element: FlatElement,

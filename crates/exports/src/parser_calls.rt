@@ -16,7 +16,7 @@ use line::parser::tokens::LastRefusal;
 
 // A step of the walker: its answer, and where it goes on.
 #[repr(C)]
-#[derive(Drop)]
+#[derive(Clone, Copy)]
 pub struct FlatStep {
     pub token: FlatToken,
     pub pos: usize,
@@ -25,7 +25,7 @@ pub struct FlatStep {
 
 // The number of tokens of a line, and the last refusal.
 #[repr(C)]
-#[derive(Drop)]
+#[derive(Clone, Copy)]
 pub struct FlatTokens {
     pub count: usize,
     pub last: FlatRefusal,
@@ -33,7 +33,7 @@ pub struct FlatTokens {
 
 // A refused reading has the empty map.
 #[repr(C)]
-#[derive(Drop)]
+#[derive(Clone, Copy)]
 pub struct FlatReading {
     pub refusal: FlatRefusal,
     pub map: FlatMapping,

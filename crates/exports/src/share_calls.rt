@@ -9,7 +9,7 @@ use store::sharing::{ShareTold, ShareUse};
 
 // A party's share and the bytes of its lines, or 19.
 #[repr(C)]
-#[derive(Drop)]
+#[derive(Clone, Copy)]
 pub struct FlatShare {
     pub refusal: FlatRefusal,
     pub share: usize,

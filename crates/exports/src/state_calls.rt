@@ -19,7 +19,7 @@ use pad::state::{HELD_MAX, Pad, Told};
 
 // A pad's state: its numbers as they are.
 #[repr(C)]
-#[derive(Drop)]
+#[derive(Clone, Copy)]
 pub struct FlatPad {
     pub count: usize,
     pub held: [u64; HELD_MAX],
@@ -28,7 +28,7 @@ pub struct FlatPad {
 }
 
 #[repr(C)]
-#[derive(Drop)]
+#[derive(Clone, Copy)]
 pub struct FlatEvent {
     pub element: FlatElement,
     pub value: i16,
@@ -36,7 +36,7 @@ pub struct FlatEvent {
 
 // The state after a call, and its events: the first `count` of the list.
 #[repr(C)]
-#[derive(Drop)]
+#[derive(Clone, Copy)]
 pub struct FlatTold {
     pub refusal: FlatRefusal,
     pub pad: FlatPad,

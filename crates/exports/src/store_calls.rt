@@ -20,7 +20,7 @@ use text::bytes::write_bytes;
 
 // An insert's refusal, the lines walked, and how many of them were filed in another form than 32 digits.
 #[repr(C)]
-#[derive(Drop)]
+#[derive(Clone, Copy)]
 pub struct FlatInserted {
     pub refusal: FlatRefusal,
     pub count: usize,
@@ -29,7 +29,7 @@ pub struct FlatInserted {
 
 // A refused save has the empty map.
 #[repr(C)]
-#[derive(Drop)]
+#[derive(Clone, Copy)]
 pub struct FlatSaved {
     pub refusal: FlatRefusal,
     pub map: FlatMapping,
@@ -37,7 +37,7 @@ pub struct FlatSaved {
 
 // Whether a line is held, or 19 or 24.
 #[repr(C)]
-#[derive(Drop)]
+#[derive(Clone, Copy)]
 pub struct FlatLook {
     pub refusal: FlatRefusal,
     pub found: bool,

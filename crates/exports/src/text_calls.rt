@@ -11,7 +11,7 @@ use text::decimal::IndexParse;
 use text::uuid::{Uuid, UuidParse};
 
 #[repr(C)]
-#[derive(Drop)]
+#[derive(Clone, Copy)]
 pub struct FlatUuidParse {
     pub valid: bool,
     pub id: FlatUuid,
@@ -19,7 +19,7 @@ pub struct FlatUuidParse {
 }
 
 #[repr(C)]
-#[derive(Drop)]
+#[derive(Clone, Copy)]
 pub struct FlatIndexParse {
     pub valid: bool,
     pub number: u16,

@@ -20,7 +20,7 @@ use pad::two::{Pads, PadsTold, Which};
 
 // The pads of one player.
 #[repr(C)]
-#[derive(Drop)]
+#[derive(Clone, Copy)]
 pub struct FlatPads {
     pub first: FlatPad,
     pub second: FlatPad,
@@ -28,7 +28,7 @@ pub struct FlatPads {
 
 // The state after a call, and its events: the first `count` of the list.
 #[repr(C)]
-#[derive(Drop)]
+#[derive(Clone, Copy)]
 pub struct FlatPadsTold {
     pub refusal: FlatRefusal,
     pub pads: FlatPads,

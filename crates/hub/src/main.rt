@@ -1,4 +1,6 @@
 // The command line for support staff, with a hall's store file, lists of mapping lines and a pad's codes.
+#![tactic(auto)]
+
 use desk::changing::{Held, held_from, not_held};
 use desk::files::arg_space;
 use desk::help;

@@ -1,5 +1,7 @@
 // Prints the table of key codes that the map layer holds: the button number of each code from 10100 to 102ff, or 0, one
 // a line. It works each number out from document 01's two button rules, and does not read the table.
+#![tactic(auto)]
+
 ghost use Rattle.std.specs.Prelude.{◌≡◌};
 ghost use Rattle.map.specs.Keys.{key_number};
 

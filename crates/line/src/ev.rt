@@ -6,18 +6,18 @@ ghost use Rattle.line.specs.Elements.{counted_of, to_nec_of, is_dpad_of, is_stic
 ghost use Rattle.line.specs.Elements.{is_button_of, same_element};
 
 // An event code.
-#[derive(Drop)]
+#[derive(Clone, Copy)]
 pub struct Code(pub u32);
 
 // A button's number.
-#[derive(Drop)]
+#[derive(Clone, Copy)]
 pub struct Button(pub u16);
 
 // An axis's number.
-#[derive(Drop)]
+#[derive(Clone, Copy)]
 pub struct Axis(pub u16);
 
-#[derive(Drop)]
+#[derive(Clone, Copy)]
 pub enum AxisOrBtn {
     Btn(Button),
     Axis(Axis),
@@ -29,14 +29,14 @@ const BUTTON_LAST: u16 = 19;
 const AXIS_LAST: u16 = 8;
 
 // The native code of a button, if it has one.
-#[derive(Drop)]
+#[derive(Clone, Copy)]
 pub enum ToNec {
     Is(Code),
     Nothing,
 }
 
 // The other axis of a stick or of the DPad, if there is one.
-#[derive(Drop)]
+#[derive(Clone, Copy)]
 pub enum SecondAxis {
     Is(Axis),
     Nothing,

@@ -18,7 +18,7 @@ use text::bytes::{find_byte, same_bytes};
 use text::utf8::{is_utf8, valid_up_to};
 use text::uuid::{Form, Spelled, Uuid, UuidParse};
 
-#[derive(Drop)]
+#[derive(Clone, Copy)]
 pub enum State {
     Uuid,
     Name,
@@ -29,7 +29,7 @@ pub enum State {
 }
 
 // The half of an axis that is meant.
-#[derive(Drop)]
+#[derive(Clone, Copy)]
 pub enum AxisRange {
     Full,
     UpperHalf,
@@ -37,7 +37,7 @@ pub enum AxisRange {
 }
 
 // What a pair says of the ranges; buttons and hats have a full input and no inversion.
-#[derive(Drop)]
+#[derive(Clone, Copy)]
 pub struct Ranges {
     pub input: AxisRange,
     pub output: AxisRange,
@@ -54,7 +54,7 @@ impl Ranges {
 }
 
 // A text is its start and length in the line. How the UUID is spelled, `first_form` tells.
-#[derive(Drop)]
+#[derive(Clone, Copy)]
 pub enum Token {
     Uuid(Uuid),
     Platform {
@@ -84,13 +84,13 @@ pub enum Token {
 }
 
 // How the UUID of a line's first token is spelled, if that token is one.
-#[derive(Drop)]
+#[derive(Clone, Copy)]
 pub enum FirstForm {
     Is(Form),
     NoUuid,
 }
 
-#[derive(Drop)]
+#[derive(Clone, Copy)]
 pub enum ErrorKind {
     InvalidGuid,
     InvalidKeyValPair,
@@ -103,20 +103,20 @@ pub enum ErrorKind {
     NotUtf8,
 }
 
-#[derive(Drop)]
+#[derive(Clone, Copy)]
 pub struct Error {
     pub kind: ErrorKind,
     pub position: usize,
 }
 
-#[derive(Drop)]
+#[derive(Clone, Copy)]
 pub enum Answer {
     Found(Token),
     Refused(Error),
     End,
 }
 
-#[derive(Drop)]
+#[derive(Clone, Copy)]
 pub struct Stepped {
     pub answer: Answer,
     pub pos: usize,
@@ -124,7 +124,7 @@ pub struct Stepped {
 }
 
 // The walker: the line, a position and a state.
-#[derive(Drop)]
+#[derive(Clone, Copy)]
 pub struct Parser<'a> {
     pub data: &'a [u8],
     pub pos: usize,

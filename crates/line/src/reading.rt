@@ -17,7 +17,7 @@ use text::utf8::valid_up_to;
 // The most codes of a list.
 pub const LIST_MAX: usize = 1024;
 
-#[derive(Drop)]
+#[derive(Clone, Copy)]
 pub enum ParseSdlMappingError {
     UnknownHatDirection,
     ParseError(Error),
@@ -25,21 +25,21 @@ pub enum ParseSdlMappingError {
     ListTooLong,
 }
 
-#[derive(Drop)]
+#[derive(Clone, Copy)]
 pub enum SdlAnswer {
     Accepted,
     Refused(ParseSdlMappingError),
 }
 
 // A refused reading has the empty map.
-#[derive(Drop)]
+#[derive(Clone, Copy)]
 pub struct SdlMapping {
     pub answer: SdlAnswer,
     pub map: Mapping,
 }
 
 // What a turn answers, and the map after it; after a refusal that map says nothing.
-#[derive(Drop)]
+#[derive(Clone, Copy)]
 pub struct Turn {
     pub answer: SdlAnswer,
     pub draft: Draft,

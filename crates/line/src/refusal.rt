@@ -9,19 +9,19 @@ use crate::mapping::PutResult;
 use crate::parser::{Error, ErrorKind};
 use crate::reading::{ParseSdlMappingError, SdlAnswer};
 
-#[derive(Drop)]
+#[derive(Clone, Copy)]
 pub enum Place {
     At(usize),
     NoPlace,
 }
 
-#[derive(Drop)]
+#[derive(Clone, Copy)]
 pub enum Carried {
     Carries(Code),
     NoCode,
 }
 
-#[derive(Drop)]
+#[derive(Clone, Copy)]
 pub struct Refusal {
     pub number: u8,
     pub place: Place,
@@ -29,7 +29,7 @@ pub struct Refusal {
 }
 
 // An answer is a refusal, or it is none.
-#[derive(Drop)]
+#[derive(Clone, Copy)]
 pub enum Outcome {
     Passes,
     Refuses(Refusal),

@@ -12,28 +12,28 @@ pub const ROWS: usize = 35;
 pub const IDENT_MAX: usize = 13;
 
 // The element of a key, if it has one.
-#[derive(Drop)]
+#[derive(Clone, Copy)]
 pub enum KeyElement {
     Is(AxisOrBtn),
     Missing,
 }
 
 // The name of an element: the first `len` bytes.
-#[derive(Drop)]
+#[derive(Clone, Copy)]
 pub struct Ident {
     pub name: [u8; IDENT_MAX],
     pub len: usize,
 }
 
 // A row of the tables, if there is one.
-#[derive(Drop)]
+#[derive(Clone, Copy)]
 pub enum KeyRow {
     At(usize),
     Nowhere,
 }
 
 // How two byte strings compare.
-#[derive(Drop)]
+#[derive(Clone, Copy)]
 enum Order {
     Less,
     Equal,

@@ -48,7 +48,7 @@ const ELEMENTS: [AxisOrBtn; ROWS] = [
 ];
 
 // A refused one has the empty map.
-#[derive(Drop)]
+#[derive(Clone, Copy)]
 pub struct DefaultMap {
     pub answer: MappingAnswer,
     pub map: Mapping,

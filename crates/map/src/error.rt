@@ -5,7 +5,7 @@ ghost use Rattle.map.specs.Refusals.{mapping_refusal, mapping_outcome};
 use line::ev::Code;
 use line::refusal::{Outcome, Refusal};
 
-#[derive(Drop)]
+#[derive(Clone, Copy)]
 pub enum MappingError {
     // The code of a filled slot is not in its list.
     InvalidCode(Code),
@@ -22,7 +22,7 @@ pub enum MappingError {
     OutputTooShort,
 }
 
-#[derive(Drop)]
+#[derive(Clone, Copy)]
 pub enum MappingAnswer {
     Accepted,
     Refused(MappingError),

@@ -29,7 +29,7 @@ const PAIRS_MAX: usize = 143 + 25 * 7;
 pub const BUILT_MAX: usize = NAME_START + NAME_MAX + 1 + PAIRS_MAX;
 
 // A refused build has the empty map and length 0.
-#[derive(Drop)]
+#[derive(Clone, Copy)]
 pub struct Built {
     pub answer: MappingAnswer,
     pub map: Mapping,

@@ -13,7 +13,7 @@ pub const KEY_FIRST: u32 = 0x10100;
 pub const KEYS: usize = 512;
 
 // The number at place i is that of the key code 10100 + i.
-#[derive(Drop)]
+#[derive(Clone, Copy)]
 pub struct KeyTable {
     pub buttons: [u8; KEYS],
 }

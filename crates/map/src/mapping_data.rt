@@ -11,27 +11,27 @@ pub const BUTTONS: usize = 20;
 pub const AXES: usize = 9;
 
 // The code counts only where the slot is filled.
-#[derive(Drop)]
+#[derive(Clone, Copy)]
 pub struct Slot {
     pub filled: bool,
     pub code: Code,
 }
 
-#[derive(Drop)]
+#[derive(Clone, Copy)]
 pub struct MappingData {
     pub buttons: [Slot; BUTTONS],
     pub axes: [Slot; AXES],
 }
 
 // The code of a slot, if it has one.
-#[derive(Drop)]
+#[derive(Clone, Copy)]
 pub enum SlotCode {
     Is(Code),
     Nothing,
 }
 
 // What an insert or a remove hands back: the former code, and the changed slots.
-#[derive(Drop)]
+#[derive(Clone, Copy)]
 pub struct Changed {
     pub former: SlotCode,
     pub slots: MappingData,

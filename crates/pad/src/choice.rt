@@ -12,14 +12,14 @@ use line::ev::{AxisOrBtn, Code};
 use line::mapping::{CODES_MAX, Entered, Entry};
 
 // A code and the number of the value that it gives, or none.
-#[derive(Drop)]
+#[derive(Clone, Copy)]
 pub struct Best {
     pub code: u32,
     pub number: u32,
 }
 
 // The entries that count for an element, as numbers: the first `count` of the list.
-#[derive(Drop)]
+#[derive(Clone, Copy)]
 struct Own {
     count: usize,
     list: [u64; CODES_MAX],

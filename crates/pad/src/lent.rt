@@ -14,7 +14,7 @@ use crate::telling::{Change, code_change, no_change, place_of};
 use line::ev::{AxisOrBtn, Code};
 
 // What a put of a raw value answers, how many codes are held then, and the change.
-#[derive(Drop)]
+#[derive(Clone, Copy)]
 pub struct Put {
     pub answer: PadAnswer,
     pub count: usize,

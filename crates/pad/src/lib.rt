@@ -1,4 +1,6 @@
 // The pad layer, beside the map layer: what a pad's raw events are worth to elements, and a pad while a game runs.
+#![tactic(auto)]
+
 mod choice;
 pub mod events;
 mod lent;

@@ -18,7 +18,7 @@ pub const CODE_UNIT: u64 = 4294967296;
 pub const NONE: u32 = 65536;
 
 // n of d, or none.
-#[derive(Drop)]
+#[derive(Clone, Copy)]
 pub enum Part {
     Of(u32, u32),
     Nothing,

@@ -17,7 +17,7 @@ use line::refusal::{Outcome, Refusal};
 pub const HELD_MAX: usize = 256;
 
 // Held codes and the entries of the map, as numbers. Any numbers mean something: counts over 256 are read as 256.
-#[derive(Drop)]
+#[derive(Clone, Copy)]
 pub struct Pad {
     pub count: usize,
     pub held: [u64; HELD_MAX],
@@ -25,7 +25,7 @@ pub struct Pad {
     pub entries: [u64; CODES_MAX],
 }
 
-#[derive(Drop)]
+#[derive(Clone, Copy)]
 pub enum PadAnswer {
     Done,
     // A raw event for a 257th code.
@@ -45,7 +45,7 @@ impl PadAnswer {
 }
 
 // What a call answers: the state after it, and the events.
-#[derive(Drop)]
+#[derive(Clone, Copy)]
 pub struct Told {
     pub answer: PadAnswer,
     pub pad: Pad,

@@ -20,7 +20,7 @@ const AXIS_LAST: u16 = 8;
 const ZERO: u32 = 32768;
 
 // The values of an element before and after, as numbers.
-#[derive(Drop)]
+#[derive(Clone, Copy)]
 pub struct Change {
     pub element: AxisOrBtn,
     pub before: u32,

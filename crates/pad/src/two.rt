@@ -22,21 +22,21 @@ use line::ev::{AxisOrBtn, Code};
 use line::mapping::Mapping;
 
 // The pads of one player.
-#[derive(Drop)]
+#[derive(Clone, Copy)]
 pub struct Pads {
     pub first: Pad,
     pub second: Pad,
 }
 
 // The pad that a call is for.
-#[derive(Drop)]
+#[derive(Clone, Copy)]
 pub enum Which {
     First,
     Second,
 }
 
 // What a call answers: the state after it, and the events.
-#[derive(Drop)]
+#[derive(Clone, Copy)]
 pub struct PadsTold {
     pub answer: PadAnswer,
     pub pads: Pads,

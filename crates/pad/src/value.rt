@@ -12,14 +12,14 @@ use line::mapping::{Entered, Entry, Mapping};
 use line::parser::{AxisRange, Ranges};
 
 // The value of an element, if there is one.
-#[derive(Drop)]
+#[derive(Clone, Copy)]
 pub enum ElementValue {
     Is(i16),
     Nothing,
 }
 
 // An event, if there is one.
-#[derive(Drop)]
+#[derive(Clone, Copy)]
 pub enum Emitted {
     Is(Event),
     Nothing,

@@ -1,5 +1,7 @@
 // Replays recorded answers of the Rust, with no Rust at hand. Each file of data/ says how it was made. A case is a line:
 // its kind, what is expected, and the arguments. A mismatch prints its line.
+#![tactic(auto)]
+
 mod answers;
 mod builds;
 mod fields;
@@ -10,7 +12,7 @@ use fields::{after_field, field_at, rest, word};
 use text::bytes::same_bytes;
 
 // How many cases were run, and how many of them went wrong.
-#[derive(Drop)]
+#[derive(Clone, Copy)]
 struct Totals {
     cases: u64,
     wrong: u64,

@@ -3,7 +3,7 @@ use crate::cases::{after_part, hex_number, number, part_at};
 
 const LONGEST: usize = 1025;
 
-#[derive(Drop)]
+#[derive(Clone, Copy)]
 pub struct Codes {
     pub list: [u32; LONGEST],
     pub len: usize,

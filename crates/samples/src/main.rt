@@ -1,5 +1,7 @@
 // Executes the cases of data/ against the library and compares each answer with what is expected.
 // A file has groups, `== TITLE`, each of cases, one a line; `#` starts a comment. A mismatch prints its line.
+#![tactic(auto)]
+
 mod build_cases;
 mod cases;
 mod codes;
@@ -19,14 +21,14 @@ use cases::{after_part, part_at, rest, word};
 use text::bytes::same_bytes;
 
 // How many cases were run, and how many of them went wrong.
-#[derive(Drop)]
+#[derive(Clone, Copy)]
 struct Totals {
     cases: u64,
     wrong: u64,
 }
 
 // A group that was run, and where the next one starts.
-#[derive(Drop)]
+#[derive(Clone, Copy)]
 struct Group {
     totals: Totals,
     next: usize,

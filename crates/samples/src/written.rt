@@ -5,7 +5,7 @@ use text::bytes::same_bytes;
 
 const ROOM: usize = 8704;
 
-#[derive(Drop)]
+#[derive(Clone, Copy)]
 pub struct Text {
     pub bytes: [u8; ROOM],
     pub len: usize,

@@ -1,6 +1,8 @@
 // Executes histories of calls on a store, and compares each answer with what is expected.
 // A file has groups, `== TITLE`, each of cases, one a line; `#` starts a comment; `new INDEX TEXT` makes a fresh store
 // of buffers of those lengths; `by 7` before a call says that it is organiser 7's. A mismatch prints its line.
+#![tactic(auto)]
+
 mod cases;
 mod fields;
 mod form_cases;
@@ -18,7 +20,7 @@ use store::parties::Party;
 use text::bytes::same_bytes;
 
 // The lengths of the buffers, and how many cases were run and went wrong, of this group and of all.
-#[derive(Drop)]
+#[derive(Clone, Copy)]
 struct Run {
     index: usize,
     text: usize,

@@ -4,7 +4,7 @@ use crate::fields::{after_part, number, part_at, unhex, uuid};
 
 const ROOM: usize = 16640;
 
-#[derive(Drop)]
+#[derive(Clone, Copy)]
 pub struct Text {
     pub bytes: [u8; ROOM],
     pub len: usize,

@@ -19,7 +19,7 @@ use crate::table::{Fill, Room, file_row};
 use text::uuid::UuidParse;
 
 // Whether an insert goes on after a line, its answer if it does not, and what is filled.
-#[derive(Drop)]
+#[derive(Clone, Copy)]
 pub struct Step {
     pub on: bool,
     pub answer: Answer,
@@ -28,7 +28,7 @@ pub struct Step {
 
 // How far lines were walked: whether the insert goes on, its answer if it does not, the place, the lines walked, and
 // how many numbers are taken.
-#[derive(Drop)]
+#[derive(Clone, Copy)]
 pub struct Walked {
     pub on: bool,
     pub answer: Answer,

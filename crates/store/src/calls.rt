@@ -25,7 +25,7 @@ use text::uuid::Uuid;
 
 // What a call answers; `NotUtf8` with the length of the text's valid run, `NoOwner` where an organiser names itself 0,
 // `NoText` and `ShareTooLarge` where shares and uses would exceed the text.
-#[derive(Drop)]
+#[derive(Clone, Copy)]
 pub enum Answer {
     Done,
     NotUtf8(usize),
@@ -39,14 +39,14 @@ pub enum Answer {
 }
 
 // What a walk over the lines of an insert comes to: the answer, and the lines walked.
-#[derive(Drop)]
+#[derive(Clone, Copy)]
 pub struct Tally {
     pub answer: Answer,
     pub count: usize,
 }
 
 // An insert's answer, the lines walked, and how many of them were filed in another form of the UUID than 32 digits.
-#[derive(Drop)]
+#[derive(Clone, Copy)]
 pub struct Inserted {
     pub answer: Answer,
     pub count: usize,
@@ -54,7 +54,7 @@ pub struct Inserted {
 }
 
 // What a save answers: done, build's refusal, a name that has LF or `platform:`, or as the other calls.
-#[derive(Drop)]
+#[derive(Clone, Copy)]
 pub enum SaveAnswer {
     Done,
     Refused(MappingError),
@@ -66,14 +66,14 @@ pub enum SaveAnswer {
 }
 
 // A save's answer, and its map.
-#[derive(Drop)]
+#[derive(Clone, Copy)]
 pub struct Saved {
     pub answer: SaveAnswer,
     pub map: Mapping,
 }
 
 // What a look-up says: the party holds a line, it holds none, the store is not sound, or an organiser names itself 0.
-#[derive(Drop)]
+#[derive(Clone, Copy)]
 pub enum Look {
     Found,
     Missing,

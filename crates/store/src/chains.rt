@@ -12,7 +12,7 @@ use crate::rows::{CELLS, ROWS, key_at, same_at};
 const CHAIN_MAX: usize = 16;
 
 // Whether a key stands twice, as far as a check shows it.
-#[derive(Drop)]
+#[derive(Clone, Copy)]
 pub enum Verdict {
     Apart,
     Twice,

@@ -9,7 +9,7 @@ use crate::shares::{OWNERS, any_share};
 use crate::table::Fill;
 
 // While one party files: what the others claim of the text, what they use of it, and its own share.
-#[derive(Drop)]
+#[derive(Clone, Copy)]
 pub struct Dues {
     pub others: usize,
     pub theirs: usize,

@@ -1,4 +1,6 @@
 // The store: two lent buffers, index and text, that encode a list of lines (document 01, 'Records' and 'Store').
+#![tactic(auto)]
+
 mod batch;
 mod bytes;
 pub mod calls;

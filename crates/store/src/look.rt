@@ -13,14 +13,14 @@ use crate::soundness::take_stock;
 use crate::table::{Fill, len_before};
 
 // Where in the text a line lies; length 0 where there is none.
-#[derive(Drop)]
+#[derive(Clone, Copy)]
 pub struct Part {
     pub start: usize,
     pub len: usize,
 }
 
 // What a look-up says, and where in the text the line lies; length 0 unless one is found.
-#[derive(Drop)]
+#[derive(Clone, Copy)]
 pub struct Seen {
     pub how: Look,
     pub start: usize,

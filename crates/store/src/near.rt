@@ -15,7 +15,7 @@ use text::uuid::Uuid;
 
 // What such a look-up says: the party holds a line under the whole UUID, one under that without its checksum alone, or
 // none; the store is not sound; or an organiser names itself 0.
-#[derive(Drop)]
+#[derive(Clone, Copy)]
 pub enum NearLook {
     Exact,
     Near,
@@ -25,7 +25,7 @@ pub enum NearLook {
 }
 
 // What a look-up says, and where in the text the line lies; length 0 where there is none.
-#[derive(Drop)]
+#[derive(Clone, Copy)]
 struct NearSeen {
     how: NearLook,
     start: usize,

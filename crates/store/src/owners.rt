@@ -5,7 +5,7 @@ ghost use Rattle.store.specs.Parties.{owner_of};
 use crate::parties::Party;
 
 // A party's owner byte, 0 being the hall's; nobody's where an organiser says 0.
-#[derive(Drop)]
+#[derive(Clone, Copy)]
 pub enum Owner {
     Byte(u8),
     Nobody,

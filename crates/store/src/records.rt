@@ -18,7 +18,7 @@ pub const HALL_SIZE: usize = 21;
 pub const OWNED_SIZE: usize = 22;
 
 // What the record at an index's front says; size 0 where no whole one stands there.
-#[derive(Drop)]
+#[derive(Clone, Copy)]
 pub struct Head {
     pub size: usize,
     pub key: Key,
@@ -27,7 +27,7 @@ pub struct Head {
 }
 
 // What a record says after its kind and owner.
-#[derive(Drop)]
+#[derive(Clone, Copy)]
 pub struct Body {
     pub uuid: Uuid,
     pub off: usize,

@@ -9,7 +9,7 @@ use crate::sharing::ShareTold;
 use line::refusal::{Outcome, Refusal};
 
 // What a look-up comes to: a line is held, none is, or it is refused.
-#[derive(Drop)]
+#[derive(Clone, Copy)]
 pub enum LookOutcome {
     Finds,
     FindsNone,

@@ -11,7 +11,7 @@ use crate::table::Fill;
 use text::bytes::write_bytes;
 
 // The numbers before the first one that is struck out: how many, and where their records and their lines end.
-#[derive(Drop)]
+#[derive(Clone, Copy)]
 pub struct Kept {
     pub rows: usize,
     pub at: usize,

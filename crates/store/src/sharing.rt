@@ -13,14 +13,14 @@ use crate::soundness::take_stock;
 use crate::table::Room;
 
 // A party's share, and the bytes of its lines.
-#[derive(Drop)]
+#[derive(Clone, Copy)]
 pub struct ShareUse {
     pub share: usize,
     pub used: usize,
 }
 
 // What is told of a party, or that the store is not sound.
-#[derive(Drop)]
+#[derive(Clone, Copy)]
 pub enum ShareTold {
     Told(ShareUse),
     Unsound,

@@ -25,7 +25,7 @@ pub const TEXT_MAX: usize = 65535;
 
 // What a walk over a store shows: whether records and lines are those of some list, in which a key may stand twice;
 // whether one does, as far as chains told; and how much is in use.
-#[derive(Drop)]
+#[derive(Clone, Copy)]
 pub struct Surveyed {
     pub whole: bool,
     pub verdict: Verdict,
@@ -33,7 +33,7 @@ pub struct Surveyed {
 }
 
 // Whether a store is sound, where in the index the records of the lines start, and how much is in use behind that.
-#[derive(Drop)]
+#[derive(Clone, Copy)]
 pub struct Stock {
     pub sound: bool,
     pub front: usize,

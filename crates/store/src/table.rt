@@ -12,7 +12,7 @@ use crate::records::record_size;
 use crate::rows::{CELLS, ROWS, len_at, put_len, put_row};
 
 // Whether a line has room: it fits, the index has no room for its record, or the text none for it.
-#[derive(Drop)]
+#[derive(Clone, Copy)]
 pub enum Room {
     Fits,
     IndexFull,
@@ -20,7 +20,7 @@ pub enum Room {
 }
 
 // How many numbers are taken, and how many bytes of the index and of the text the lines that are held take.
-#[derive(Drop)]
+#[derive(Clone, Copy)]
 pub struct Fill {
     pub count: usize,
     pub end: usize,
@@ -28,7 +28,7 @@ pub struct Fill {
 }
 
 // Whether a line had room, and what is filled once it is filed.
-#[derive(Drop)]
+#[derive(Clone, Copy)]
 pub struct Tried {
     pub room: Room,
     pub fill: Fill,

@@ -4,7 +4,7 @@ ghost use Rattle.text.specs.Bytes.{same, first_of, fits_at, Wrote};
 ghost use Rattle.text.specs.Inner.{Put};
 
 // What a writer answers: the place after the last byte, or that the buffer is too short and was left as it is.
-#[derive(Drop)]
+#[derive(Clone, Copy)]
 pub enum Written {
     Upto(usize),
     TooShort,

@@ -10,7 +10,7 @@ use crate::bytes::{Written, fits};
 const NUMBER_MAX: u32 = 65535;
 
 // What a text is as an index number.
-#[derive(Drop)]
+#[derive(Clone, Copy)]
 pub enum IndexParse {
     Parsed(u16),
     Invalid,

@@ -8,14 +8,14 @@ ghost use Rattle.text.specs.Bytes.{written, Wrote};
 use crate::bytes::{Written, fits, same_bytes};
 
 // A UUID: its first eight bytes and its last eight, high byte first.
-#[derive(Drop)]
+#[derive(Clone, Copy)]
 pub struct Uuid {
     pub high: u64,
     pub low: u64,
 }
 
 // What a text is as hexadecimal digits.
-#[derive(Drop)]
+#[derive(Clone, Copy)]
 enum Hex {
     Number(u64),
     NotHex,
@@ -23,7 +23,7 @@ enum Hex {
 
 // How a UUID is spelled: 32 digits, with hyphens, with hyphens in braces, after `urn:uuid:`. `Xinput` is the word of
 // that name in the first field of a line, which the walker takes for the UUID of zeros.
-#[derive(Drop)]
+#[derive(Clone, Copy)]
 pub enum Form {
     Simple,
     Hyphenated,
@@ -33,14 +33,14 @@ pub enum Form {
 }
 
 // A UUID, and how it was spelled.
-#[derive(Drop)]
+#[derive(Clone, Copy)]
 pub struct Spelled {
     pub id: Uuid,
     pub form: Form,
 }
 
 // What a text is as a UUID.
-#[derive(Drop)]
+#[derive(Clone, Copy)]
 pub enum UuidParse {
     Parsed(Spelled),
     Invalid,

@@ -5,14 +5,14 @@ ghost use Rattle.line.specs.Parser.{with_answer, tokens_of};
 
 use crate::parser::{Answer, Error, Parser, State, Stepped, start_state};
 
-#[derive(Drop)]
+#[derive(Clone, Copy)]
 pub enum LastRefusal {
     Is(Error),
     Nothing,
 }
 
 // How many tokens a walker gives, and its last refusal.
-#[derive(Drop)]
+#[derive(Clone, Copy)]
 pub struct Tokens {
     pub count: usize,
     pub last: LastRefusal,

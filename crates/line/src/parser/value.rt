@@ -9,7 +9,7 @@ use text::bytes::find_byte;
 use text::decimal::{IndexParse, parse_u16};
 
 // A value, or the place at which it is refused.
-#[derive(Drop)]
+#[derive(Clone, Copy)]
 pub enum Value {
     Axis {
         from: u16,

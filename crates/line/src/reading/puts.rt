@@ -6,7 +6,7 @@ use crate::ev::{Axis, AxisOrBtn, Button, Code};
 use crate::mapping::Entry;
 use crate::parser::{Ranges, Token};
 
-#[derive(Drop)]
+#[derive(Clone, Copy)]
 pub enum Puts {
     Nothing,
     Name {
@@ -26,7 +26,7 @@ pub enum Puts {
 }
 
 // The codes that a direction of hat 0 stands for.
-#[derive(Drop)]
+#[derive(Clone, Copy)]
 pub enum HatCodes {
     Centre,
     Codes { axis: Code, button: Code, flag: u8 },
@@ -34,7 +34,7 @@ pub enum HatCodes {
 }
 
 // The DPad axis beside a DPad button.
-#[derive(Drop)]
+#[derive(Clone, Copy)]
 pub enum Beside {
     Axis(Axis),
     Nothing,

@@ -9,7 +9,7 @@ use line::ev::{Axis, AxisOrBtn, Button};
 use line::mapping::Entry;
 
 // The first `count` entries, and the place of each one's code in its list: the list's length where it has none.
-#[derive(Drop)]
+#[derive(Clone, Copy)]
 pub struct Filled {
     pub count: usize,
     pub entries: [Entry; BUTTONS],

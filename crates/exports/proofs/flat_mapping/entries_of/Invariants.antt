@@ -1,0 +1,14 @@
+-- The entries before the place are read, the others are as they were.
+-- Assumes nothing.
+use Rattle.exports.specs.FlatMaps.{entry_in}
+use lib.ListN.{take, drop}
+use mathlib.Core.List.{◌++◌, map}
+use mathlib.Core.Path.{◌≡◌}
+use Prim.Native.Nat.{◌≤◌, ◌-◌}
+use Rattle.exports.proofs.flat_mapping.entries_of.Given as goal
+
+abbrev pub invariant-loop-i : goal.invariant-loop-i
+invariant-loop-i l = (l.i ≤ 256) × (l.out ≡ map entry_in (take l.i l.entries) ++ drop l.i l.initial.out)
+
+abbrev pub decreases-loop-i : goal.decreases-loop-i
+decreases-loop-i l = 256 - l.i

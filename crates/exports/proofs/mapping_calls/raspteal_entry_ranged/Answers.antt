@@ -1,0 +1,12 @@
+-- The contract of the call, and that of the layout, give the result.
+-- Assumes nothing.
+use Rattle.exports.proofs.mapping_calls.raspteal_entry_ranged.Goals as goal
+
+pub returns : goal.returns
+returns c =
+    simp (
+      c.flat_entry.ensures,
+      c.ranged.ensures,
+      c.element_of.ensures,
+      c.ranges_of-ranges.ensures,
+    )

@@ -1,0 +1,14 @@
+-- The contract of the call, and that of the layout, give the result.
+-- Assumes nothing.
+use Rattle.exports.proofs.mapping_calls.raspteal_mapping_put.Goals as goal
+
+pub returns : goal.returns
+returns c =
+    simp (
+      c.flat_mapping.ensures,
+      c.flat_outcome.ensures,
+      c.outcome.ensures,
+      c.put-put.ensures,
+      c.entry_of.ensures,
+      c.mapping_of.ensures,
+    )

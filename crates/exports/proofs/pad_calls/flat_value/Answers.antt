@@ -1,0 +1,19 @@
+-- By whether there is a value. Assumes nothing.
+use mathlib.Core.Path.{ap, sym, ◌∙◌}
+use mathlib.Core.Bool.{true}
+use lib.IntN.{ℤ}
+use mir.Syntax.{w16}
+use mir.ValLaws.{to_z-of_z}
+use Rattle.pad.specs.declared.value.ElementValue.{ElementValue}
+use Rattle.exports.specs.FlatPads.{flat_value}
+use Rattle.exports.proofs.pad_calls.flat_value.Goals as goal
+
+pub returns-in-Is : goal.returns-in-Is
+returns-in-Is c =
+    let g = c.x-1.given in
+    ap (λ (z : ℤ). record { found = true; value = z })
+    (to_z-of_z w16 g.0.0 (record { sfits = c.known_told-1.given.0.1 }))
+    ∙ ap (λ (w : ElementValue). flat_value w) (sym g.1)
+
+pub returns-in-Nothing : goal.returns-in-Nothing
+returns-in-Nothing c = simp c.in-Nothing.is

@@ -1,0 +1,9 @@
+-- The contract of the call, and that of the layout, give the result.
+-- Assumes nothing.
+use Rattle.exports.proofs.text_calls.raspteal_write_index.Goals as goal
+
+pub returns : goal.returns
+returns c = (
+  simp (c.flat_written.ensures, c.write_index.ensures.0),
+  c.write_index.ensures.1,
+)

@@ -1,0 +1,15 @@
+-- `tables::order_of` meets its contract: the order of what is left is the order of the whole. Assumes nothing.
+use mathlib.Core.Path.{◌≡◌}
+use Prim.Native.Nat.{◌≤◌, ◌-◌}
+use lib.ListN.{length}
+use Rattle.line.specs.Tables.{IDENT_MAX, byte_order}
+use Rattle.line.specs.Inner.{until_zero}
+use Rattle.line.proofs.KeyLaws.{rest}
+use Rattle.line.proofs.tables.order_of.Given as goal
+
+abbrev pub invariant-loop-j : goal.invariant-loop-j
+invariant-loop-j l =
+    (length l.row ≡ IDENT_MAX) × (l.j ≤ IDENT_MAX) × (l.j ≤ length l.key) × (rest l.row l.key l.j ≡ byte_order (until_zero l.row) l.key)
+
+abbrev pub decreases-loop-j : goal.decreases-loop-j
+decreases-loop-j l = IDENT_MAX - l.j

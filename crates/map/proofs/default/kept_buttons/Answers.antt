@@ -1,0 +1,107 @@
+use Prim.Native.Nat.{ℕ, suc, ◌+◌, ◌-◌, ◌<◌}
+use mathlib.Core.Path.{◌≡◌, sym, ap, ◌∙◌}
+use mathlib.Core.List.{List, []}
+use mathlib.Core.Logic.{⊎_elim}
+use native.Mathlib.Omega.{arith}
+use lib.ListN.{length, get_or}
+use Rattle.line.specs.declared.mapping.Entry.{Entry}
+use Rattle.line.specs.declared.mapping.PutAnswer.{PutAnswer}
+use Rattle.line.specs.Elements.{BUTTON_LAST, code_of}
+use Rattle.line.specs.Maps.{entry_of, put_entry, to_map}
+use Rattle.line.specs.Tables.{as_button}
+use Rattle.line.proofs.ViewLaws.{put_adds, put_map}
+use Rattle.map.specs.Keys.{KEY_FIRST, KEYS, key_number}
+use Rattle.map.specs.Default.{put_kept, flagged_map}
+use Rattle.map.proofs.KeyLaws.{table_number}
+use Rattle.map.proofs.DefaultLaws.{key_row, rows_from, rows-first, rows_last, rows_none, rows-some, buttons_many}
+use Rattle.map.proofs.DefaultLaws.{none_kept, row_kept, row_dropped, flagged_empty}
+use Rattle.map.proofs.default.kept_buttons.Goals as goal
+
+pub loop-i-init : goal.loop-i-init
+loop-i-init c =
+    let a = c.args in
+    let many : length (rows_from 0) ≡ BUTTON_LAST = ap length rows-first ∙ buttons_many in (
+      c.key_table-table.ensures,
+      omega arith,
+      (
+        [],
+        omega (arith, many),
+        flagged_empty c.new-map.result c.new-map.ensures,
+        ap (λ (xs : List Entry). put_kept a.buttons.now a.axes.now [] xs) rows-first,
+      ),
+    )
+
+pub loop-i-preserved : goal.loop-i-preserved
+loop-i-preserved c =
+    let a = c.args in
+    let b = a.buttons.now in
+    let x = a.axes.now in
+    let t = c.key_table-table.result in
+    let i = c.loop-i.i in
+    let inv = c.loop-i.invariant.2 in
+    let es = inv.0 in
+    let h : i < KEYS = omega arith in
+    let number : get_or t.buttons i 0 ≡ key_number (KEY_FIRST + i) = table_number t i c.loop-i.invariant.0 h in
+    let row = key_row (KEY_FIRST + i) in
+    let rest = rows_from (i + 1) in
+    ⊎_elim
+    (λ w.
+    let some = rows-some i h (λ z. w.0.taken (number ∙ z)) in
+    let long : length (rows_from i) ≡ suc (length rest) = ap length some in
+    let made = w.1.ensures ∙ ap (λ (n : ℕ). entry_of (code_of (KEY_FIRST + i)) (as_button n)) number in
+    let kept = rw made at w.2.ensures in
+    let put = rw (made, inv.2) at w.4.ensures in (
+      c.loop-i.invariant.0,
+      omega arith,
+      (
+        put_entry row es,
+        omega (arith, long, put_adds row es),
+        w.6 ∙ ap (λ (r : PutAnswer). r.map) put ∙ put_map (flagged_map es) row (omega arith),
+        sym (row_kept b x es rest row (sym kept ∙ w.3.taken))
+            ∙ sym (ap (λ (xs : List Entry). put_kept b x es xs) some)
+            ∙ inv.3,
+      ),
+    ))
+    (⊎_elim
+    (λ w.
+    let some = rows-some i h (λ z. w.0.taken (number ∙ z)) in
+    let long : length (rows_from i) ≡ suc (length rest) = ap length some in
+    let made = w.1.ensures ∙ ap (λ (n : ℕ). entry_of (code_of (KEY_FIRST + i)) (as_button n)) number in
+    let kept = rw made at w.2.ensures in (
+      c.loop-i.invariant.0,
+      omega arith,
+      (
+        es,
+        omega (arith, long),
+        w.4 ∙ inv.2,
+        sym (row_dropped b x es rest row (sym kept ∙ w.3.left))
+            ∙ sym (ap (λ (xs : List Entry). put_kept b x es xs) some)
+            ∙ inv.3,
+      ),
+    ))
+    (λ w.
+    let none = rows_none i h (sym number ∙ w.0.left) in
+    let long : length (rows_from i) ≡ length rest = ap length none in (
+      c.loop-i.invariant.0,
+      omega arith,
+      (
+        es,
+        omega (arith, long),
+        w.1 ∙ inv.2,
+        sym (ap (λ (xs : List Entry). put_kept b x es xs) none) ∙ inv.3,
+      ),
+    )))
+    c.if-n-ne0.branch
+
+pub returns : goal.returns
+returns c =
+    let a = c.args in
+    let b = a.buttons.now in
+    let x = a.axes.now in
+    let inv = c.loop-i.invariant.2 in
+    let e : c.loop-i.i ≡ KEYS = omega arith in
+    let done =
+    sym (none_kept b x inv.0)
+    ∙ sym (ap (λ (xs : List Entry). put_kept b x inv.0 xs) (rows_last c.loop-i.i e))
+    ∙ inv.3 in
+    inv.2 ∙ ap (λ (es : List Entry). to_map (flagged_map es)) done

@@ -1,0 +1,13 @@
+-- One put after the other. Assumes nothing.
+use Rattle.text.specs.Decimal.{decimal}
+use Rattle.text.specs.Bytes.{byte}
+use mathlib.Core.List.{[], ◌∷◌}
+use Rattle.map.proofs.OutputLaws.{put_then}
+use Rattle.map.proofs.from_data.output.put_value.Goals as goal
+
+pub returns : goal.returns
+returns c =
+    let a = c.args in
+    put_then a.out.now a.at (byte ":" ∷ a.letter ∷ []) _ _
+    c.put_bytes-index.ensures (decimal a.n) c.requires _ _
+    c.put_index.ensures

@@ -1,0 +1,21 @@
+-- What becomes of the pad's change is what is told of both. Assumes nothing.
+use mathlib.Core.Path.{◌∙◌}
+use mir.Syntax.{w16}
+use mir.ValLaws.{to_z-of_z}
+use Rattle.pad.specs.States.{pad_value, raw_event_of}
+use Rattle.pad.proofs.TwoLaws.{raw_tells, first_put}
+use Rattle.pad.proofs.two.first_event.Goals as goal
+
+pub returns : goal.returns
+unfolding pad_value
+returns c =
+    let a = c.args in
+    let p = c.put_code-put in
+    let d = p.result.change in
+    let v = c.value_beside-other in (
+      first_put a.first a.second (raw_event_of a.first a.code a.raw) d.before d.later d.element
+          (raw_tells a.first a.code a.raw) p.ensures.0 p.ensures.1
+          (to_z-of_z w16 v.result (record { sfits = v.type-inv }) ∙ v.ensures)
+          c.joined_change-events.result c.joined_change-events.ensures,
+      p.ensures.4,
+    )

@@ -1,0 +1,29 @@
+-- By what is reported. Assumes nothing.
+use mathlib.Core.Path.{ap, ◌∙◌}
+use lib.IntN.{ℤ}
+use mir.Syntax.{w16}
+use mir.ValLaws.{to_z-of_z}
+use Rattle.pad.specs.Values.{raw_value, axis_value, part_of}
+use Rattle.pad.specs.declared.value.ElementValue.TheVariants as Ev
+use Rattle.pad.proofs.value.raw_value.Goals as goal
+
+pub returns-in-ButtonReleased : goal.returns-in-ButtonReleased
+unfolding raw_value
+returns-in-ButtonReleased c = simp c.in-ButtonReleased.is
+
+pub returns-in-ButtonPressed : goal.returns-in-ButtonPressed
+unfolding raw_value
+returns-in-ButtonPressed c =
+    ap (λ (z : ℤ). Ev.Is z)
+    (to_z-of_z w16 c.pressed_value.result (record { sfits = c.pressed_value.type_inv }) ∙ c.pressed_value.ensures)
+    ∙ simp c.in-ButtonPressed.is
+
+pub returns-in-AxisValueChanged : goal.returns-in-AxisValueChanged
+unfolding raw_value
+returns-in-AxisValueChanged c =
+    let a = c.args in
+    let g = c.raw-1.given in
+    c.axis_value.ensures
+    ∙ ap (λ (z : ℤ). axis_value a.e a.r.output a.r.inverted (part_of z a.r.input))
+    (to_z-of_z w16 g.0.0 (record { sfits = c.known_told-1.given.0.1 }))
+    ∙ simp g.1

@@ -1,0 +1,82 @@
+-- The walk writes the lines of a sound store down, `take_lines` files by number, and `settle` writes out.
+use mathlib.Core.Path.{◌∙◌}
+use native.Mathlib.Omega.{arith}
+use Rattle.store.specs.Layout.{Bytes}
+use Rattle.store.proofs.BatchLaws.{both_most, loads_held, batch_settles, batch_end, went_from}
+use Rattle.store.proofs.ChainLaws.{chained_none}
+use Rattle.store.proofs.LoadLaws.{loads_extend}
+use Rattle.store.proofs.SurveyLaws.{walk_of}
+use Rattle.store.proofs.UseLaws.{loads_addable, loads_owed}
+use Rattle.store.proofs.WriteLaws.{empty_long}
+use Rattle.store.proofs.batch.insert_batch.Goals as goal
+
+pub survey-seen-requires : goal.survey-seen-requires
+survey-seen-requires c =
+    let args = c.args in
+    let pre = c.requires in (
+      both_most args.index.now args.text.now (λ k. omega (arith, c.slice-known.given k))
+          pre.0,
+      (chained_none _, empty_long),
+    )
+
+pub dues_of-dues-requires : goal.dues_of-dues-requires
+dues_of-dues-requires c =
+    let args = c.args in
+    let pre = c.requires in
+    let bytes : Bytes args.index.now = λ k. omega (arith, c.slice-known.given k) in
+    let survey = c.survey-seen in
+    let whole = survey.ensures.is ∙ walk_of args.index.now args.text.now bytes pre.0 in (
+      pre.1.0,
+      loads_addable args.index.now args.text.now _ _ _ survey.result.fill (survey.ensures.loads whole)
+          pre.0,
+    )
+
+pub take_lines-part-requires : goal.take_lines-part-requires
+take_lines-part-requires c =
+    let args = c.args in
+    let pre = c.requires in
+    let bytes : Bytes args.index.now = λ k. omega (arith, c.slice-known.given k) in
+    let survey = c.survey in
+    let whole = survey.ensures.is ∙ walk_of args.index.now args.text.now bytes pre.0 in
+    let dues = c.dues-of in (
+      pre.1.1,
+      loads_held dues.result args.shares.now args.index.now args.text.now args.lines.now _ _ _
+          survey.result.fill args.owner (survey.ensures.loads whole)
+          (loads_owed args.index.now args.text.now _ _ _ survey.result.fill (survey.ensures.loads whole)
+          args.shares.now args.owner dues.result dues.ensures bytes) pre.0,
+    )
+
+pub settle-requires : goal.settle-requires
+settle-requires c =
+    let args = c.args in
+    let pre = c.requires in
+    let bytes : Bytes args.index.now = λ k. omega (arith, c.slice-known.given k) in
+    let survey = c.survey in
+    let whole = survey.ensures.is ∙ walk_of args.index.now args.text.now bytes pre.0 in
+    let dues = c.dues-of in
+    let took = c.take_lines-part in (
+      loads_extend args.index.now args.text.now _ _ _ survey.result.fill (survey.ensures.loads whole),
+      batch_settles dues.result args.shares.now args.index.now args.text.now args.lines.now _ _ _
+          survey.result.fill args.owner (survey.ensures.loads whole)
+          (loads_owed args.index.now args.text.now _ _ _ survey.result.fill (survey.ensures.loads whole)
+          args.shares.now args.owner dues.result dues.ensures bytes) args.from _ took.result
+          took.ensures.0 pre.0,
+    )
+
+pub returns : goal.returns
+returns c =
+    let args = c.args in
+    let pre = c.requires in
+    let bytes : Bytes args.index.now = λ k. omega (arith, c.slice-known.given k) in
+    let survey = c.survey in
+    let whole = survey.ensures.is ∙ walk_of args.index.now args.text.now bytes pre.0 in
+    let dues = c.dues-of in
+    let took = c.take_lines-part in (
+      batch_end dues.result args.shares.now args.index.now args.text.now args.lines.now _ _ _
+          survey.result.fill args.owner (survey.ensures.loads whole)
+          (loads_owed args.index.now args.text.now _ _ _ survey.result.fill (survey.ensures.loads whole)
+          args.shares.now args.owner dues.result dues.ensures bytes) args.from _ took.result
+          took.ensures.0 _ _ c.settle.ensures,
+      went_from args.lines.now args.from survey.result.fill.count took.result survey.ensures.most
+          took.ensures.1,
+    )

@@ -1,0 +1,91 @@
+-- Each exit is that of the book's line: not wanted, over the limit, without room, or filed.
+use Rattle.store.proofs.BatchLaws.{wanted_part, slot_not, slot_long, slot_files, slot_index, slot_text}
+use Rattle.store.proofs.BatchLaws.{slot_filed}
+use Rattle.store.proofs.batch.reach_row.Goals as goal
+
+pub returns-in_default : goal.returns-in_default
+returns-in_default c =
+    let args = c.args in
+    let pre = c.requires in
+    slot_not args.dues args.index.now args.text.now args.lines.now _ args.heads.now args.next.now
+    args.fill args.owner args.at args.len pre.0.1
+    (wanted_part args.lines.now args.at args.len _ _ c.wanted.ensures
+    c.in_default.is)
+
+pub returns-then-len-gt-LINE_MAX : goal.returns-then-len-gt-LINE_MAX
+returns-then-len-gt-LINE_MAX c =
+    let args = c.args in
+    let pre = c.requires in
+    let wants = wanted_part args.lines.now args.at args.len _ _ c.wanted.ensures
+    c.in-Parsed.is in
+    slot_long args.dues args.index.now args.text.now args.lines.now _ args.heads.now
+    args.next.now
+    args.fill args.owner args.at args.len pre.0.1 _ wants
+    c.if-len-gt-LINE_MAX.true c.stop.result c.stop.ensures
+
+pub file_row-tried-requires : goal.file_row-tried-requires
+file_row-tried-requires c =
+    let args = c.args in
+    let pre = c.requires in
+    let wants = wanted_part args.lines.now args.at args.len _ _
+    c.wanted.ensures
+    c.in-Parsed.is in
+    let w = pre.1 in (
+      pre.0.0,
+      (
+        w.0,
+        args.lines.now,
+        (
+          w.1.0,
+          (
+            w.1.1.0,
+            slot_files args.dues args.index.now args.text.now args.lines.now _ args.heads.now
+                args.next.now args.fill args.owner args.at args.len pre.0.1 _ wants
+                c.if-len-gt-LINE_MAX.false w.0 w.1.0 w.1.1.0 w.1.1.1.0
+                w.1.1.1.1,
+          ),
+        ),
+      ),
+    )
+
+pub returns-in-IndexFull : goal.returns-in-IndexFull
+returns-in-IndexFull c =
+    let args = c.args in
+    let pre = c.requires in
+    let wants = wanted_part args.lines.now args.at args.len _ _
+    c.wanted.ensures
+    c.in-Parsed.is in
+    let filed = c.file_row-tried in
+    slot_index args.dues args.index.now args.text.now args.lines.now _ args.heads.now
+    args.next.now
+    args.fill args.owner args.at args.len pre.0.1 _ wants
+    c.if-len-gt-LINE_MAX.false _ _ _ filed.result filed.ensures
+    c.in-IndexFull.is c.stop-in-IndexFull.result
+    c.stop-in-IndexFull.ensures
+
+pub returns-in-TextFull : goal.returns-in-TextFull
+returns-in-TextFull c =
+    let args = c.args in
+    let pre = c.requires in
+    let wants = wanted_part args.lines.now args.at args.len _ _
+    c.wanted.ensures
+    c.in-Parsed.is in
+    let filed = c.file_row-tried in
+    slot_text args.dues args.index.now args.text.now args.lines.now _ args.heads.now
+    args.next.now
+    args.fill args.owner args.at args.len pre.0.1 _ wants
+    c.if-len-gt-LINE_MAX.false _ _ _ filed.result filed.ensures
+    c.in-TextFull.is c.stop-in-TextFull.result
+    c.stop-in-TextFull.ensures
+
+pub returns-in-Fits : goal.returns-in-Fits
+returns-in-Fits c =
+    let args = c.args in
+    let pre = c.requires in
+    let wants = wanted_part args.lines.now args.at args.len _ _ c.wanted.ensures
+    c.in-Parsed.is in
+    let filed = c.file_row-tried in
+    slot_filed args.dues args.index.now args.text.now args.lines.now _ args.heads.now
+    args.next.now
+    args.fill args.owner args.at args.len pre.0.1 _ wants
+    c.if-len-gt-LINE_MAX.false _ _ _ filed.result filed.ensures c.in-Fits.is

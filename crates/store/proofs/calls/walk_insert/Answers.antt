@@ -1,0 +1,52 @@
+-- 19 and 10 where they apply; else the part behind the shares is lent to `insert_all`.
+use mathlib.Core.Path.{sym, ◌∙◌}
+use native.Mathlib.Omega.{arith}
+use borrow.Author.Tests.{not-false}
+use Rattle.store.proofs.InsertLaws.{walk_unsound, walk-not_utf8, walk_lent}
+use Rattle.store.proofs.PartLaws.{whole, part_lines}
+use Rattle.store.proofs.calls.walk_insert.Goals as goal
+
+pub returns-then-not-sound : goal.returns-then-not-sound
+returns-then-not-sound c =
+    let args = c.args in
+    walk_unsound args.owner args.index.now args.text.now args.lines.now
+    (sym c.sound.ensures ∙ c.if-not-sound.true)
+
+pub returns-then-not-is_utf8 : goal.returns-then-not-is_utf8
+returns-then-not-is_utf8 c =
+    let args = c.args in
+    walk-not_utf8 args.owner args.index.now args.text.now args.lines.now
+    (λ k. omega (arith, c.slice-known.given k))
+    (sym c.sound.ensures ∙ c.if-not-sound.false)
+    (sym c.is_utf8.ensures ∙ c.if-not-is_utf8.true) c.valid_up_to.result
+    c.valid_up_to.ensures
+
+pub slice_bounds-insert_all-count : goal.slice_bounds-insert_all-count
+slice_bounds-insert_all-count c = omega (arith, c.read_shares-front.ensures.within)
+
+pub slice_bounds-insert_all-start : goal.slice_bounds-insert_all-start
+slice_bounds-insert_all-start c = omega (arith, c.read_shares-front.ensures.within)
+
+pub insert_all-requires : goal.insert_all-requires
+insert_all-requires c =
+    let args = c.args in
+    let front = c.read_shares-front in
+    let sound = sym c.sound.ensures ∙ not-false _
+    c.if1.false in (
+      part_lines args.index.now args.text.now _ front.result front.ensures
+          (λ k. omega (arith, c.slice-known.given k)) sound,
+      (whole args.index.now args.text.now _ front.result front.ensures
+          (λ k. omega (arith, c.slice-known.given k)) sound).given,
+    )
+
+pub returns : goal.returns
+returns c =
+    let args = c.args in
+    let front = c.read_shares-front in
+    let all = c.insert_all in
+    walk_lent args.owner args.index.now args.text.now args.lines.now _ front.result front.ensures
+    (λ k. omega (arith, c.slice-known.given k))
+    (sym c.sound.ensures ∙ not-false _
+    c.if1.false)
+    (sym c.is-utf8.ensures ∙ c.if-not-sound.false) all.result _ _
+    all.ensures

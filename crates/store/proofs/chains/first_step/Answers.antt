@@ -1,0 +1,20 @@
+-- Where the key is not found, what comes behind the place before is linked to it.
+use mathlib.Core.Path.{sym, ap, ◌∙◌}
+use Prim.Native.Nat.{ℕ}
+use lib.ListN.{get_or}
+use Rattle.store.specs.Held.{same_key}
+use Rattle.store.specs.Rows.{key_in}
+use Rattle.store.proofs.ChainLaws.{step_on}
+use Rattle.store.proofs.chains.first_step.Goals as goal
+
+pub returns : goal.returns
+returns c =
+    let place = c.one_less-at in
+    let same = c.same_at in
+    let rows = c.args.rows.now in
+    let next = c.args.next.now in
+    step_on (key_in rows) next c.args.k c.args.from c.requires.1.0 c.requires.1.1 c.requires.0.1
+    c.number.result
+    (ap (λ (i : ℕ). same_key (key_in rows i) (key_in rows c.args.k)) (sym place.ensures) ∙ sym same.ensures
+    ∙ c.if-same_at.false)
+    (c.number.ensures.0 ∙ ap (λ (i : ℕ). get_or next i 0) place.ensures)

@@ -1,0 +1,69 @@
+-- The chain's head is the last number of its bucket; number k takes its place.
+use mathlib.Core.Path.{refl, ap, ◌∙◌}
+use Prim.Native.Nat.{ℕ, ◌+◌}
+use native.Mathlib.Omega.{arith}
+use lib.ListN.{get_or}
+use Rattle.store.specs.Keys.{bucket}
+use Rattle.store.specs.Rows.{key_in}
+use Rattle.store.proofs.ChainLaws.{here, sought, seeks_from, chained_turn}
+use Rattle.store.proofs.chains.link.Goals as goal
+
+pub first_step-from-requires : goal.first_step-from-requires
+first_step-from-requires c =
+    let args = c.args in
+    let pre = c.requires in
+    let key-at = c.key_at-key in
+    let bucket-of = c.bucket_of-h in
+    let number = c.number in
+    let head : ℕ = get_or args.heads.now bucket-of.result 0 in
+    let bucket-is = bucket-of.ensures.0 ∙ ap bucket key-at.ensures in
+    let last = here (key_in args.rows.now) args.heads.now args.next.now args.k
+    bucket-of.result number.result pre.1 bucket-is bucket-of.ensures.1
+    number.ensures.0 pre.0 in
+    let linked = chained_turn (key_in args.rows.now) args.heads.now args.next.now args.k
+    bucket-of.result head pre.1 bucket-is bucket-of.ensures.1 refl pre.0 (args.k + 1) refl in
+    ((pre.0, last.within), (linked.links, last.kin))
+
+pub seek-r-requires : goal.seek-r-requires
+seek-r-requires c =
+    let args = c.args in
+    let pre = c.requires in
+    let key-at = c.key_at-key in
+    let bucket-of = c.bucket_of-h in
+    let number = c.number in
+    let head : ℕ = get_or args.heads.now bucket-of.result 0 in
+    let bucket-is = bucket-of.ensures.0 ∙ ap bucket key-at.ensures in
+    let last = here (key_in args.rows.now) args.heads.now args.next.now args.k
+    bucket-of.result number.result pre.1 bucket-is bucket-of.ensures.1
+    number.ensures.0 pre.0 in
+    let linked = chained_turn (key_in args.rows.now) args.heads.now args.next.now args.k
+    bucket-of.result head pre.1 bucket-is bucket-of.ensures.1 refl pre.0 (args.k + 1) refl in
+    let first = c.first_step in (
+      (pre.0, omega (arith, first.ensures.0.1, last.within)),
+      (λ a l. linked.links a (omega (arith, l)), first.ensures.1),
+    )
+
+pub returns : goal.returns
+returns c =
+    let args = c.args in
+    let pre = c.requires in
+    let key-at = c.key_at-key in
+    let bucket-of = c.bucket_of-h in
+    let number = c.number in
+    let bucket-is = bucket-of.ensures.0 ∙ ap bucket key-at.ensures in
+    let last = here (key_in args.rows.now) args.heads.now args.next.now args.k
+    bucket-of.result number.result pre.1 bucket-is bucket-of.ensures.1
+    number.ensures.0 pre.0 in
+    let first = c.first_step in (
+      sought (key_in args.rows.now) args.heads.now args.next.now args.k
+          bucket-of.result number.result pre.1 bucket-is bucket-of.ensures.1
+          number.ensures.0 pre.0 c.seek-r.result
+          (seeks_from (key_in args.rows.now) args.k number.result first.result c.seek-r.result
+          first.ensures.0.0 c.seek-r.ensures.0),
+      (
+        chained_turn (key_in args.rows.now) args.heads.now args.next.now args.k
+            bucket-of.result _ pre.1 bucket-is bucket-of.ensures.1 refl pre.0 _
+            (omega arith),
+        λ l. c.seek-r.ensures.1 (omega (arith, first.ensures.0.1, last.within, pre.0, l)),
+      ),
+    )

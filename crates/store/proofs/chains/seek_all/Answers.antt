@@ -1,0 +1,52 @@
+use native.Mathlib.Omega.{arith}
+use Prim.Native.Nat.{◌-◌}
+use borrow.Author.Rules.{rules}
+use Rattle.store.specs.Rows.{key_in}
+use Rattle.store.proofs.ChainLaws.{chain_from, chain_sought, apart_turn, found_twice, tells_apart, tells_twice}
+use Rattle.store.proofs.chains.seek_all.Goals as goal
+
+pub loop-k-init : goal.loop-k-init
+loop-k-init c = (search rules, λ a b l m e. omega arith)
+
+pub seek-r-requires : goal.seek-r-requires
+seek-r-requires c =
+    let args = c.args in
+    let pre = c.requires in
+    let loop = c.loop-k in
+    let number = c.number in
+    let last = chain_from (key_in args.rows.now) args.next.now args.n loop.k number.result pre.1 (omega arith)
+    number.ensures.0 in
+    ((omega arith, last.within), (λ a l. pre.1 a (omega arith), last.kin))
+
+pub returns-then-r-gt0 : goal.returns-then-r-gt0
+returns-then-r-gt0 c =
+    let args = c.args in
+    let pre = c.requires in
+    let loop = c.loop-k in
+    let number = c.number in
+    let last = chain_from (key_in args.rows.now) args.next.now args.n loop.k number.result pre.1 (omega arith)
+    number.ensures.0 in
+    let seek = c.seek-r in
+    let most = seek.ensures.1 (omega (arith, last.within)) in
+    tells_twice (key_in args.rows.now) args.n (found_twice (key_in args.rows.now) args.n loop.k seek.result (omega arith)
+    (chain_sought (key_in args.rows.now) loop.k number.result last seek.result seek.ensures.0) most (omega arith))
+
+pub loop-k-preserved : goal.loop-k-preserved
+loop-k-preserved c =
+    let args = c.args in
+    let pre = c.requires in
+    let loop = c.loop-k in
+    let number = c.number in
+    let last = chain_from (key_in args.rows.now) args.next.now args.n loop.k number.result pre.1 (omega arith)
+    number.ensures.0 in
+    let seek = c.seek-r in (
+      omega arith,
+      apart_turn (key_in args.rows.now) loop.k seek.result loop.invariant.1
+          (chain_sought (key_in args.rows.now) loop.k number.result last seek.result seek.ensures.0) (omega arith),
+    )
+
+pub returns : goal.returns
+returns c =
+    let args = c.args in
+    let loop = c.loop-k in
+    tells_apart (key_in args.rows.now) args.n (λ a b l m e. loop.invariant.1 a b l (omega arith) e)

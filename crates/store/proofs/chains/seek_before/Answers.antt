@@ -1,0 +1,37 @@
+-- The head of the chain is the last number of its bucket.
+use mathlib.Core.Path.{ap, ◌∙◌}
+use native.Mathlib.Omega.{arith}
+use Rattle.store.specs.Keys.{bucket}
+use Rattle.store.specs.Rows.{key_in}
+use Rattle.store.proofs.ChainLaws.{here, sought}
+use Rattle.store.proofs.chains.seek_before.Goals as goal
+
+pub seek-requires : goal.seek-requires
+seek-requires c =
+    let args = c.args in
+    let pre = c.requires in
+    let key-at = c.key_at-key in
+    let bucket-of = c.bucket_of-h in
+    let number = c.number in
+    let bucket-is = bucket-of.ensures.0 ∙ ap bucket key-at.ensures in
+    let last = here (key_in args.rows.now) args.heads.now args.next.now args.k
+    bucket-of.result number.result pre.1 bucket-is bucket-of.ensures.1
+    number.ensures.0 pre.0 in
+    ((pre.0, last.within), (pre.1.links, last.kin))
+
+pub returns : goal.returns
+returns c =
+    let args = c.args in
+    let pre = c.requires in
+    let key-at = c.key_at-key in
+    let bucket-of = c.bucket_of-h in
+    let number = c.number in
+    let bucket-is = bucket-of.ensures.0 ∙ ap bucket key-at.ensures in
+    let within = (here (key_in args.rows.now) args.heads.now args.next.now args.k
+    bucket-of.result number.result pre.1 bucket-is bucket-of.ensures.1
+    number.ensures.0 pre.0).within in (
+      sought (key_in args.rows.now) args.heads.now args.next.now args.k
+          bucket-of.result number.result pre.1 bucket-is bucket-of.ensures.1
+          number.ensures.0 pre.0 c.seek.result c.seek.ensures.0,
+      c.seek.ensures.1 (omega (arith, within)),
+    )

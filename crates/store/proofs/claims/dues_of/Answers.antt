@@ -1,0 +1,59 @@
+-- The uses by rows are those of the lines, so that what the owner claims is a part of the sum.
+use mathlib.Core.List.{List}
+use mathlib.Core.Path.{refl, sym, subst}
+use Prim.Native.Nat.{ℕ, ◌<◌}
+use native.Mathlib.Omega.{arith}
+use borrow.Author.Rules.{rules}
+use Rattle.store.specs.Claims.{Owed}
+use Rattle.store.proofs.UseLaws.{adds_given, row_use_most, dues_owed, owed_none}
+use Rattle.store.proofs.claims.dues_of.Goals as goal
+
+pub any_share-requires : goal.any_share-requires
+any_share-requires c = c.requires.0.each
+
+pub returns-then-not-any_share : goal.returns-then-not-any_share
+returns-then-not-any_share c =
+    let args = c.args in
+    let none = c.any_share.ensures c.if-not-any_share.true in
+    let byte : args.owner < 256 = search rules in
+    λ hs u f b.
+    subst (λ (g : List ℕ). Owed g args.owner hs (record { others = 0; theirs = 0; share = 0 })) (sym none)
+    (owed_none args.owner hs b byte)
+
+pub add_uses-requires : goal.add_uses-requires
+add_uses-requires c = (refl, c.requires.1.0)
+
+pub claims_of-requires : goal.claims_of-requires
+claims_of-requires c =
+    let args = c.args in (
+      adds_given args.rows.now args.fill.count c.requires.1.0 _ c.add_uses.ensures,
+      c.requires.0,
+    )
+
+pub overflow_sub-result : goal.overflow_sub-result
+overflow_sub-result c =
+    let args = c.args in
+    let byte : args.owner < 256 = search rules in
+    omega (arith, c.larger_of.ensures, c.claims_of.ensures.1.each args.owner byte)
+
+pub overflow_sub-result-2 : goal.overflow_sub-result-2
+overflow_sub-result-2 c =
+    let args = c.args in
+    let byte : args.owner < 256 = search rules in
+    let adds = c.add_uses.ensures in
+    omega (
+      arith,
+      adds.1 args.owner byte,
+      row_use_most args.owner args.rows.now args.fill.count,
+      c.requires.1.1,
+    )
+
+pub returns : goal.returns
+returns c =
+    let args = c.args in
+    let adds = c.add_uses.ensures in
+    let sum = c.claims_of.ensures in
+    let own = c.larger_of.ensures in
+    let byte : args.owner < 256 = search rules in
+    dues_owed args.rows.now args.shares.now args.fill args.owner _ _ _ c.requires.0 c.requires.1
+    adds sum.0 sum.1 own byte

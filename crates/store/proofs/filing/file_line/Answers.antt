@@ -1,0 +1,57 @@
+-- One line, filed by number as an insert does it.
+use native.Mathlib.Omega.{arith}
+use Rattle.store.proofs.LoadLaws.{loads_extend}
+use Rattle.store.proofs.OneLaws.{one_files, one_index, one_text, one_settles, one_filed}
+use Rattle.store.proofs.filing.file_line.Goals as goal
+
+pub file_row-tried-requires : goal.file_row-tried-requires
+file_row-tried-requires c =
+    let args = c.args in
+    let pre = c.requires in (
+      pre.1.1.0.1,
+      one_files args.dues args.index.now args.text.now args.line.now _ _ _ args.fill
+          pre.1.1.0.0 args.key pre.1.0.0 pre.1.0.1 pre.0 pre.1.1.1,
+    )
+
+pub settle-requires : goal.settle-requires
+settle-requires c =
+    let args = c.args in
+    let pre = c.requires in
+    let filed = c.file-row in (
+      loads_extend args.index.now args.text.now _ _ _ args.fill pre.1.1.0.0,
+      one_settles args.dues args.index.now args.text.now args.line.now _ _ _ args.fill
+          pre.1.1.0.0 args.key pre.1.0.0 pre.1.0.1 _ _ _ filed.result filed.ensures
+          c.enum_told.given.1
+          pre.0 pre.1.1.1,
+    )
+
+pub returns-in-Fits : goal.returns-in-Fits
+returns-in-Fits c =
+    let args = c.args in
+    let pre = c.requires in
+    let filed = c.file-row in
+    let settled = c.settle in
+    one_filed args.dues args.index.now args.text.now args.line.now _ _ _ args.fill
+    pre.1.1.0.0 args.key pre.1.0.0 pre.1.0.1 _ _ _ filed.result filed.ensures
+    c.enum_told.given.1 _ _
+    settled.ensures
+
+pub returns-in-IndexFull : goal.returns-in-IndexFull
+returns-in-IndexFull c =
+    let args = c.args in
+    let pre = c.requires in
+    let filed = c.file_row-tried in
+    one_index args.dues args.index.now args.text.now args.line.now _ _ _ args.fill
+    pre.1.1.0.0 args.key pre.1.0.0 pre.1.0.1 _ _ _ filed.result filed.ensures
+    c.in-IndexFull.is
+    (λ k. omega (arith, c.slice-known.given k))
+
+pub returns-in-TextFull : goal.returns-in-TextFull
+returns-in-TextFull c =
+    let args = c.args in
+    let pre = c.requires in
+    let filed = c.file_row-tried in
+    one_text args.dues args.index.now args.text.now args.line.now _ _ _ args.fill
+    pre.1.1.0.0 args.key pre.1.0.0 pre.1.0.1 _ _ _ filed.result filed.ensures
+    c.in-TextFull.is
+    (λ k. omega (arith, c.slice-known.given k))

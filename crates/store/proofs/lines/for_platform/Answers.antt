@@ -1,0 +1,81 @@
+-- Where `platform:` stands, its nine bytes are within the line, and what follows up to a comma is compared.
+use mathlib.Core.Path.{sym, ap, ◌∙◌}
+use Prim.Native.Nat.{ℕ, ◌+◌, ◌-◌}
+use native.Mathlib.Omega.{arith}
+use lib.ListN.{length, take, drop}
+use borrow.Author.Rules.{rules}
+use Rattle.text.specs.Bytes.{byte, same, first_of}
+use Rattle.text.proofs.ListLaws.{part_to_end}
+use Rattle.text.proofs.LentLaws.{tail_length}
+use Rattle.text.proofs.BytesLaws.{first_le}
+use Rattle.store.specs.Lines.{platform}
+use Rattle.text.specs.Search.{platform_key}
+use Rattle.store.proofs.LineLaws.{plus_minus}
+use Rattle.store.proofs.WantedLaws.{text_within, platform-none, platform-some}
+use Rattle.store.proofs.lines.for_platform.Goals as goal
+
+pub returns-then-at-line : goal.returns-then-at-line
+returns-then-at-line c =
+    let l = c.args.line.now in
+    sym (platform-none l (sym c.find_text-at.ensures ∙ c.if-at-line.true))
+
+pub overflow_add-start : goal.overflow_add-start
+overflow_add-start c =
+    let l = c.args.line.now in
+    let at = c.find_text-at in
+    omega (arith, at.ensures, text_within platform_key l (λ q. c.if-at-line.false (at.ensures ∙ q)))
+
+pub slice_bounds-find_byte-count : goal.slice_bounds-find_byte-count
+slice_bounds-find_byte-count c =
+    let l = c.args.line.now in
+    let at = c.find_text-at in
+    omega (arith, at.ensures, text_within platform_key l (λ q. c.if-at-line.false (at.ensures ∙ q)))
+
+pub slice_bounds-find_byte-start : goal.slice_bounds-find_byte-start
+slice_bounds-find_byte-start c =
+    let l = c.args.line.now in
+    let at = c.find_text-at in
+    omega (arith, at.ensures, text_within platform_key l (λ q. c.if-at-line.false (at.ensures ∙ q)))
+
+pub overflow_add-start-2 : goal.overflow_add-start-2
+overflow_add-start-2 c =
+    let l = c.args.line.now in
+    let at = c.find_text-at in
+    let start = at.result + 9 in
+    omega (
+      arith,
+      at.ensures,
+      text_within platform_key l (λ q. c.if-at-line.false (at.ensures ∙ q)),
+      c.find_byte-end.ensures,
+      first_le (byte ",") (take (length l - start) (drop start l)),
+      tail_length start l,
+    )
+
+pub slice_bounds-same_bytes-end : goal.slice_bounds-same_bytes-end
+slice_bounds-same_bytes-end c =
+    let l = c.args.line.now in
+    let at = c.find_text-at in
+    let start = at.result + 9 in
+    omega (
+      arith,
+      at.ensures,
+      text_within platform_key l (λ q. c.if-at-line.false (at.ensures ∙ q)),
+      c.find_byte-end.ensures,
+      first_le (byte ",") (take (length l - start) (drop start l)),
+      tail_length start l,
+    )
+
+-- (no goal found) slice-aggregate-same-bytes : tie.Need-slice-aggregate-same-bytes
+-- slice-aggregate-same-bytes c = search rules
+
+pub returns : goal.returns
+returns c =
+    let l = c.args.line.now in
+    let at = c.find_text-at in
+    let end = c.find_byte-end in
+    let start = at.result + 9 in
+    c.same_bytes.ensures
+    ∙ ap (λ (n : ℕ). same (take n (drop start l)) platform)
+    (plus_minus start end.result ∙ end.ensures ∙ ap (first_of (byte ",")) (part_to_end l start))
+    ∙ ap (λ (n : ℕ). same (take (first_of (byte ",") (drop (n + 9) l)) (drop (n + 9) l)) platform) at.ensures
+    ∙ sym (platform-some l (λ q. c.if-at-line.false (at.ensures ∙ q)))

@@ -1,0 +1,79 @@
+-- The key is the last of the numbers, and its chain tells the one before: `spot_line`.
+use mathlib.Core.Path.{◌∙◌}
+use native.Mathlib.Omega.{arith}
+use Rattle.store.proofs.LookLaws.{some-before, spot_none, spot_line, put_agree, put_ready, put_new}
+use Rattle.store.proofs.look.part_of.Goals as goal
+
+pub seek_before-r-requires : goal.seek_before-r-requires
+seek_before-r-requires c =
+    let args = c.args in
+    let pre = c.requires in
+    let pre = pre in (
+      pre.0,
+      (put_ready args.rows.now args.heads.now args.next.now args.fill.count args.key pre.0 pre.1
+          _ c.put-row.ensures.0 c.put-row.ensures.1).chained,
+    )
+
+pub returns-then-len-eq0 : goal.returns-then-len-eq0
+returns-then-len-eq0 c =
+    let args = c.args in
+    let pre = c.requires in
+    let put = c.put-row in
+    let seek = c.seek-before in
+    let before = c.len_before-len in
+    let agree = put_agree args.rows.now args.heads.now args.next.now args.fill.count args.key pre.0
+    pre.1 _ put.ensures.0 put.ensures.1 in (
+      put_ready args.rows.now args.heads.now args.next.now args.fill.count args.key pre.0 pre.1
+          _ put.ensures.0 put.ensures.1,
+      (
+        agree,
+        λ i t b hs ag x.
+            spot_none args.key i t b _ args.heads.now args.next.now args.fill hs x
+            (λ j l. ag j l ∙ agree j l)
+            (put_new args.rows.now args.heads.now args.next.now args.fill.count args.key pre.0
+            pre.1 _ put.ensures.0 put.ensures.1)
+            seek.result seek.ensures.0 seek.ensures.1 before.result before.ensures c.if-len-eq0.true,
+      ),
+    )
+
+pub overflow_sub-r : goal.overflow_sub-r
+overflow_sub-r c =
+    let seek-before = c.seek-before in
+    omega (
+      arith,
+      some-before _ seek-before.result c.len-before.result c.len-before.ensures c.if1.false,
+    )
+
+pub start_at-start-requires : goal.start_at-start-requires
+start_at-start-requires c =
+    let pre = c.requires in
+    let seek-before = c.seek-before in
+    omega (
+      arith,
+      some-before _ seek-before.result c.len-before.result c.len-before.ensures c.if1.false,
+      seek-before.ensures.1,
+      pre.0,
+    )
+
+pub returns : goal.returns
+returns c =
+    let args = c.args in
+    let pre = c.requires in
+    let put = c.put-row in
+    let seek = c.seek-before in
+    let before = c.len-before in
+    let agree = put_agree args.rows.now args.heads.now args.next.now args.fill.count args.key pre.0
+    pre.1 _ put.ensures.0 put.ensures.1 in (
+      put_ready args.rows.now args.heads.now args.next.now args.fill.count args.key pre.0 pre.1
+          _ put.ensures.0 put.ensures.1,
+      (
+        agree,
+        λ i t b hs ag x.
+            spot_line args.key i t b _ args.heads.now args.next.now args.fill hs x
+            (λ j l. ag j l ∙ agree j l)
+            (put_new args.rows.now args.heads.now args.next.now args.fill.count args.key pre.0
+            pre.1 _ put.ensures.0 put.ensures.1)
+            seek.result seek.ensures.0 seek.ensures.1 before.result before.ensures c.if1.false
+            c.start_at-start.result c.start_at-start.ensures,
+      ),
+    )

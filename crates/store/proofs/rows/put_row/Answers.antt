@@ -1,0 +1,8 @@
+-- The body is the definition; an owner is a byte.
+use mathlib.Core.Path.{refl}
+use Rattle.store.specs.Rows.{row_put}
+use borrow.Author.Rules.{rules}
+use Rattle.store.proofs.rows.put_row.Goals as goal
+
+pub returns : goal.returns
+returns c = (unfold row_put in refl, search rules)

@@ -1,0 +1,64 @@
+use Prim.Native.Nat.{◌-◌}
+use native.Mathlib.Omega.{arith}
+use borrow.Author.Rules.{rules}
+use Rattle.store.proofs.SeekLaws.{rare_none, rare_within, rare_last, rare_here, rare_on}
+use Rattle.store.proofs.search.find_text.Goals as goal
+
+pub loop-i-init : goal.loop-i-init
+loop-i-init c = (search rules, omega arith)
+
+pub overflow_add-at : goal.overflow_add-at
+overflow_add-at c =
+    let a = c.args in
+    let loop = c.loop-i in
+    let far = c.find_far in
+    omega (
+      arith,
+      rare_within a.p.now a.s.now a.d (search rules) loop.i far.result loop.invariant.1
+          (search rules) far.ensures,
+    )
+
+pub overflow_add-at-in-loop-i : goal.overflow_add-at-in-loop-i
+overflow_add-at-in-loop-i c =
+    let a = c.args in
+    let loop = c.loop-i in
+    let far = c.find_far in
+    omega (
+      arith,
+      rare_within a.p.now a.s.now a.d (search rules) loop.i far.result loop.invariant.1
+          (search rules) far.ensures,
+    )
+
+pub returns-then-s-at : goal.returns-then-s-at
+returns-then-s-at c =
+    let a = c.args in
+    let loop = c.loop-i in
+    let far = c.find_far in
+    rare_last a.p.now a.s.now a.d (search rules) loop.i far.result loop.invariant.1
+    (search rules) far.ensures c.if-s-at.true
+
+pub returns-then-begins_with : goal.returns-then-begins_with
+returns-then-begins_with c =
+    let a = c.args in
+    let loop = c.loop-i in
+    let far = c.find_far in
+    rare_here a.p.now a.s.now a.d (search rules) loop.i far.result loop.invariant.1
+    (search rules) far.ensures c.if-s-at.false
+    c.begins_with.result c.begins_with.ensures c.if-begins_with.true
+
+pub loop-i-preserved : goal.loop-i-preserved
+loop-i-preserved c =
+    let a = c.args in
+    let loop = c.loop-i in
+    let far = c.find_far in (
+      search rules,
+      rare_on a.p.now a.s.now a.d (search rules) loop.i far.result loop.invariant.1
+          (search rules) far.ensures c.if-s-at.false
+          c.begins_with.result c.begins_with.ensures c.if-begins_with.false,
+    )
+
+pub returns : goal.returns
+returns c =
+    let a = c.args in
+    let loop = c.loop-i in
+    rare_none a.p.now a.s.now a.d (search rules) loop.i (search rules) (omega (arith, loop.invariant.1))

@@ -1,0 +1,9 @@
+-- The rest moves down, and the last four bytes are set to 0.
+use mathlib.Core.Path.{refl}
+use Rattle.store.proofs.ShareBufferLaws.{gap_closed}
+use Rattle.store.proofs.shares.close_gap.Goals as goal
+
+pub returns : goal.returns
+returns c =
+    gap_closed c.args.part.now c.move_down.new.0 c.zero_all.new.0
+    c.requires c.move_down.ensures _ refl c.zero_all.ensures

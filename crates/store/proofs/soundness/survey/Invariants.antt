@@ -1,0 +1,13 @@
+-- The loop's invariant, `Surveying`: the records before `at` are written down, and the others are walked as `walk` does.
+use Prim.Native.Nat.{◌-◌}
+use lib.ListN.{length}
+use Rattle.store.proofs.SurveyLaws.{Surveying}
+use Rattle.store.proofs.soundness.survey.Given as goal
+
+abbrev pub invariant-loop-head : goal.invariant-loop-head
+invariant-loop-head l =
+    Surveying l.index l.text l.at l.rows l.heads l.next l.n l.used
+    l.verdict
+
+abbrev pub decreases-loop-head : goal.decreases-loop-head
+decreases-loop-head l = length l.index - l.at

@@ -1,0 +1,24 @@
+use mathlib.Core.List.{List}
+use mathlib.Core.Path.{sym, ap, ◌∙◌}
+use Prim.Native.Nat.{ℕ}
+use native.Mathlib.Omega.{arith}
+use Rattle.store.specs.Rows.{Row, key_in}
+use Rattle.store.proofs.TableLaws.{chained_agree}
+use Rattle.store.proofs.WriteLaws.{row_other}
+use Rattle.store.proofs.table.add_row.Goals as goal
+
+pub link-requires : goal.link-requires
+link-requires c =
+    let args = c.args in
+    let pre = c.requires in (
+      pre.0,
+      chained_agree (key_in args.rows.now) _ args.n
+          (λ k l. sym (ap (λ (v : List ℕ). key_in v k) c.put-row.ensures.0
+          ∙ ap (λ (r : Row). r.key) (row_other args.rows.now args.n args.key args.start args.len k
+          (λ e. omega arith))))
+          args.heads.now args.next.now pre.1,
+    )
+
+pub returns : goal.returns
+returns c =
+    ((c.put-row.ensures.0, c.put-row.ensures.1), ((c.link.ensures.0, c.link.ensures.1.1), c.link.ensures.1.0))

@@ -1,0 +1,114 @@
+-- The exits by the laws of filing a row.
+use mathlib.Core.Path.{◌≡◌}
+use Prim.Native.Nat.{◌+◌, ◌-◌, ◌≤◌}
+use lib.ListN.{length, take, drop, length-drop}
+use lib.Seq.{length-take-le}
+use native.Mathlib.Omega.{arith}
+use Rattle.store.proofs.FileRowLaws.{had_less, dues_less, files_index, files_text, files_fit}
+use Rattle.store.proofs.table.file_row.Goals as goal
+
+pub len_before-had-requires : goal.len_before-had-requires
+len_before-had-requires c = omega (arith, c.add_row.ensures.1.0.1 (omega arith))
+
+pub overflow_sub-used : goal.overflow_sub-used
+overflow_sub-used c =
+    let args = c.args in
+    let pre = c.requires in
+    let put = c.add_row in
+    let had = c.len_before-had in
+    had_less pre.1.0 args.dues args.index.now args.text.now pre.1.1 _ args.heads.now
+    args.next.now pre.1.2.0
+    args.fill args.key args.start args.len pre.1.2.1.0 pre.1.2.1.1 pre.0
+    put.ensures.0.1 _ put.ensures.0.0
+    put.result put.ensures.1.0.0 (put.ensures.1.0.1 (omega arith)) had.result had.ensures
+
+pub overflow_add-used : goal.overflow_add-used
+overflow_add-used c =
+    let args = c.args in
+    let w = c.requires.1.2.1.1 in
+    let line : length (take args.len (drop args.start c.requires.1.1)) ≡ args.len
+    = length-take-le args.len (drop args.start c.requires.1.1)
+    (omega (arith, length-drop args.start c.requires.1.1, w.inside)) in
+    omega (
+      arith,
+      w.in_rows.used,
+      w.in_rows.tabled.good.text,
+      w.in_rows.limits.1,
+      w.shape.most,
+      line,
+    )
+
+pub returns-then-index-end : goal.returns-then-index-end
+returns-then-index-end c =
+    let args = c.args in
+    let pre = c.requires in
+    let put = c.add_row in
+    let had = c.len_before-had in
+    let ends = c.end_with-end in
+    λ g s old hs w.
+    files_index g args.dues args.index.now args.text.now s _ args.heads.now args.next.now old
+    args.fill args.key args.start args.len hs w pre.0 put.ensures.0.1 _ put.ensures.0.0
+    put.result put.ensures.1.0.0 (put.ensures.1.0.1 (omega arith)) had.result had.ensures
+    ends.result ends.ensures _ _ c.if-index-end.true c.told_room.result c.told_room.ensures
+
+pub claimed-requires : goal.claimed-requires
+claimed-requires c =
+    let args = c.args in
+    let pre = c.requires in
+    let put = c.add_row in
+    let had = c.len_before-had in
+    let w = pre.1.2.1.1 in
+    let line : length (take args.len (drop args.start pre.1.1)) ≡ args.len
+    = length-take-le args.len (drop args.start pre.1.1)
+    (omega (arith, length-drop args.start pre.1.1, w.inside)) in
+    let less : args.dues.theirs ≤ args.fill.used - had.result + args.len =
+    dues_less pre.1.0 args.dues args.index.now args.text.now pre.1.1 _ args.heads.now
+    args.next.now pre.1.2.0
+    args.fill args.key args.start args.len pre.1.2.1.0 pre.1.2.1.1 pre.0
+    put.ensures.0.1 _ put.ensures.0.0
+    put.result put.ensures.1.0.0 (put.ensures.1.0.1 (omega arith)) had.result had.ensures in
+    let most : args.fill.used - had.result + args.len ≤ 131070
+    = omega (
+      arith,
+      w.in_rows.used,
+      w.in_rows.tabled.good.text,
+      w.in_rows.limits.1,
+      w.shape.most,
+      line,
+    ) in
+    ((less, most), (w.owed.others_most, w.owed.share_most))
+
+pub returns-then-text-claimed : goal.returns-then-text-claimed
+returns-then-text-claimed c =
+    let args = c.args in
+    let pre = c.requires in
+    let put = c.add_row in
+    let had = c.len_before-had in
+    let ends = c.end_with-end in
+    let all = c.claimed in
+    λ g s old hs w.
+    files_text g args.dues args.index.now args.text.now s _ args.heads.now args.next.now old
+    args.fill args.key args.start args.len hs w pre.0 put.ensures.0.1 _ put.ensures.0.0
+    put.result put.ensures.1.0.0 (put.ensures.1.0.1 (omega arith)) had.result had.ensures
+    ends.result ends.ensures _ _ (omega (arith, c.if-index-end.false)) all.result
+    all.ensures
+    c.if-text-claimed.true c.told_room-then-text-claimed.result c.told_room-then-text-claimed.ensures
+
+pub strike_before-requires : goal.strike_before-requires
+strike_before-requires c = omega (arith, c.add_row.ensures.1.0.1 (omega arith))
+
+pub returns : goal.returns
+returns c =
+    let args = c.args in
+    let pre = c.requires in
+    let put = c.add_row in
+    let had = c.len_before-had in
+    let ends = c.end_with-end in
+    let all = c.claimed in
+    λ g s old hs w.
+    files_fit g args.dues args.index.now args.text.now s _ args.heads.now args.next.now old
+    args.fill args.key args.start args.len hs w pre.0 put.ensures.0.1 _ put.ensures.0.0
+    put.result put.ensures.1.0.0 (put.ensures.1.0.1 (omega arith)) had.result had.ensures
+    ends.result ends.ensures _ _ (omega (arith, c.if-index-end.false)) all.result all.ensures
+    (omega (arith, c.if-text-claimed.false)) put.ensures.1.1 _ c.strike_before.ensures
+    c.told_room-2.result c.told_room-2.ensures
