@@ -21,7 +21,7 @@ SIG = re.compile(r"^((?:abbrev |unfoldable )?(?:pub )?)([^\s:(){}]+) :(?=\s)")
 def norm(s):
     s = s.replace("-", "_")
     s = re.sub(r"_lem$", "", s)
-    return re.sub(r"_+", "_", s)
+    return re.sub(r"_+", "_", s).lower()
 
 
 def blocks(text):
@@ -80,6 +80,15 @@ class Function:
         self.changed = data["changed"]
         self.settled = set(data["settled"])
         self.said = said
+        # a receiver and other parameters had numbers for names: '.args .t1' is '.args .self'
+        self.renamed = {a.split(".")[-1].strip(): b.split(".")[-1].strip() for a, b in data["args"] if a.startswith((".args", ".ranges"))}
+
+    def chain(self, place):
+        out = []
+        while place is not None:
+            out.append(place)
+            place = self.parent[place]
+        return out
 
     def up(self, place, n):
         for _ in range(n):
@@ -106,25 +115,24 @@ class Function:
                     return f"{arm[0]}.{field}", words[1 + len(path) :]
         return None
 
-    def new_step(self, place, word):
-        """The new name of the step that `word` names at `place`."""
+    def new_step(self, place, word, goal):
+        """The new name of the step that `word` names at `place`, on the way to the goal's place `goal`."""
         if word in ("args", "requires", "ranges", "type-inv", "well-formed", "clauses", "signature", "utf8"):
             return {"well-formed": "type_inv", "type-inv": "type_inv"}.get(word, word)
-        p = place
-        first = True
+        chain = self.chain(goal)
+        at = chain.index(place) if place in chain else len(chain) - 1
         bare = re.sub(r"\d+$", "", norm(word))
-        while p is not None:
-            old, new = self.step[p]
-            if old and (norm(old) == norm(word) or (first and re.sub(r"\d+$", "", norm(old)) == bare)):
-                return new
-            p = self.parent[p]
-            first = False
-        p = place
-        while p is not None:
-            old, new = self.step[p]
-            if old and re.sub(r"\d+$", "", norm(old)) == bare:
-                return new
-            p = self.parent[p]
+        old, new = self.step[chain[at]]
+        if old and re.sub(r"\d+$", "", norm(old)) == bare:
+            return new
+        best = None
+        for test in (norm, lambda x: re.sub(r"\d+$", "", norm(x))):
+            for i, p in enumerate(chain):
+                old, new = self.step[p]
+                if old and test(old) == test(word) and (best is None or abs(i - at) < best[0]):
+                    best = (abs(i - at), new)
+            if best:
+                return best[1]
         return None
 
 
@@ -143,6 +151,7 @@ def underscored(rest):
 
 def turn_body(body, fn, place, binder, said, where):
     alias = {binder: place}
+    goal = place
     # let X = alias(.before)* in
     pattern = re.compile(r"let (" + NAME + r") = (" + NAME + r")((?:\.before)*) in\s*")
     again = True
@@ -169,10 +178,12 @@ def turn_body(body, fn, place, binder, said, where):
         arm = fn.arm(place or "Start", words)
         if arm:
             return ".".join([binder, arm[0]] + ([underscored(".".join(arm[1]))] if arm[1] else []))
-        step = fn.new_step(place or "Start", word)
+        step = fn.new_step(place or "Start", word, goal)
         if step is None:
             said.append(f"look: {where}: no step {word} at {place}")
             step = word
+        if step in ("args", "ranges", "type_inv") and len(words) > 1:
+            words[1] = fn.renamed.get(words[1], words[1])
         more = "." + underscored(".".join(words[1:])) if len(words) > 1 else ""
         return f"{binder}.{step}{more}"
 

@@ -13,7 +13,7 @@ loop-i-init c = (omega arith, refl)
 
 pub loop-i-preserved : goal.loop-i-preserved
 loop-i-preserved c =
-    let xs = c.args.t1 in
+    let xs = c.args.slots in
     let long : length xs ≡ 9 = search rules in
     let ys = replicate 9 empty_slot in
     let room : length ys ≡ 9 = length-replicate 9 empty_slot in (
@@ -24,7 +24,7 @@ loop-i-preserved c =
 
 pub returns : goal.returns
 returns c =
-    let xs = c.args.t1 in
+    let xs = c.args.slots in
     let long : length xs ≡ 9 = search rules in
     let ys = replicate 9 empty_slot in
     let room : length ys ≡ 9 = length-replicate 9 empty_slot in

@@ -13,7 +13,7 @@ loop-i-init c = (omega arith, refl)
 
 pub loop-i-preserved : goal.loop-i-preserved
 loop-i-preserved c =
-    let xs = c.args.t1 in
+    let xs = c.args.slots in
     let long : length xs ≡ 20 = search rules in
     let ys = replicate 20 empty_slot in
     let room : length ys ≡ 20 = length-replicate 20 empty_slot in (
@@ -24,7 +24,7 @@ loop-i-preserved c =
 
 pub returns : goal.returns
 returns c =
-    let xs = c.args.t1 in
+    let xs = c.args.slots in
     let long : length xs ≡ 20 = search rules in
     let ys = replicate 20 empty_slot in
     let room : length ys ≡ 20 = length-replicate 20 empty_slot in

@@ -13,7 +13,7 @@ loop-i-init c = (omega arith, refl)
 
 pub loop-i-preserved : goal.loop-i-preserved
 loop-i-preserved c =
-    let xs = c.args.t1 in
+    let xs = c.args.entries in
     let long : length xs ≡ 256 = search rules in
     let ys = replicate 256 unused_entry in
     let room : length ys ≡ 256 = length-replicate 256 unused_entry in (
@@ -24,7 +24,7 @@ loop-i-preserved c =
 
 pub returns : goal.returns
 returns c =
-    let xs = c.args.t1 in
+    let xs = c.args.entries in
     let long : length xs ≡ 256 = search rules in
     let ys = replicate 256 unused_entry in
     let room : length ys ≡ 256 = length-replicate 256 unused_entry in

@@ -13,7 +13,7 @@ loop-i-init c = (omega arith, refl)
 
 pub loop-i-preserved : goal.loop-i-preserved
 loop-i-preserved c =
-    let xs = c.args.t1 in
+    let xs = c.args.entries in
     let long : length xs ≡ 256 = search rules in
     let ys = replicate 256 flat_unused in
     let room : length ys ≡ 256 = length-replicate 256 flat_unused in (
@@ -25,4 +25,4 @@ loop-i-preserved c =
 pub returns : goal.returns
 returns c =
     let done : c.loop-i.i ≡ c.args.n = omega arith in
-    (rw done at c.loop-i.invariant.1) ∙ laid_first c.args.n c.args.t1 c.requires
+    (rw done at c.loop-i.invariant.1) ∙ laid_first c.args.n c.args.entries c.requires

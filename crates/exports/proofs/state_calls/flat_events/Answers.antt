@@ -12,7 +12,7 @@ loop-i-init c = (omega arith, refl)
 
 pub loop-i-preserved : goal.loop-i-preserved
 loop-i-preserved c =
-    let xs = c.args.t1 in
+    let xs = c.args.list in
     let long : length xs ≡ 27 = search rules in
     let ys = replicate 27 flat_no_event in
     let room : length ys ≡ 27 = length-replicate 27 flat_no_event in (
@@ -23,7 +23,7 @@ loop-i-preserved c =
 
 pub returns : goal.returns
 returns c =
-    let xs = c.args.t1 in
+    let xs = c.args.list in
     let long : length xs ≡ 27 = search rules in
     let ys = replicate 27 flat_no_event in
     let room : length ys ≡ 27 = length-replicate 27 flat_no_event in

@@ -15,7 +15,7 @@ returns-then-is_skipped c =
 pub returns-in-Found : goal.returns-in-Found
 returns-in-Found c =
     let a = c.args in
-    taken_found a.draft a.xs.now a.p a.after _ _ _ _ _ _ _ c.in-Found.is c.Puts-of.ensures c.put_all.ensures
+    taken_found a.draft a.xs.now a.p a.after _ _ _ _ _ _ _ c.in-Found.is c.puts_of.ensures c.put_all.ensures
 
 pub returns-else-is_skipped : goal.returns-else-is_skipped
 returns-else-is_skipped c =

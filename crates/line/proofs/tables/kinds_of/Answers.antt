@@ -13,7 +13,7 @@ pub loop-k-preserved : goal.loop-k-preserved
 loop-k-preserved c = (
   omega arith,
   length-set c.loop-k.kinds c.loop-k.k _ ∙ c.loop-k.invariant.1,
-  kinds_turn c.args.t1 c.loop-k.kinds c.loop-k.k _ c.requires c.loop-k.invariant.1 (omega arith)
+  kinds_turn c.args.elements c.loop-k.kinds c.loop-k.k _ c.requires c.loop-k.invariant.1 (omega arith)
       c.kind_number.ensures c.loop-k.invariant.2,
 )
 

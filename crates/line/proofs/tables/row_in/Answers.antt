@@ -12,13 +12,13 @@ loop-i-init c = (omega arith, refl)
 pub returns-then-eq : goal.returns-then-eq
 returns-then-eq c =
     let e = c.args.e in
-    let was = element_told c.args.t1 c.loop-i.i e _ c.requires (omega arith) c.eq.ensures in
+    let was = element_told c.args.elements c.loop-i.i e _ c.requires (omega arith) c.eq.ensures in
     sym (element_here c.loop-i.i e _ (omega arith) was c.if-eq.true) ∙ c.loop-i.invariant.1
 
 pub loop-i-preserved : goal.loop-i-preserved
 loop-i-preserved c =
     let e = c.args.e in
-    let was = element_told c.args.t1 c.loop-i.i e _ c.requires (omega arith) c.eq.ensures in
+    let was = element_told c.args.elements c.loop-i.i e _ c.requires (omega arith) c.eq.ensures in
     (omega arith, sym (element_past c.loop-i.i e _ (omega arith) was c.if-eq.false) ∙ c.loop-i.invariant.1)
 
 pub returns : goal.returns

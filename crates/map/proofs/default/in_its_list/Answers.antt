@@ -5,7 +5,7 @@ use Rattle.map.proofs.default.in_its_list.Goals as goal
 
 pub returns-then-code : goal.returns-then-code
 unfolding in_its_list
-returns-then-code c = rw (lt-ltb _ _ c.if-code.true) c.in_List.ensures
+returns-then-code c = rw (lt-ltb _ _ c.if-code.true) c.in_list.ensures
 
 pub returns : goal.returns
 unfolding in_its_list

@@ -19,8 +19,8 @@ returns-then-i-eq-HELD_MAX c =
       entry_count = c.args.entry_count;
       entries = c.args.entries.now;
     } in
-    let x = c.held_number in
-    let n = c.capped in
+    let x = c.held_number-x in
+    let n = c.capped-n in
     let i = c.held_place-i in
     let r = c.no_change in (
       away_told p c.args.code c.args.raw n.result i.result x.result c.requires.0 c.requires.1
@@ -35,8 +35,8 @@ returns-then-i-eq-HELD_MAX c =
 
 pub code_change-requires : goal.code_change-requires
 code_change-requires c =
-    let x = c.held_number in
-    let n = c.capped in
+    let x = c.held_number-x in
+    let n = c.capped-n in
     let i = c.held_place-i in
     let g = c.grown-many in
     let m = c.capped-m in
@@ -66,8 +66,8 @@ returns c =
       entry_count = c.args.entry_count;
       entries = c.args.entries.now;
     } in
-    let x = c.held_number in
-    let n = c.capped in
+    let x = c.held_number-x in
+    let n = c.capped-n in
     let i = c.held_place-i in
     let g = c.grown-many in
     let m = c.capped-m in

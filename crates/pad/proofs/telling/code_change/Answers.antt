@@ -27,16 +27,16 @@ returns-else-place_of-eq-ELEMENTS c =
     let hs = helds_in c.args.n c.args.held.now in
     let ks = helds_in c.args.many (set c.args.held.now c.args.i c.args.x) in
     let es = entries_in c.args.m c.args.entries.now in
-    let g = c.e.given in
+    let g = c.e-1.given in
     let w =
     sym g.1 ∙ c.first_entry.ensures in
     let el = g.0.0.element in
-    let x = c.element-number in
+    let x = c.element_number-before in
     let y = c.element_number-later in
     let at = c.place_of in
     let k = moved hs ks es (record { element = el; before = x.result; later = y.result })
     (λ other q. only_of hs ks es c.args.code c.requires.5 (En.Is g.0.0) w other q)
-    (has_place_lem el at.result at.ensures c.if1.false) x.ensures.0
+    (has_place_lem el at.result at.ensures c.if-place_of-eq-ELEMENTS.false) x.ensures.0
     y.ensures.0 x.ensures.1 y.ensures.1 in
     (refl, k.0, k.1, k.2, k.3)
 

@@ -14,7 +14,7 @@ pub survey-seen-requires : goal.survey-seen-requires
 survey-seen-requires c =
     let args = c.args in
     let pre = c.requires in (
-      both_most args.index.now args.text.now (λ k. omega (arith, c.slice-known.given k))
+      both_most args.index.now args.text.now (λ k. omega (arith, c.slice_known-1.given k))
           pre.0,
       (chained_none _, empty_long),
     )
@@ -23,7 +23,7 @@ pub dues_of-dues-requires : goal.dues_of-dues-requires
 dues_of-dues-requires c =
     let args = c.args in
     let pre = c.requires in
-    let bytes : Bytes args.index.now = λ k. omega (arith, c.slice-known.given k) in
+    let bytes : Bytes args.index.now = λ k. omega (arith, c.slice_known-1.given k) in
     let survey = c.survey-seen in
     let whole = survey.ensures.is ∙ walk_of args.index.now args.text.now bytes pre.0 in (
       pre.1.0,
@@ -35,10 +35,10 @@ pub take_lines-part-requires : goal.take_lines-part-requires
 take_lines-part-requires c =
     let args = c.args in
     let pre = c.requires in
-    let bytes : Bytes args.index.now = λ k. omega (arith, c.slice-known.given k) in
-    let survey = c.survey in
+    let bytes : Bytes args.index.now = λ k. omega (arith, c.slice_known-1.given k) in
+    let survey = c.survey-seen in
     let whole = survey.ensures.is ∙ walk_of args.index.now args.text.now bytes pre.0 in
-    let dues = c.dues-of in (
+    let dues = c.dues_of-dues in (
       pre.1.1,
       loads_held dues.result args.shares.now args.index.now args.text.now args.lines.now _ _ _
           survey.result.fill args.owner (survey.ensures.loads whole)
@@ -50,10 +50,10 @@ pub settle-requires : goal.settle-requires
 settle-requires c =
     let args = c.args in
     let pre = c.requires in
-    let bytes : Bytes args.index.now = λ k. omega (arith, c.slice-known.given k) in
-    let survey = c.survey in
+    let bytes : Bytes args.index.now = λ k. omega (arith, c.slice_known-1.given k) in
+    let survey = c.survey-seen in
     let whole = survey.ensures.is ∙ walk_of args.index.now args.text.now bytes pre.0 in
-    let dues = c.dues-of in
+    let dues = c.dues_of-dues in
     let took = c.take_lines-part in (
       loads_extend args.index.now args.text.now _ _ _ survey.result.fill (survey.ensures.loads whole),
       batch_settles dues.result args.shares.now args.index.now args.text.now args.lines.now _ _ _
@@ -67,10 +67,10 @@ pub returns : goal.returns
 returns c =
     let args = c.args in
     let pre = c.requires in
-    let bytes : Bytes args.index.now = λ k. omega (arith, c.slice-known.given k) in
-    let survey = c.survey in
+    let bytes : Bytes args.index.now = λ k. omega (arith, c.slice_known-1.given k) in
+    let survey = c.survey-seen in
     let whole = survey.ensures.is ∙ walk_of args.index.now args.text.now bytes pre.0 in
-    let dues = c.dues-of in
+    let dues = c.dues_of-dues in
     let took = c.take_lines-part in (
       batch_end dues.result args.shares.now args.index.now args.text.now args.lines.now _ _ _
           survey.result.fill args.owner (survey.ensures.loads whole)

@@ -42,9 +42,9 @@ pub slice_bounds-file_built-end : goal.slice_bounds-file_built-end
 slice_bounds-file_built-end c =
     let a = c.args in
     let args = save_args a.«data» a.buttons.now a.axes.now a.name.now a.uuid in
-    let built = c.from-data in
-    let own = (sym c.owner_of.ensures ∙ c.owner.given.1) in
-    let accepted = c.enum-told2 in
+    let built = c.from_data-built in
+    let own = (sym c.owner_of.ensures ∙ c.owner-1.given.1) in
+    let accepted = c.enum_told-in_default-answer-1 in
     omega (
       arith,
       (made a.party _ own args _ built.result _ (omega arith) built.ensures
@@ -55,10 +55,10 @@ pub file_built-filed-requires : goal.file_built-filed-requires
 file_built-filed-requires c =
     let a = c.args in
     let args = save_args a.«data» a.buttons.now a.axes.now a.name.now a.uuid in
-    let built = c.from-data in
+    let built = c.from_data-built in
     let own = (sym c.owner_of.ensures
-    ∙ c.owner.given.1) in
-    let accepted = c.enum-told2 in
+    ∙ c.owner-1.given.1) in
+    let accepted = c.enum_told-in_default-answer-1 in
     let m = made a.party _ own args _ built.result _ (omega arith) built.ensures accepted.given.1 in
     (omega (arith, m.some, m.within), omega (arith, m.most, m.within))
 
@@ -66,11 +66,11 @@ pub returns : goal.returns
 returns c =
     let a = c.args in
     let args = save_args a.«data» a.buttons.now a.axes.now a.name.now a.uuid in
-    let built = c.from-data in
-    let own = (sym c.owner_of.ensures ∙ c.owner.given.1) in
-    let accepted = c.enum-told2 in
-    let named = c.unsaved-name in
-    let if1 = c.if1 in
+    let built = c.from_data-built in
+    let own = (sym c.owner_of.ensures ∙ c.owner-1.given.1) in
+    let accepted = c.enum_told-in_default-answer-1 in
+    let named = c.unsaved_name in
+    let if1 = c.if-unsaved_name in
     let filed = c.file_built-filed in
     let m = made a.party _ own args _ built.result _ (omega arith) built.ensures accepted.given.1 in
     ap (λ (x : Saved). record { answer = x; index = filed.new.0; text = filed.new.1.0 }) c.saved_as.ensures

@@ -16,7 +16,7 @@ pub returns-then-not-is_utf8 : goal.returns-then-not-is_utf8
 returns-then-not-is_utf8 c =
     let args = c.args in
     walk-not_utf8 args.owner args.index.now args.text.now args.lines.now
-    (λ k. omega (arith, c.slice-known.given k))
+    (λ k. omega (arith, c.slice_known-1.given k))
     (sym c.sound.ensures ∙ c.if-not-sound.false)
     (sym c.is_utf8.ensures ∙ c.if-not-is_utf8.true) c.valid_up_to.result
     c.valid_up_to.ensures
@@ -32,11 +32,11 @@ insert_all-requires c =
     let args = c.args in
     let front = c.read_shares-front in
     let sound = sym c.sound.ensures ∙ not-false _
-    c.if1.false in (
+    c.if-not-sound.false in (
       part_lines args.index.now args.text.now _ front.result front.ensures
-          (λ k. omega (arith, c.slice-known.given k)) sound,
+          (λ k. omega (arith, c.slice_known-1.given k)) sound,
       (whole args.index.now args.text.now _ front.result front.ensures
-          (λ k. omega (arith, c.slice-known.given k)) sound).given,
+          (λ k. omega (arith, c.slice_known-1.given k)) sound).given,
     )
 
 pub returns : goal.returns
@@ -45,8 +45,8 @@ returns c =
     let front = c.read_shares-front in
     let all = c.insert_all in
     walk_lent args.owner args.index.now args.text.now args.lines.now _ front.result front.ensures
-    (λ k. omega (arith, c.slice-known.given k))
+    (λ k. omega (arith, c.slice_known-1.given k))
     (sym c.sound.ensures ∙ not-false _
-    c.if1.false)
-    (sym c.is-utf8.ensures ∙ c.if-not-sound.false) all.result _ _
+    c.if-not-sound.false)
+    (sym c.is_utf8.ensures ∙ c.if-not-is_utf8.false) all.result _ _
     all.ensures

@@ -38,7 +38,7 @@ seek-r-requires c =
     number.ensures.0 pre.0 in
     let linked = chained_turn (key_in args.rows.now) args.heads.now args.next.now args.k
     bucket-of.result head pre.1 bucket-is bucket-of.ensures.1 refl pre.0 (args.k + 1) refl in
-    let first = c.first_step in (
+    let first = c.first_step-from in (
       (pre.0, omega (arith, first.ensures.0.1, last.within)),
       (λ a l. linked.links a (omega (arith, l)), first.ensures.1),
     )
@@ -54,7 +54,7 @@ returns c =
     let last = here (key_in args.rows.now) args.heads.now args.next.now args.k
     bucket-of.result number.result pre.1 bucket-is bucket-of.ensures.1
     number.ensures.0 pre.0 in
-    let first = c.first_step in (
+    let first = c.first_step-from in (
       sought (key_in args.rows.now) args.heads.now args.next.now args.k
           bucket-of.result number.result pre.1 bucket-is bucket-of.ensures.1
           number.ensures.0 pre.0 c.seek-r.result

@@ -17,11 +17,11 @@ pub settle-requires : goal.settle-requires
 settle-requires c =
     let args = c.args in
     let pre = c.requires in
-    let filed = c.file-row in (
+    let filed = c.file_row-tried in (
       loads_extend args.index.now args.text.now _ _ _ args.fill pre.1.1.0.0,
       one_settles args.dues args.index.now args.text.now args.line.now _ _ _ args.fill
           pre.1.1.0.0 args.key pre.1.0.0 pre.1.0.1 _ _ _ filed.result filed.ensures
-          c.enum_told.given.1
+          c.enum_told-1.given.1
           pre.0 pre.1.1.1,
     )
 
@@ -29,11 +29,11 @@ pub returns-in-Fits : goal.returns-in-Fits
 returns-in-Fits c =
     let args = c.args in
     let pre = c.requires in
-    let filed = c.file-row in
+    let filed = c.file_row-tried in
     let settled = c.settle in
     one_filed args.dues args.index.now args.text.now args.line.now _ _ _ args.fill
     pre.1.1.0.0 args.key pre.1.0.0 pre.1.0.1 _ _ _ filed.result filed.ensures
-    c.enum_told.given.1 _ _
+    c.enum_told-1.given.1 _ _
     settled.ensures
 
 pub returns-in-IndexFull : goal.returns-in-IndexFull
@@ -44,7 +44,7 @@ returns-in-IndexFull c =
     one_index args.dues args.index.now args.text.now args.line.now _ _ _ args.fill
     pre.1.1.0.0 args.key pre.1.0.0 pre.1.0.1 _ _ _ filed.result filed.ensures
     c.in-IndexFull.is
-    (λ k. omega (arith, c.slice-known.given k))
+    (λ k. omega (arith, c.slice_known-1.given k))
 
 pub returns-in-TextFull : goal.returns-in-TextFull
 returns-in-TextFull c =
@@ -54,4 +54,4 @@ returns-in-TextFull c =
     one_text args.dues args.index.now args.text.now args.line.now _ _ _ args.fill
     pre.1.1.0.0 args.key pre.1.0.0 pre.1.0.1 _ _ _ filed.result filed.ensures
     c.in-TextFull.is
-    (λ k. omega (arith, c.slice-known.given k))
+    (λ k. omega (arith, c.slice_known-1.given k))

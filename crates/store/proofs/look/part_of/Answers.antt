@@ -11,15 +11,15 @@ seek_before-r-requires c =
     let pre = pre in (
       pre.0,
       (put_ready args.rows.now args.heads.now args.next.now args.fill.count args.key pre.0 pre.1
-          _ c.put-row.ensures.0 c.put-row.ensures.1).chained,
+          _ c.put_row.ensures.0 c.put_row.ensures.1).chained,
     )
 
 pub returns-then-len-eq0 : goal.returns-then-len-eq0
 returns-then-len-eq0 c =
     let args = c.args in
     let pre = c.requires in
-    let put = c.put-row in
-    let seek = c.seek-before in
+    let put = c.put_row in
+    let seek = c.seek_before-r in
     let before = c.len_before-len in
     let agree = put_agree args.rows.now args.heads.now args.next.now args.fill.count args.key pre.0
     pre.1 _ put.ensures.0 put.ensures.1 in (
@@ -38,19 +38,19 @@ returns-then-len-eq0 c =
 
 pub overflow_sub-r : goal.overflow_sub-r
 overflow_sub-r c =
-    let seek-before = c.seek-before in
+    let seek-before = c.seek_before-r in
     omega (
       arith,
-      some-before _ seek-before.result c.len-before.result c.len-before.ensures c.if1.false,
+      some-before _ seek-before.result c.len_before-len.result c.len_before-len.ensures c.if-len-eq0.false,
     )
 
 pub start_at-start-requires : goal.start_at-start-requires
 start_at-start-requires c =
     let pre = c.requires in
-    let seek-before = c.seek-before in
+    let seek-before = c.seek_before-r in
     omega (
       arith,
-      some-before _ seek-before.result c.len-before.result c.len-before.ensures c.if1.false,
+      some-before _ seek-before.result c.len_before-len.result c.len_before-len.ensures c.if-len-eq0.false,
       seek-before.ensures.1,
       pre.0,
     )
@@ -59,9 +59,9 @@ pub returns : goal.returns
 returns c =
     let args = c.args in
     let pre = c.requires in
-    let put = c.put-row in
-    let seek = c.seek-before in
-    let before = c.len-before in
+    let put = c.put_row in
+    let seek = c.seek_before-r in
+    let before = c.len_before-len in
     let agree = put_agree args.rows.now args.heads.now args.next.now args.fill.count args.key pre.0
     pre.1 _ put.ensures.0 put.ensures.1 in (
       put_ready args.rows.now args.heads.now args.next.now args.fill.count args.key pre.0 pre.1
@@ -73,7 +73,7 @@ returns c =
             (λ j l. ag j l ∙ agree j l)
             (put_new args.rows.now args.heads.now args.next.now args.fill.count args.key pre.0
             pre.1 _ put.ensures.0 put.ensures.1)
-            seek.result seek.ensures.0 seek.ensures.1 before.result before.ensures c.if1.false
+            seek.result seek.ensures.0 seek.ensures.1 before.result before.ensures c.if-len-eq0.false
             c.start_at-start.result c.start_at-start.ensures,
       ),
     )

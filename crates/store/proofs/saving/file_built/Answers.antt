@@ -22,7 +22,7 @@ pub dues_of-dues-requires : goal.dues_of-dues-requires
 dues_of-dues-requires c =
     let args = c.args in
     let bytes : Bytes args.index.now = λ k. omega
-    (arith, c.slice-known.given k) in
+    (arith, c.slice_known-1.given k) in
     let stock = c.take_stock-stock in
     let e = c.if-not-stock.false in (
       stock_given args.index.now args.text.now _ _ _ _ stock.result stock.ensures bytes e,
@@ -48,7 +48,7 @@ slice_bounds-file_line-start c =
 pub file_line-room-requires : goal.file_line-room-requires
 file_line-room-requires c =
     let args = c.args in
-    let bytes : Bytes args.index.now = λ k. omega (arith, c.slice-known.given k) in
+    let bytes : Bytes args.index.now = λ k. omega (arith, c.slice_known-1.given k) in
     let stock = c.take_stock-stock in
     let e = c.if-not-stock.false in
     let dues = c.dues_of-dues in (
@@ -73,7 +73,7 @@ file_line-room-requires c =
 pub returns : goal.returns
 returns c =
     let args = c.args in
-    let bytes : Bytes args.index.now = λ k. omega (arith, c.slice-known.given k) in
+    let bytes : Bytes args.index.now = λ k. omega (arith, c.slice_known-1.given k) in
     let stock = c.take_stock-stock in
     let e = c.if-not-stock.false in
     let dues = c.dues_of-dues in

@@ -24,7 +24,7 @@ overflow_add-end c =
     let t = args.text.now in
     let stock = c.take_stock-stock in
     let w = stocked i t _ _ _ _ stock.result
-    (λ k. omega (arith, c.slice-known.given k)) stock.ensures
+    (λ k. omega (arith, c.slice_known-1.given k)) stock.ensures
     c.if-not-stock.false in
     omega (arith, w.front, w.end, w.fits, w.index_most)
 
@@ -35,7 +35,7 @@ overflow_add-end-2 c =
     let t = args.text.now in
     let stock = c.take_stock-stock in
     let w = stocked i t _ _ _ _ stock.result
-    (λ k. omega (arith, c.slice-known.given k)) stock.ensures
+    (λ k. omega (arith, c.slice_known-1.given k)) stock.ensures
     c.if-not-stock.false in
     omega (
       arith,
@@ -54,7 +54,7 @@ overflow_sub-end c =
     let t = args.text.now in
     let stock = c.take_stock-stock in
     let w = stocked i t _ _ _ _ stock.result
-    (λ k. omega (arith, c.slice-known.given k)) stock.ensures
+    (λ k. omega (arith, c.slice_known-1.given k)) stock.ensures
     c.if-not-stock.false in
     end_less i t _ _ stock.result w args.owner args.bytes (omega (arith, c.ranges))
     c.share_size.result c.share_size-2.result c.share_size.ensures c.share_size-2.ensures
@@ -66,7 +66,7 @@ share_room-room-requires c =
     let t = args.text.now in
     let stock = c.take_stock-stock in
     let w = stocked i t _ _ _ _ stock.result
-    (λ k. omega (arith, c.slice-known.given k)) stock.ensures
+    (λ k. omega (arith, c.slice_known-1.given k)) stock.ensures
     c.if-not-stock.false in
     set_weighs i t _ _ stock.result w args.owner args.bytes (omega (arith, c.ranges))
 
@@ -77,7 +77,7 @@ write_share-requires c =
     let t = args.text.now in
     let stock = c.take_stock-stock in
     let w = stocked i t _ _ _ _ stock.result
-    (λ k. omega (arith, c.slice-known.given k)) stock.ensures
+    (λ k. omega (arith, c.slice_known-1.given k)) stock.ensures
     c.if-not-stock.false in (
       _,
       (
@@ -85,7 +85,7 @@ write_share-requires c =
         set_writes i t _ _ stock.result w args.owner args.bytes (omega (arith, c.ranges))
             c.share_size.result c.share_size-2.result
             c.share_size.ensures
-            c.share_size-2.ensures (λ k. omega (arith, c.slice-known.given k))
+            c.share_size-2.ensures (λ k. omega (arith, c.slice_known-1.given k))
             c.share_room-room.result
             (c.share_room-room.ensures w.all.held w.used)
             c.in-Fits.is _ refl,
@@ -99,11 +99,11 @@ returns-in-TextFull c =
     let t = args.text.now in
     let stock = c.take_stock-stock in
     let w = stocked i t _ _ _ _ stock.result
-    (λ k. omega (arith, c.slice-known.given k)) stock.ensures
+    (λ k. omega (arith, c.slice_known-1.given k)) stock.ensures
     c.if-not-stock.false in
     set_crowded i t _ _ stock.result w args.owner args.bytes (omega (arith, c.ranges))
     c.share_size.result c.share_size-2.result c.share_size.ensures
-    c.share_size-2.ensures (λ k. omega (arith, c.slice-known.given k))
+    c.share_size-2.ensures (λ k. omega (arith, c.slice_known-1.given k))
     c.share_room-room.result (c.share_room-room.ensures w.all.held w.used)
     c.in-TextFull.is
 
@@ -114,11 +114,11 @@ returns-in-IndexFull c =
     let t = args.text.now in
     let stock = c.take_stock-stock in
     let w = stocked i t _ _ _ _ stock.result
-    (λ k. omega (arith, c.slice-known.given k)) stock.ensures
+    (λ k. omega (arith, c.slice_known-1.given k)) stock.ensures
     c.if-not-stock.false in
     set_full i t _ _ stock.result w args.owner args.bytes (omega (arith, c.ranges))
     c.share_size.result c.share_size-2.result c.share_size.ensures
-    c.share_size-2.ensures (λ k. omega (arith, c.slice-known.given k))
+    c.share_size-2.ensures (λ k. omega (arith, c.slice_known-1.given k))
     c.share_room-room.result (c.share_room-room.ensures w.all.held w.used)
     c.in-IndexFull.is
 
@@ -129,17 +129,17 @@ returns-in-Fits c =
     let t = args.text.now in
     let stock = c.take_stock-stock in
     let w = stocked i t _ _ _ _ stock.result
-    (λ k. omega (arith, c.slice-known.given k)) stock.ensures
+    (λ k. omega (arith, c.slice_known-1.given k)) stock.ensures
     c.if-not-stock.false in
     let told = c.in-Fits.is in
     let writes = set_writes i t _ _ stock.result w args.owner args.bytes (omega (arith, c.ranges))
     c.share_size.result c.share_size-2.result c.share_size.ensures
-    c.share_size-2.ensures (λ k. omega (arith, c.slice-known.given k))
+    c.share_size-2.ensures (λ k. omega (arith, c.slice_known-1.given k))
     c.share_room-room.result (c.share_room-room.ensures w.all.held
     w.used) told _ refl in
     set-done i t _ _ stock.result w args.owner args.bytes (omega (arith, c.ranges))
     c.share_size.result c.share_size-2.result c.share_size.ensures
-    c.share_size-2.ensures (λ k. omega (arith, c.slice-known.given k))
+    c.share_size-2.ensures (λ k. omega (arith, c.slice_known-1.given k))
     c.share_room-room.result (c.share_room-room.ensures w.all.held
     w.used) told _
     (c.write_share.ensures _ w.all.held writes)

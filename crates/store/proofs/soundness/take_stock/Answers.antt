@@ -71,18 +71,18 @@ returns-then-not-seen c =
 
 pub each_once-sound-requires : goal.each_once-sound-requires
 each_once-sound-requires c =
-    let survey = c.survey in
+    let survey = c.survey-seen in
     (omega (arith, survey.ensures.most), (survey.ensures.chained.links, survey.ensures.says))
 
 pub returns : goal.returns
 returns c =
     let args = c.args in
-    let shared-slice-known = c.shared-slice-known in
-    let if1 = c.if1 in
-    let if2 = c.if2 in
-    let read = c.read-shares in
-    let survey = c.survey in
-    let if3 = c.if-text-gt-TEXT_MAX in
+    let shared-slice-known = c.shared_slice_known-1 in
+    let if1 = c.if-index-gt-INDEX_MAX in
+    let if2 = c.if-text-gt-TEXT_MAX in
+    let read = c.read_shares-front in
+    let survey = c.survey-seen in
+    let if3 = c.if-not-seen in
     let whole = not-false _ if3.false in
     let p = read.result in
     let i = args.index.now in

@@ -13,7 +13,7 @@ link-requires c =
     let pre = c.requires in (
       pre.0,
       chained_agree (key_in args.rows.now) _ args.n
-          (λ k l. sym (ap (λ (v : List ℕ). key_in v k) c.put-row.ensures.0
+          (λ k l. sym (ap (λ (v : List ℕ). key_in v k) c.put_row.ensures.0
           ∙ ap (λ (r : Row). r.key) (row_other args.rows.now args.n args.key args.start args.len k
           (λ e. omega arith))))
           args.heads.now args.next.now pre.1,
@@ -21,4 +21,4 @@ link-requires c =
 
 pub returns : goal.returns
 returns c =
-    ((c.put-row.ensures.0, c.put-row.ensures.1), ((c.link.ensures.0, c.link.ensures.1.1), c.link.ensures.1.0))
+    ((c.put_row.ensures.0, c.put_row.ensures.1), ((c.link.ensures.0, c.link.ensures.1.1), c.link.ensures.1.0))

@@ -8,13 +8,13 @@ use Rattle.store.proofs.FileRowLaws.{had_less, dues_less, files_index, files_tex
 use Rattle.store.proofs.table.file_row.Goals as goal
 
 pub len_before-had-requires : goal.len_before-had-requires
-len_before-had-requires c = omega (arith, c.add_row.ensures.1.0.1 (omega arith))
+len_before-had-requires c = omega (arith, c.add_row-r.ensures.1.0.1 (omega arith))
 
 pub overflow_sub-used : goal.overflow_sub-used
 overflow_sub-used c =
     let args = c.args in
     let pre = c.requires in
-    let put = c.add_row in
+    let put = c.add_row-r in
     let had = c.len_before-had in
     had_less pre.1.0 args.dues args.index.now args.text.now pre.1.1 _ args.heads.now
     args.next.now pre.1.2.0
@@ -42,7 +42,7 @@ pub returns-then-index-end : goal.returns-then-index-end
 returns-then-index-end c =
     let args = c.args in
     let pre = c.requires in
-    let put = c.add_row in
+    let put = c.add_row-r in
     let had = c.len_before-had in
     let ends = c.end_with-end in
     λ g s old hs w.
@@ -55,7 +55,7 @@ pub claimed-requires : goal.claimed-requires
 claimed-requires c =
     let args = c.args in
     let pre = c.requires in
-    let put = c.add_row in
+    let put = c.add_row-r in
     let had = c.len_before-had in
     let w = pre.1.2.1.1 in
     let line : length (take args.len (drop args.start pre.1.1)) ≡ args.len
@@ -82,7 +82,7 @@ pub returns-then-text-claimed : goal.returns-then-text-claimed
 returns-then-text-claimed c =
     let args = c.args in
     let pre = c.requires in
-    let put = c.add_row in
+    let put = c.add_row-r in
     let had = c.len_before-had in
     let ends = c.end_with-end in
     let all = c.claimed in
@@ -95,13 +95,13 @@ returns-then-text-claimed c =
     c.if-text-claimed.true c.told_room-then-text-claimed.result c.told_room-then-text-claimed.ensures
 
 pub strike_before-requires : goal.strike_before-requires
-strike_before-requires c = omega (arith, c.add_row.ensures.1.0.1 (omega arith))
+strike_before-requires c = omega (arith, c.add_row-r.ensures.1.0.1 (omega arith))
 
 pub returns : goal.returns
 returns c =
     let args = c.args in
     let pre = c.requires in
-    let put = c.add_row in
+    let put = c.add_row-r in
     let had = c.len_before-had in
     let ends = c.end_with-end in
     let all = c.claimed in

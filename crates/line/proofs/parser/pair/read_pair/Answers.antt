@@ -50,9 +50,9 @@ pub returns : goal.returns
 unfolding pair_of
 returns c =
     simp (
-      eq-eqb _ _ (sym c.count-byte.ensures
-          ∙ c.if1.false),
+      eq-eqb _ _ (sym c.count_byte.ensures
+          ∙ c.if-count_byte-ne1.false),
       c.keyed.ensures,
-      c.find-byte.ensures,
+      c.find_byte-colon.ensures,
       part_to_end,
     )

@@ -19,7 +19,7 @@ pub returns-then-s-last-eq126 : goal.returns-then-s-last-eq126
 unfolding axis_value_of
 returns-then-s-last-eq126 c =
     simp (
-      eq-eqb _ _ c.if-n-eq0.true,
+      eq-eqb _ _ c.if-s-last-eq126.true,
       c.axis_number.ensures,
       c.parse_u16.ensures,
     )

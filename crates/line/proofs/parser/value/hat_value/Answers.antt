@@ -34,13 +34,13 @@ pub returns : goal.returns
 unfolding hat_of
 returns c =
     let s = c.args.s.now in
-    let some : (first_of (byte ".") s ≡ length s → ⊥) = λ e. c.if1.false
-    (c.find-byte.ensures ∙ e) in
+    let some : (first_of (byte ".") s ≡ length s → ⊥) = λ e. c.if-dot-s.false
+    (c.find_byte-dot.ensures ∙ e) in
     simp (
       ne_eqb _ _ some,
       c.hat_numbers.ensures,
       c.parse_u16-2.ensures,
       c.parse_u16.ensures,
-      c.find-byte.ensures,
+      c.find_byte-dot.ensures,
       part_to_end,
     )
