@@ -315,7 +315,7 @@ def convert(path, data, crate, sub, said):
             params = [q for q in m.group(1).split() if q != "κs"]
             binder = params[0] if params else "c"
             body = body[m.end() :]
-            if PLAIN.match(re.sub(r"\s+", " ", body).strip()):
+            if PLAIN.match(re.sub(r"\s+", " ", body).strip()) and not lead:
                 kept_plain += 1
                 continue
             if "well-formed" in body and re.match(r"\s*(let .*? in\s*)*omega", body, re.S):
@@ -329,9 +329,11 @@ def convert(path, data, crate, sub, said):
             if new.startswith("shape_of") and re.match(r"c\.[^\s]+\.auto\.\d+$", body):
                 kept_plain += 1
                 continue
-            if PLAIN.match(re.sub(r"\s+", " ", body).strip()):
+            if PLAIN.match(re.sub(r"\s+", " ", body).strip()) and not lead:
                 kept_plain += 1
                 continue
+            for a, b in fn.renamed.items():
+                body = re.sub(r"(?<![\w'-])(\w[\w-]*)\." + re.escape(a) + r"(?![\w'-])", r"\1." + b, body)
             one = "\n" not in body and len(new) + len(body) < 100
             ans.append((it["comment"], f"pub {new} : goal.{new}\n{lead}{new} {binder} =" + (" " + body if one else "\n    " + body)))
             continue
