@@ -6,11 +6,11 @@ use native.Mathlib.Omega.{arith}
 use lib.ListN.{length, get_or}
 use Rattle.line.specs.declared.mapping.Entry.{Entry}
 use Rattle.line.specs.declared.mapping.PutAnswer.{PutAnswer}
-use Rattle.line.specs.Elements.{BUTTON_LAST, code_of}
+use Rattle.line.specs.Elements.{button_last, code_of}
 use Rattle.line.specs.Maps.{entry_of, put_entry, to_map}
 use Rattle.line.specs.Tables.{as_button}
 use Rattle.line.proofs.ViewLaws.{put_adds, put_map}
-use Rattle.map.specs.Keys.{KEY_FIRST, KEYS, key_number}
+use Rattle.map.specs.Keys.{key_first, key_count, key_number}
 use Rattle.map.specs.Default.{put_kept, flagged_map}
 use Rattle.map.proofs.KeyLaws.{table_number}
 use Rattle.map.proofs.DefaultLaws.{key_row, rows_from, rows-first, rows_last, rows_none, rows-some, buttons_many}
@@ -20,7 +20,7 @@ use Rattle.map.proofs.default.kept_buttons.Goals as goal
 pub loop-i-init : goal.loop-i-init
 loop-i-init c =
     let a = c.args in
-    let many : length (rows_from 0) ≡ BUTTON_LAST = ap length rows-first ∙ buttons_many in (
+    let many : length (rows_from 0) ≡ button_last = ap length rows-first ∙ buttons_many in (
       c.key_table-table.ensures,
       omega arith,
       (
@@ -40,15 +40,15 @@ loop-i-preserved c =
     let i = c.loop-i.i in
     let inv = c.loop-i.invariant.2 in
     let es = inv.0 in
-    let h : i < KEYS = omega arith in
-    let number : get_or t.buttons i 0 ≡ key_number (KEY_FIRST + i) = table_number t i c.loop-i.invariant.0 h in
-    let row = key_row (KEY_FIRST + i) in
+    let h : i < key_count = omega arith in
+    let number : get_or t.buttons i 0 ≡ key_number (key_first + i) = table_number t i c.loop-i.invariant.0 h in
+    let row = key_row (key_first + i) in
     let rest = rows_from (i + 1) in
     ⊎_elim
     (λ w.
     let some = rows-some i h (λ z. w.0.taken (number ∙ z)) in
     let long : length (rows_from i) ≡ suc (length rest) = ap length some in
-    let made = w.1.ensures ∙ ap (λ (n : ℕ). entry_of (code_of (KEY_FIRST + i)) (as_button n)) number in
+    let made = w.1.ensures ∙ ap (λ (n : ℕ). entry_of (code_of (key_first + i)) (as_button n)) number in
     let kept = rw made at w.2.ensures in
     let put = rw (made, inv.2) at w.4.ensures in (
       c.loop-i.invariant.0,
@@ -66,7 +66,7 @@ loop-i-preserved c =
     (λ w.
     let some = rows-some i h (λ z. w.0.taken (number ∙ z)) in
     let long : length (rows_from i) ≡ suc (length rest) = ap length some in
-    let made = w.1.ensures ∙ ap (λ (n : ℕ). entry_of (code_of (KEY_FIRST + i)) (as_button n)) number in
+    let made = w.1.ensures ∙ ap (λ (n : ℕ). entry_of (code_of (key_first + i)) (as_button n)) number in
     let kept = rw made at w.2.ensures in (
       c.loop-i.invariant.0,
       omega arith,
@@ -99,7 +99,7 @@ returns c =
     let b = a.buttons.now in
     let x = a.axes.now in
     let inv = c.loop-i.invariant.2 in
-    let e : c.loop-i.i ≡ KEYS = omega arith in
+    let e : c.loop-i.i ≡ key_count = omega arith in
     let done =
     sym (none_kept b x inv.0)
     ∙ sym (ap (λ (xs : List Entry). put_kept b x inv.0 xs) (rows_last c.loop-i.i e))
