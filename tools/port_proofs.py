@@ -163,6 +163,14 @@ def turn_body(body, fn, place, binder, said, where):
                 body = body[: m.start()] + body[m.end() :]
                 again = True
                 break
+    # let X = c.before.x.given in: what an arm gives is named by its parts now
+    given = re.compile(r"let (" + NAME + r") = (" + NAME + r"(?:\.before)*\.[^\s(){}\[\],;.@\"]+\.given(?:\.\d)*) in\s*")
+    while True:
+        m = given.search(body)
+        if not m:
+            break
+        body = body[: m.start()] + body[m.end() :]
+        body = re.sub(r"(?<![\w.'-])" + re.escape(m.group(1)) + r"(?![\w'-])", lambda _: m.group(2), body)
     names = "|".join(re.escape(a) for a in sorted(alias, key=len, reverse=True))
     path = re.compile(r"(?<![\w.'-])(" + names + r")((?:\.before)*)((?:\.[^\s(){}\[\],;.@\"]+)*)(?![\w'-])")
 
@@ -188,6 +196,8 @@ def turn_body(body, fn, place, binder, said, where):
         return f"{binder}.{step}{more}"
 
     body = path.sub(one, body)
+    for x in set(re.findall(r"let (" + NAME + r") = c\.", body)):
+        body = re.sub(r"(?<![\w.'-])" + re.escape(x) + r"((?:\.[^\s(){}\[\],;.@\"]+)+)", lambda m: x + underscored(m.group(1)), body)
     return body
 
 
