@@ -35,7 +35,7 @@ pub returns-then-i-lt-KEYS : goal.returns-then-i-lt-KEYS
 unfolding keys
 returns-then-i-lt-KEYS c =
     ap (λ (n : ℕ). numbered n)
-    (placed c.args.code.0 c.if-i-lt-KEYS.false c.if-i-lt-KEYS.true)
+    (placed c.args.code.0 c.if-code-lt-KEY_FIRST.false c.if-i-lt-KEYS.true)
 
 pub returns : goal.returns
 returns c =
