@@ -20,7 +20,7 @@ loop-at-init c =
     let pre = c.requires in
     take-first args.dues args.index.now args.text.now args.lines.now
     args.rows.now
-    args.heads.now args.next.now args.owner args.from args.first pre.0
+    args.heads.now args.next.now args.owner args.from args.first pre.from_in_bounds
 
 pub line_length-len-requires : goal.line_length-len-requires
 line_length-len-requires c = c.find_far-end.ensures
@@ -36,7 +36,7 @@ reach_row-step-requires c =
     args.rows.now
     args.heads.now args.next.now args.owner args.from args.first
     loop.rows
-    loop.heads loop.next loop.fill loop.at loop.count loop.invariant pre.1 in (
+    loop.heads loop.next loop.fill loop.at loop.count loop.invariant pre.some_rows in (
       (
         ltb-true loop.fill.count rows_max if1.true,
         omega

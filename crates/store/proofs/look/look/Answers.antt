@@ -2,7 +2,6 @@
 use mathlib.Core.Path.{refl, sym, ◌∙◌}
 use mathlib.Core.List.{[]}
 use lib.ListN.{drop}
-use borrow.Author.Tests.{not-false}
 use Rattle.store.proofs.WriteLaws.{empty_long}
 use Rattle.store.proofs.ChainLaws.{chained_none}
 use Rattle.store.proofs.LookLaws.{look_ready, sees_unsound, sees_none, sees_line}
@@ -23,7 +22,7 @@ part_of-part-requires c =
     let args = c.args in
     let stock = c.take_stock-stock in
     let if1 = c.if-not-stock in
-    let e = not-false _ if1.false in
+    let e = if1.false in
     let l = stock.ensures.loads e in
     let i = args.index.now in
     let p = stock.result.front in
@@ -36,12 +35,12 @@ returns-then-part-eq0 c =
     let stock = c.take_stock-stock in
     let if1 = c.if-not-stock in
     let part = c.part_of-part in
-    let e = not-false _ if1.false in
+    let e = if1.false in
     let i = args.index.now in
     let p = stock.result.front in
     let h = sound_holds i args.text.now _ p (stock.ensures.front e) (sym stock.ensures.is ∙ e) in
     sees_none args.key i args.text.now h.all h.is part.result
-    (part.ensures.1.1 (drop p i) args.text.now _ h.all.held (λ j m. refl)
+    (part.ensures.agree.1 (drop p i) args.text.now _ h.all.held (λ j m. refl)
     ((stock.ensures.loads e).0 args.text.now [] h.all.held h.lines)) c.if-part-eq0.true
 
 pub returns : goal.returns
@@ -50,10 +49,10 @@ returns c =
     let stock = c.take_stock-stock in
     let if1 = c.if-not-stock in
     let part = c.part_of-part in
-    let e = not-false _ if1.false in
+    let e = if1.false in
     let i = args.index.now in
     let p = stock.result.front in
     let h = sound_holds i args.text.now _ p (stock.ensures.front e) (sym stock.ensures.is ∙ e) in
     sees_line args.key i args.text.now h.all h.is part.result
-    (part.ensures.1.1 (drop p i) args.text.now _ h.all.held (λ j m. refl)
+    (part.ensures.agree.1 (drop p i) args.text.now _ h.all.held (λ j m. refl)
     ((stock.ensures.loads e).0 args.text.now [] h.all.held h.lines)) c.if-part-eq0.false

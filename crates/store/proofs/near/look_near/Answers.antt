@@ -2,7 +2,6 @@
 use mathlib.Core.Path.{refl, sym, ◌∙◌}
 use mathlib.Core.List.{[]}
 use lib.ListN.{drop}
-use borrow.Author.Tests.{not-false}
 use Rattle.store.proofs.WriteLaws.{empty_long}
 use Rattle.store.proofs.ChainLaws.{chained_none}
 use Rattle.store.proofs.LookLaws.{look_ready}
@@ -24,12 +23,15 @@ try_both-requires c =
     let args = c.args in
     let stock = c.take_stock-stock in
     let if1 = c.if-not-stock in
-    let e = not-false _ if1.false in
+    let e = if1.false in
     let l = stock.ensures.loads e in
     let i = args.index.now in
     let p = stock.result.front in
     let h = sound_holds i args.text.now _ p (stock.ensures.front e) (sym stock.ensures.is ∙ e) in
-    (l.1, look_ready (drop p i) args.text.now h.all.held h.lines _ _ _ stock.result.fill l.0)
+    record {
+      count_lt_rows_max = l.1;
+      ready = look_ready (drop p i) args.text.now h.all.held h.lines _ _ _ stock.result.fill l.0;
+    }
 
 pub returns : goal.returns
 returns c =
@@ -37,7 +39,7 @@ returns c =
     let stock = c.take_stock-stock in
     let if1 = c.if-not-stock in
     let both = c.try_both in
-    let e = not-false _ if1.false in
+    let e = if1.false in
     let i = args.index.now in
     let p = stock.result.front in
     let h = sound_holds i args.text.now _ p (stock.ensures.front e) (sym stock.ensures.is ∙ e) in

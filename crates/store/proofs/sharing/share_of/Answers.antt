@@ -26,7 +26,10 @@ add_uses-requires c =
     let stock = c.take_stock-stock in
     let w = stocked args.index.now args.text.now _ _ _ _ stock.result
     (λ k. omega (arith, known.given k)) stock.ensures c.if-not-stock.false in
-    (refl, w.addable)
+    record {
+      uses_value = refl;
+      addable = w.addable;
+    }
 
 pub returns : goal.returns
 returns c =

@@ -4,7 +4,6 @@ use mathlib.Core.List.{List}
 use Prim.Native.Nat.{ℕ, ◌-◌}
 use native.Mathlib.Omega.{arith}
 use lib.ListN.{length}
-use borrow.Author.Tests.{not-false}
 use borrow.Rule.Slice.PartMut.{mid_of}
 use Rattle.text.proofs.LentLaws.{tail_part}
 use Rattle.store.proofs.BodyLaws.{bytes_part}
@@ -26,7 +25,7 @@ returns-then-text-gt-TEXT_MAX c =
     (stock_text args.index.now args.text.now c.if-index-gt-INDEX_MAX.false c.if-text-gt-TEXT_MAX.true)
 
 pub read_shares-front-requires : goal.read_shares-front-requires
-read_shares-front-requires c = c.requires.0
+read_shares-front-requires c = c.requires.shares_value
 
 pub slice_bounds-survey-count : goal.slice_bounds-survey-count
 slice_bounds-survey-count c = omega (arith, c.read_shares-front.ensures.within)
@@ -50,7 +49,7 @@ survey-seen-requires c =
         part_most i args.text.now _ p read.ensures if1.false (mid_of p (length i - p) i) (tail_part p i),
         if2.false,
       ),
-      pre.1,
+      pre.chained,
     )
 
 pub returns-then-not-seen : goal.returns-then-not-seen
@@ -83,7 +82,7 @@ returns c =
     let read = c.read_shares-front in
     let survey = c.survey-seen in
     let if3 = c.if-not-seen in
-    let whole = not-false _ if3.false in
+    let whole = if3.false in
     let p = read.result in
     let i = args.index.now in
     let t = args.text.now in
