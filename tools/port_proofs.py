@@ -168,6 +168,24 @@ def lent_parameters(root):
             LENT["::".join([crate] + module + owner + [m.group(4)])] = names
 
 
+def parts_of(text):
+    """The parts of a tuple in parentheses."""
+    parts, depth, cur = [], 0, ""
+    for ch in text[1:-1]:
+        depth += ch in "({["
+        depth -= ch in ")}]"
+        if ch == "," and depth == 0:
+            parts.append(cur)
+            cur = ""
+        else:
+            cur += ch
+        if depth < 0:
+            return []
+    if cur.strip():
+        parts.append(cur)
+    return [p.strip() for p in parts]
+
+
 def by_name(body, fn, new):
     """What had a number among several clauses has a name now."""
     paths = {}
@@ -184,12 +202,28 @@ def by_name(body, fn, new):
                 paths[x] = fields
             elif full.startswith(p + "."):
                 paths[x + full[len(p) :]] = fields
+    def walk(full, fields, closed):
+        """`.1.0` of clauses that stood one in the other is the second of them; a list that is closed ends in a unit."""
+        def one(m):
+            digits = m.group(1)[1:].split(".")
+            i = 0
+            while digits and i < len(fields):
+                last = i == len(fields) - 1
+                if last and not closed:
+                    break
+                d = digits.pop(0)
+                if d == "0":
+                    return ".".join([full + "." + fields[i]] + digits)
+                i += 1
+            if i < len(fields) and i == len(fields) - 1 and not closed:
+                return ".".join([full + "." + fields[i]] + digits)
+            return "(" + ", ".join(full + "." + f for f in fields[i:]) + ")" if i < len(fields) else m.group(0)
+
+        return one
+
     for full, fields in sorted(paths.items(), key=lambda it: -len(it[0])):
-        body = re.sub(
-            r"(?<![\w.'-])" + re.escape(full) + r"\.(\d+)(?![\w'-])",
-            lambda m: f"{full}.{fields[int(m.group(1))]}" if int(m.group(1)) < len(fields) else m.group(0),
-            body,
-        )
+        closed = full.endswith(".new")
+        body = re.sub(r"(?<![\w.'-])" + re.escape(full) + r"((?:\.\d+)+)(?![\w'-])", walk(full, fields, closed), body)
     fields = fn.asked.get(new)
     if fields and len(fields) > 1 and body.rstrip().endswith(")"):
         end = len(body.rstrip())
@@ -201,17 +235,9 @@ def by_name(body, fn, new):
                 break
         before = body[:i].rstrip()
         if body[i] == "(" and (not before or before.endswith(" in") or before.endswith("\nin")):
-            parts, depth, cur = [], 0, ""
-            for ch in body[i + 1 : end - 1]:
-                depth += ch in "({["
-                depth -= ch in ")}]"
-                if ch == "," and depth == 0:
-                    parts.append(cur)
-                    cur = ""
-                else:
-                    cur += ch
-            if cur.strip():
-                parts.append(cur)
+            parts = parts_of(body[i:end])
+            while 1 < len(parts) < len(fields) and parts[-1].startswith("(") and len(parts_of(parts[-1])) > 1:
+                parts[-1:] = parts_of(parts[-1])
             if len(parts) == len(fields):
                 body = body[:i] + "record {\n" + ";\n".join(f"      {f} = {q.strip()}" for f, q in zip(fields, parts)) + ";\n    }"
     return body
@@ -312,6 +338,24 @@ def used(name, text):
     return re.search(r"(?<![\w'-])" + re.escape(name) + r"(?![\w'-])", text) is not None
 
 
+def without_not(body, source):
+    """A test of `!f(x)` says now what the other outcome of a test of `f(x)` says; one of a field `!x.f` is as it was."""
+    fields = set(re.findall(r"!(\w+)\.\w+\b(?!\()", source))
+
+    def one(m):
+        path = m.group(m.lastindex)
+        step = re.search(r"if-not-([\w-]+)", path)
+        if not step:
+            bound = re.search(r"let " + re.escape(path.split(".")[0]) + r" = c\.if-not-([\w-]+) in", body)
+            step = bound
+        if step and step.group(1) in fields:
+            return m.group(0)
+        return path
+
+    body = re.sub(r"\(not-(?:true|false) _ ([^\s(){},]+)\)", one, body)
+    return re.sub(r"(?<!\()\bnot-(?:true|false) _ ([^\s(){},]+)", one, body)
+
+
 def uses_for(uses, text):
     out = []
     for u in uses:
@@ -337,6 +381,14 @@ def convert(path, data, crate, sub, said):
     where = path
     with open(path, encoding="utf-8") as f:
         head, uses, items = blocks(f.read())
+    source = ""
+    names = sub.split(".")
+    for n in range(len(names) - 1, 0, -1):
+        q = "/".join(["crates", crate, "src"] + names[:n]) + ".rt"
+        if os.path.exists(q):
+            with open(q, encoding="utf-8") as f:
+                source = f.read()
+            break
     fn = Function(data, said)
     spec = re.search(r"tie\.spec\b(.*)", "\n".join("\n".join(i["lines"]) for i in items if i["name"] and i["name"].endswith("-spec") or i["name"] and i["name"].endswith("_spec")), re.S)
     by_norm = {}
@@ -414,9 +466,6 @@ def convert(path, data, crate, sub, said):
                 continue
             body = turn_body(body, fn, place, binder, said, f"{where} {name}")
             body = body.strip()
-            # a test of `!x` says now what the other outcome of a test of `x` says
-            body = re.sub(r"\(not-(?:true|false) _ (c\.if-not-[^\s(){},]+)\)", r"\1", body)
-            body = re.sub(r"\bnot-(?:true|false) _ (c\.if-not-[^\s(){},]+)", r"\1", body)
             if new.startswith("shape_of") and re.match(r"c\.[^\s]+\.auto\.\d+$", body):
                 kept_plain += 1
                 continue
@@ -426,8 +475,7 @@ def convert(path, data, crate, sub, said):
             for a, b in fn.renamed.items():
                 body = re.sub(r"(?<![\w'-])(\w[\w-]*)\." + re.escape(a) + r"(?![\w'-])", r"\1." + b, body)
             body = by_name(body, fn, new)
-            body = re.sub(r"\(not-(?:true|false) _ ([^\s(){},]+)\)", r"\1", body)
-            body = re.sub(r"\bnot-(?:true|false) _ ([^\s(){},]+)", r"\1", body)
+            body = without_not(body, source)
             one = "\n" not in body and len(new) + len(body) < 100
             ans.append((it["comment"], f"pub {new} : goal.{new}\n{lead}{new} {binder} =" + (" " + body if one else "\n    " + body)))
             continue

@@ -26,7 +26,7 @@ dues_of-dues-requires c =
     let bytes : Bytes args.index.now = λ k. omega (arith, c.slice_known-1.given k) in
     let survey = c.survey-seen in
     let whole = survey.ensures.is ∙ walk_of args.index.now args.text.now bytes pre.text_value in (
-      pre.given.0,
+      pre.given,
       loads_addable args.index.now args.text.now _ _ _ survey.result.fill (survey.ensures.loads whole)
           pre.text_value,
     )
@@ -39,7 +39,7 @@ take_lines-part-requires c =
     let survey = c.survey-seen in
     let whole = survey.ensures.is ∙ walk_of args.index.now args.text.now bytes pre.text_value in
     let dues = c.dues_of-dues in (
-      pre.given.1,
+      pre.from_in_bounds,
       loads_held dues.result args.shares.now args.index.now args.text.now args.lines.now _ _ _
           survey.result.fill args.owner (survey.ensures.loads whole)
           (loads_owed args.index.now args.text.now _ _ _ survey.result.fill (survey.ensures.loads whole)

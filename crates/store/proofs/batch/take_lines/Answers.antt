@@ -4,7 +4,7 @@ use Prim.Native.Nat.{◌-◌, ◌≤◌}
 use native.Mathlib.Nat.{eq-or-lt_of_le}
 use native.Mathlib.Omega.{arith}
 use lib.ListN.{length, take, drop}
-use borrow.Author.Tests.{ltb-true, ltb-false}
+use borrow.Author.Tests.{not-true, not-false, ltb-true, ltb-false}
 use Rattle.text.specs.Bytes.{first_of}
 use Rattle.text.proofs.ListLaws.{part_to_end}
 use Rattle.text.proofs.LentLaws.{tail_length}
@@ -63,7 +63,7 @@ returns-then-not-step c =
     (line_part args.lines.now loop.at line_length_lem.result
     line_length_lem.ensures.1)
     reach-row.result _ _ _
-    reach-row.ensures c.if-not-step.true
+    reach-row.ensures (not-true _ c.if-not-step.true)
     c.report.result c.report.ensures
 
 pub loop-at-smaller : goal.loop-at-smaller
@@ -106,7 +106,7 @@ loop-at-preserved c =
     (found.ensures ∙ ap (first_of lf) (part_to_end args.lines.now loop.at)) _
     (line_part args.lines.now loop.at line_length_lem.result line_length_lem.ensures.1)
     reach-row.result _ _ _ reach-row.ensures (omega (arith, good.1.1.1.1.1.1.1.0))
-    c.if-not-step.false (omega (arith, loop-test.true, within))
+    (not-false _ c.if-not-step.false) (omega (arith, loop-test.true, within))
 
 pub returns : goal.returns
 returns c =

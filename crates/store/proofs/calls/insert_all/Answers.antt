@@ -3,6 +3,7 @@ use Prim.Native.Nat.{◌-◌, ◌<◌}
 use native.Mathlib.Omega.{arith}
 use lib.ListN.{length}
 use borrow.Author.Rules.{rules}
+use borrow.Author.Tests.{not-true, not-false}
 use Rattle.store.proofs.InsertLaws.{insert_first, still_sound, insert_end, insert_stop, insert_turn_lem}
 use Rattle.store.proofs.calls.insert_all.Goals as goal
 
@@ -34,7 +35,7 @@ pub shape_of-text-then-not-some : goal.shape_of-text-then-not-some
 shape_of-text-then-not-some c =
     let loop = c.loop-at in
     let some = c.insert_batch-some in
-    let e : length some.new.text.0 ≡ length loop.text = search rules in
+    let e : length some.new.text ≡ length loop.text = search rules in
     e ∙ loop.invariant.text
 
 pub returns-then-not-some : goal.returns-then-not-some
@@ -45,14 +46,14 @@ returns-then-not-some c =
     let some = c.insert_batch-some in
     insert_stop args.shares.now args.owner args.part.now args.text.now args.lines.now
     loop.part loop.text loop.at loop.count loop.invariant some.result _ _ some.ensures.batches
-    c.if-not-some.true
+    (not-true _ c.if-not-some.true)
 
 pub loop-at-smaller : goal.loop-at-smaller
 loop-at-smaller c =
     let loop = c.loop-at in
     let some = c.insert_batch-some in
     let on : loop.at < some.result.at
-    = some.ensures.went.moved (omega arith) c.loop-at-test.true c.if-not-some.false in
+    = some.ensures.went.moved (omega arith) c.loop-at-test.true (not-false _ c.if-not-some.false) in
     omega (arith, on, some.ensures.went.within, loop.invariant.within)
 
 pub loop-at-preserved : goal.loop-at-preserved
@@ -63,7 +64,7 @@ loop-at-preserved c =
     let some = c.insert_batch-some in
     insert_turn_lem args.shares.now args.owner args.part.now args.text.now args.lines.now
     loop.part loop.text loop.at loop.count loop.invariant some.result _ _ some.ensures.batches
-    c.if-not-some.false some.ensures.went
+    (not-false _ c.if-not-some.false) some.ensures.went
 
 pub shape_of-part : goal.shape_of-part
 shape_of-part c = c.loop-at.invariant.index

@@ -54,16 +54,14 @@ returns c =
     let last = here (key_in args.rows.now) args.heads.now args.next.now args.k
     bucket-of.result number.result pre.chained bucket-is bucket-of.ensures.1
     number.ensures.0 pre.k_lt_rows_max in
-    let first = c.first_step-from in (
-      sought (key_in args.rows.now) args.heads.now args.next.now args.k
+    let first = c.first_step-from in record {
+      sought = sought (key_in args.rows.now) args.heads.now args.next.now args.k
           bucket-of.result number.result pre.chained bucket-is bucket-of.ensures.1
           number.ensures.0 pre.k_lt_rows_max c.seek-r.result
           (seeks_from (key_in args.rows.now) args.k number.result first.result c.seek-r.result
-          first.ensures.not_in.0 c.seek-r.ensures.seeks),
-      (
-        chained_turn (key_in args.rows.now) args.heads.now args.next.now args.k
-            bucket-of.result _ pre.chained bucket-is bucket-of.ensures.1 refl pre.k_lt_rows_max _
-            (omega arith),
-        λ l. c.seek-r.ensures.upper_bound (omega (arith, first.ensures.not_in.1, last.within, pre.k_lt_rows_max, l)),
-      ),
-    )
+          first.ensures.not_in.0 c.seek-r.ensures.seeks);
+      chained_2 = chained_turn (key_in args.rows.now) args.heads.now args.next.now args.k
+          bucket-of.result _ pre.chained bucket-is bucket-of.ensures.1 refl pre.k_lt_rows_max _
+          (omega arith);
+      upper_bound = λ l. c.seek-r.ensures.upper_bound (omega (arith, first.ensures.not_in.1, last.within, pre.k_lt_rows_max, l));
+    }

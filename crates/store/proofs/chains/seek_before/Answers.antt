@@ -17,7 +17,11 @@ seek-requires c =
     let last = here (key_in args.rows.now) args.heads.now args.next.now args.k
     bucket-of.result number.result pre.chained bucket-is bucket-of.ensures.1
     number.ensures.0 pre.k_lt_rows_max in
-    ((pre.k_lt_rows_max, last.within), (pre.chained.links, last.kin))
+    record {
+      k_lt_rows_max = (pre.k_lt_rows_max, last.within);
+      linked = pre.chained.links;
+      kin = last.kin;
+    }
 
 pub returns : goal.returns
 returns c =

@@ -2,6 +2,7 @@
 use mathlib.Core.Path.{refl, sym, ◌∙◌}
 use mathlib.Core.List.{[]}
 use lib.ListN.{drop}
+use borrow.Author.Tests.{not-true, not-false}
 use Rattle.store.proofs.WriteLaws.{empty_long}
 use Rattle.store.proofs.ChainLaws.{chained_none}
 use Rattle.store.proofs.LookLaws.{look_ready, sees_unsound, sees_none, sees_line}
@@ -15,14 +16,14 @@ pub returns-then-not-stock : goal.returns-then-not-stock
 returns-then-not-stock c =
     let args = c.args in
     sees_unsound args.key args.index.now args.text.now
-    (sym c.take_stock-stock.ensures.is ∙ c.if-not-stock.true)
+    (sym c.take_stock-stock.ensures.is ∙ not-true _ c.if-not-stock.true)
 
 pub part_of-part-requires : goal.part_of-part-requires
 part_of-part-requires c =
     let args = c.args in
     let stock = c.take_stock-stock in
     let if1 = c.if-not-stock in
-    let e = if1.false in
+    let e = not-false _ if1.false in
     let l = stock.ensures.loads e in
     let i = args.index.now in
     let p = stock.result.front in
@@ -35,12 +36,12 @@ returns-then-part-eq0 c =
     let stock = c.take_stock-stock in
     let if1 = c.if-not-stock in
     let part = c.part_of-part in
-    let e = if1.false in
+    let e = not-false _ if1.false in
     let i = args.index.now in
     let p = stock.result.front in
     let h = sound_holds i args.text.now _ p (stock.ensures.front e) (sym stock.ensures.is ∙ e) in
     sees_none args.key i args.text.now h.all h.is part.result
-    (part.ensures.agree.1 (drop p i) args.text.now _ h.all.held (λ j m. refl)
+    (part.ensures.spots (drop p i) args.text.now _ h.all.held (λ j m. refl)
     ((stock.ensures.loads e).0 args.text.now [] h.all.held h.lines)) c.if-part-eq0.true
 
 pub returns : goal.returns
@@ -49,10 +50,10 @@ returns c =
     let stock = c.take_stock-stock in
     let if1 = c.if-not-stock in
     let part = c.part_of-part in
-    let e = if1.false in
+    let e = not-false _ if1.false in
     let i = args.index.now in
     let p = stock.result.front in
     let h = sound_holds i args.text.now _ p (stock.ensures.front e) (sym stock.ensures.is ∙ e) in
     sees_line args.key i args.text.now h.all h.is part.result
-    (part.ensures.agree.1 (drop p i) args.text.now _ h.all.held (λ j m. refl)
+    (part.ensures.spots (drop p i) args.text.now _ h.all.held (λ j m. refl)
     ((stock.ensures.loads e).0 args.text.now [] h.all.held h.lines)) c.if-part-eq0.false

@@ -63,17 +63,15 @@ returns c =
     let seek = c.seek_before-r in
     let before = c.len_before-len in
     let agree = put_agree args.rows.now args.heads.now args.next.now args.fill.count args.key pre.count_lt_rows_max
-    pre.ready _ put.ensures.rows_after put.ensures.owner_bound in (
-      put_ready args.rows.now args.heads.now args.next.now args.fill.count args.key pre.count_lt_rows_max pre.ready
-          _ put.ensures.rows_after put.ensures.owner_bound,
-      (
-        agree,
-        λ i t b hs ag x.
-            spot_line args.key i t b _ args.heads.now args.next.now args.fill hs x
-            (λ j l. ag j l ∙ agree j l)
-            (put_new args.rows.now args.heads.now args.next.now args.fill.count args.key pre.count_lt_rows_max
-            pre.ready _ put.ensures.rows_after put.ensures.owner_bound)
-            seek.result seek.ensures.sought seek.ensures.upper_bound before.result before.ensures c.if-len-eq0.false
-            c.start_at-start.result c.start_at-start.ensures,
-      ),
-    )
+    pre.ready _ put.ensures.rows_after put.ensures.owner_bound in record {
+      ready_2 = put_ready args.rows.now args.heads.now args.next.now args.fill.count args.key pre.count_lt_rows_max pre.ready
+          _ put.ensures.rows_after put.ensures.owner_bound;
+      agree = agree;
+      spots = λ i t b hs ag x.
+          spot_line args.key i t b _ args.heads.now args.next.now args.fill hs x
+          (λ j l. ag j l ∙ agree j l)
+          (put_new args.rows.now args.heads.now args.next.now args.fill.count args.key pre.count_lt_rows_max
+          pre.ready _ put.ensures.rows_after put.ensures.owner_bound)
+          seek.result seek.ensures.sought seek.ensures.upper_bound before.result before.ensures c.if-len-eq0.false
+          c.start_at-start.result c.start_at-start.ensures;
+    }

@@ -2,6 +2,7 @@
 use mathlib.Core.Path.{refl, sym, ◌∙◌}
 use mathlib.Core.List.{[]}
 use lib.ListN.{drop}
+use borrow.Author.Tests.{not-true, not-false}
 use Rattle.store.proofs.WriteLaws.{empty_long}
 use Rattle.store.proofs.ChainLaws.{chained_none}
 use Rattle.store.proofs.LookLaws.{look_ready}
@@ -16,14 +17,14 @@ pub returns-then-not-stock : goal.returns-then-not-stock
 returns-then-not-stock c =
     let args = c.args in
     near_unsound args.key args.index.now args.text.now
-    (sym c.take_stock-stock.ensures.is ∙ c.if-not-stock.true)
+    (sym c.take_stock-stock.ensures.is ∙ not-true _ c.if-not-stock.true)
 
 pub try_both-requires : goal.try_both-requires
 try_both-requires c =
     let args = c.args in
     let stock = c.take_stock-stock in
     let if1 = c.if-not-stock in
-    let e = if1.false in
+    let e = not-false _ if1.false in
     let l = stock.ensures.loads e in
     let i = args.index.now in
     let p = stock.result.front in
@@ -39,7 +40,7 @@ returns c =
     let stock = c.take_stock-stock in
     let if1 = c.if-not-stock in
     let both = c.try_both in
-    let e = if1.false in
+    let e = not-false _ if1.false in
     let i = args.index.now in
     let p = stock.result.front in
     let h = sound_holds i args.text.now _ p (stock.ensures.front e) (sym stock.ensures.is ∙ e) in

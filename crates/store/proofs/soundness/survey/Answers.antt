@@ -13,8 +13,8 @@ pub loop-head-init : goal.loop-head-init
 loop-head-init c =
     let args = c.args in
     let pre = c.requires in
-    survey_first args.index.now args.text.now _ args.heads.now args.next.now pre.index_len_bound.0 pre.chained.1
-    pre.chained.0
+    survey_first args.index.now args.text.now _ args.heads.now args.next.now pre.index_len_bound.0 pre.long
+    pre.chained
 
 pub slice_bounds-stands-count : goal.slice_bounds-stands-count
 slice_bounds-stands-count c = omega (arith, c.loop-head.invariant.walks.index)
@@ -136,7 +136,7 @@ loop-head-preserved c =
     survey_turn args.index.now args.text.now loop.at loop.rows loop.heads loop.next loop.n loop.used loop.verdict loop.invariant whole-head.result
     (whole-head.ensures ∙ ap head_at (tail_part loop.at args.index.now))
     (whole_size _ (stands.ensures.0 if1.true) _ whole-head.ensures) head-fits.result head-fits.ensures
-    if2.false _ put.ensures.rows_after.0 put.ensures.rows_after.1 _ _ put.ensures.sought.1 put.result put.ensures.sought.0.0
+    if2.false _ put.ensures.rows_after.0 put.ensures.rows_after.1 _ _ put.ensures.chained_2 put.result put.ensures.sought.0
     told.result told.ensures
 
 pub zero_behind-requires : goal.zero_behind-requires

@@ -4,6 +4,7 @@ use mathlib.Core.List.{List}
 use Prim.Native.Nat.{ℕ, ◌-◌}
 use native.Mathlib.Omega.{arith}
 use lib.ListN.{length}
+use borrow.Author.Tests.{not-true, not-false}
 use borrow.Rule.Slice.PartMut.{mid_of}
 use Rattle.text.proofs.LentLaws.{tail_part}
 use Rattle.store.proofs.BodyLaws.{bytes_part}
@@ -49,7 +50,7 @@ survey-seen-requires c =
         part_most i args.text.now _ p read.ensures if1.false (mid_of p (length i - p) i) (tail_part p i),
         if2.false,
       ),
-      pre.chained,
+      (pre.chained, pre.long),
     )
 
 pub returns-then-not-seen : goal.returns-then-not-seen
@@ -66,7 +67,7 @@ returns-then-not-seen c =
     (sym (stock_part i args.text.now _ p read.ensures if1.false q (tail_part p i))
     ∙ sound_walk q args.text.now
     (part_most i args.text.now _ p read.ensures if1.false q (tail_part p i)) if2.false
-    (sym survey.ensures.is ∙ c.if-not-seen.true))
+    (sym survey.ensures.is ∙ not-true _ c.if-not-seen.true))
 
 pub each_once-sound-requires : goal.each_once-sound-requires
 each_once-sound-requires c =
@@ -82,7 +83,7 @@ returns c =
     let read = c.read_shares-front in
     let survey = c.survey-seen in
     let if3 = c.if-not-seen in
-    let whole = if3.false in
+    let whole = not-false _ if3.false in
     let p = read.result in
     let i = args.index.now in
     let t = args.text.now in

@@ -21,4 +21,8 @@ link-requires c =
 
 pub returns : goal.returns
 returns c =
-    ((c.put_row.ensures.rows_after, c.put_row.ensures.owner_bound), ((c.link.ensures.sought, c.link.ensures.chained_2.1), c.link.ensures.chained_2.0))
+    record {
+      rows_after = (c.put_row.ensures.rows_after, c.put_row.ensures.owner_bound);
+      sought = (c.link.ensures.sought, c.link.ensures.upper_bound);
+      chained_2 = c.link.ensures.chained_2;
+    }

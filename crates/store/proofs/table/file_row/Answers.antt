@@ -8,7 +8,7 @@ use Rattle.store.proofs.FileRowLaws.{had_less, dues_less, files_index, files_tex
 use Rattle.store.proofs.table.file_row.Goals as goal
 
 pub len_before-had-requires : goal.len_before-had-requires
-len_before-had-requires c = omega (arith, c.add_row-r.ensures.sought.0.1 (omega arith))
+len_before-had-requires c = omega (arith, c.add_row-r.ensures.sought.1 (omega arith))
 
 pub overflow_sub-used : goal.overflow_sub-used
 overflow_sub-used c =
@@ -20,7 +20,7 @@ overflow_sub-used c =
     args.next.now pre.fileable.2.0
     args.fill args.key args.start args.len pre.fileable.2.1.0 pre.fileable.2.1.1 pre.count_lt_rows_max
     put.ensures.rows_after.1 _ put.ensures.rows_after.0
-    put.result put.ensures.sought.0.0 (put.ensures.sought.0.1 (omega arith)) had.result had.ensures
+    put.result put.ensures.sought.0 (put.ensures.sought.1 (omega arith)) had.result had.ensures
 
 pub overflow_add-used : goal.overflow_add-used
 overflow_add-used c =
@@ -48,7 +48,7 @@ returns-then-index-end c =
     λ g s old hs w.
     files_index g args.dues args.index.now args.text.now s _ args.heads.now args.next.now old
     args.fill args.key args.start args.len hs w pre.count_lt_rows_max put.ensures.rows_after.1 _ put.ensures.rows_after.0
-    put.result put.ensures.sought.0.0 (put.ensures.sought.0.1 (omega arith)) had.result had.ensures
+    put.result put.ensures.sought.0 (put.ensures.sought.1 (omega arith)) had.result had.ensures
     ends.result ends.ensures _ _ c.if-index-end.true c.told_room.result c.told_room.ensures
 
 pub claimed-requires : goal.claimed-requires
@@ -66,7 +66,7 @@ claimed-requires c =
     args.next.now pre.fileable.2.0
     args.fill args.key args.start args.len pre.fileable.2.1.0 pre.fileable.2.1.1 pre.count_lt_rows_max
     put.ensures.rows_after.1 _ put.ensures.rows_after.0
-    put.result put.ensures.sought.0.0 (put.ensures.sought.0.1 (omega arith)) had.result had.ensures in
+    put.result put.ensures.sought.0 (put.ensures.sought.1 (omega arith)) had.result had.ensures in
     let most : args.fill.used - had.result + args.len ≤ 131070
     = omega (
       arith,
@@ -92,13 +92,13 @@ returns-then-text-claimed c =
     λ g s old hs w.
     files_text g args.dues args.index.now args.text.now s _ args.heads.now args.next.now old
     args.fill args.key args.start args.len hs w pre.count_lt_rows_max put.ensures.rows_after.1 _ put.ensures.rows_after.0
-    put.result put.ensures.sought.0.0 (put.ensures.sought.0.1 (omega arith)) had.result had.ensures
+    put.result put.ensures.sought.0 (put.ensures.sought.1 (omega arith)) had.result had.ensures
     ends.result ends.ensures _ _ (omega (arith, c.if-index-end.false)) all.result
     all.ensures
     c.if-text-claimed.true c.told_room-then-text-claimed.result c.told_room-then-text-claimed.ensures
 
 pub strike_before-requires : goal.strike_before-requires
-strike_before-requires c = omega (arith, c.add_row-r.ensures.sought.0.1 (omega arith))
+strike_before-requires c = omega (arith, c.add_row-r.ensures.sought.1 (omega arith))
 
 pub returns : goal.returns
 returns c =
@@ -111,7 +111,7 @@ returns c =
     λ g s old hs w.
     files_fit g args.dues args.index.now args.text.now s _ args.heads.now args.next.now old
     args.fill args.key args.start args.len hs w pre.count_lt_rows_max put.ensures.rows_after.1 _ put.ensures.rows_after.0
-    put.result put.ensures.sought.0.0 (put.ensures.sought.0.1 (omega arith)) had.result had.ensures
+    put.result put.ensures.sought.0 (put.ensures.sought.1 (omega arith)) had.result had.ensures
     ends.result ends.ensures _ _ (omega (arith, c.if-index-end.false)) all.result all.ensures
-    (omega (arith, c.if-text-claimed.false)) put.ensures.sought.1 _ c.strike_before.ensures
+    (omega (arith, c.if-text-claimed.false)) put.ensures.chained_2 _ c.strike_before.ensures
     c.told_room-2.result c.told_room-2.ensures
