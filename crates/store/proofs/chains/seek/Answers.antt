@@ -8,7 +8,7 @@ use Rattle.store.proofs.chains.seek.Goals as goal
 
 pub loop-c-init : goal.loop-c-init
 loop-c-init c =
-    (record { passed = λ j l m e. omega arith; kin = c.requires.1.1; within = c.requires.0.1 }, λ l. l)
+    (record { passed = λ j l m e. omega arith; kin = c.requires.kin; within = c.requires.k_lt_rows_max.1 }, λ l. l)
 
 pub returns-then-left-eq0 : goal.returns-then-left-eq0
 returns-then-left-eq0 c = (
@@ -34,7 +34,7 @@ loop-c-smaller c =
     let same_at = c.same_at in
     let if2 = c.if-same_at in
     (seek_turn (key_in args.rows.now) args.next.now args.k args.from loop.c
-    c.number-c.result pre.1.0 loop.invariant.0 (omega arith) (sym same_at.ensures ∙ if2.false)
+    c.number-c.result pre.linked loop.invariant.0 (omega arith) (sym same_at.ensures ∙ if2.false)
     c.number-c.ensures.0).1
 
 pub loop-c-preserved : goal.loop-c-preserved
@@ -45,13 +45,13 @@ loop-c-preserved c =
     let same_at = c.same_at in
     let if2 = c.if-same_at in
     let on = seek_turn (key_in args.rows.now) args.next.now args.k args.from loop.c
-    c.number-c.result pre.1.0 loop.invariant.0 (omega arith) (sym same_at.ensures ∙ if2.false)
+    c.number-c.result pre.linked loop.invariant.0 (omega arith) (sym same_at.ensures ∙ if2.false)
     c.number-c.ensures.0 in
     (on.0, λ l. let left : loop.c ≤ loop.left = loop.invariant.1 l in omega (arith, on.1))
 
 pub returns : goal.returns
 returns c =
-    let loop = c.loop-c in (
-      record { clear = λ l j a b e. loop.invariant.0.passed j (omega arith) b e; hit = λ p l. absurd (omega arith) },
-      λ l. omega arith,
-    )
+    let loop = c.loop-c in record {
+      seeks = record { clear = λ l j a b e. loop.invariant.0.passed j (omega arith) b e; hit = λ p l. absurd (omega arith) };
+      upper_bound = λ l. omega arith;
+    }

@@ -2,7 +2,7 @@
 use mathlib.Core.Path.{refl, sym, ◌∙◌}
 use mathlib.Core.List.{[]}
 use lib.ListN.{drop}
-use borrow.Author.Tests.{not-false}
+use borrow.Author.Tests.{not-true, not-false}
 use Rattle.store.proofs.WriteLaws.{empty_long}
 use Rattle.store.proofs.ChainLaws.{chained_none}
 use Rattle.store.proofs.LookLaws.{look_ready, sees_unsound, sees_none, sees_line}
@@ -16,7 +16,7 @@ pub returns-then-not-stock : goal.returns-then-not-stock
 returns-then-not-stock c =
     let args = c.args in
     sees_unsound args.key args.index.now args.text.now
-    (sym c.take_stock-stock.ensures.is ∙ c.if-not-stock.true)
+    (sym c.take_stock-stock.ensures.is ∙ not-true _ c.if-not-stock.true)
 
 pub part_of-part-requires : goal.part_of-part-requires
 part_of-part-requires c =
@@ -41,7 +41,7 @@ returns-then-part-eq0 c =
     let p = stock.result.front in
     let h = sound_holds i args.text.now _ p (stock.ensures.front e) (sym stock.ensures.is ∙ e) in
     sees_none args.key i args.text.now h.all h.is part.result
-    (part.ensures.1.1 (drop p i) args.text.now _ h.all.held (λ j m. refl)
+    (part.ensures.spots (drop p i) args.text.now _ h.all.held (λ j m. refl)
     ((stock.ensures.loads e).0 args.text.now [] h.all.held h.lines)) c.if-part-eq0.true
 
 pub returns : goal.returns
@@ -55,5 +55,5 @@ returns c =
     let p = stock.result.front in
     let h = sound_holds i args.text.now _ p (stock.ensures.front e) (sym stock.ensures.is ∙ e) in
     sees_line args.key i args.text.now h.all h.is part.result
-    (part.ensures.1.1 (drop p i) args.text.now _ h.all.held (λ j m. refl)
+    (part.ensures.spots (drop p i) args.text.now _ h.all.held (λ j m. refl)
     ((stock.ensures.loads e).0 args.text.now [] h.all.held h.lines)) c.if-part-eq0.false

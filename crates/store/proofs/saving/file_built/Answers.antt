@@ -1,7 +1,7 @@
 -- 19 where the store is not sound; else `file_line` says whether there was room, in the part behind the shares.
 use mathlib.Core.Path.{refl, sym, ◌∙◌}
 use native.Mathlib.Omega.{arith}
-use borrow.Author.Tests.{not-false}
+use borrow.Author.Tests.{not-true, not-false}
 use Rattle.store.specs.Layout.{Bytes}
 use Rattle.store.proofs.ChainLaws.{chained_none}
 use Rattle.store.proofs.PartLaws.{stock_sound, stock_given, stock_lines, stock_loads, stock_adds, stock_owed}
@@ -16,7 +16,7 @@ pub returns-then-not-stock : goal.returns-then-not-stock
 returns-then-not-stock c =
     let args = c.args in
     file_unsound args.index.now args.text.now (record { key = args.key; line = args.line.now })
-    (sym c.take_stock-stock.ensures.is ∙ c.if-not-stock.true)
+    (sym c.take_stock-stock.ensures.is ∙ not-true _ c.if-not-stock.true)
 
 pub dues_of-dues-requires : goal.dues_of-dues-requires
 dues_of-dues-requires c =
@@ -24,7 +24,7 @@ dues_of-dues-requires c =
     let bytes : Bytes args.index.now = λ k. omega
     (arith, c.slice_known-1.given k) in
     let stock = c.take_stock-stock in
-    let e = c.if-not-stock.false in (
+    let e = not-false _ c.if-not-stock.false in (
       stock_given args.index.now args.text.now _ _ _ _ stock.result stock.ensures bytes e,
       stock_adds args.index.now args.text.now _ _ _ _ stock.result stock.ensures bytes e,
     )
@@ -50,7 +50,7 @@ file_line-room-requires c =
     let args = c.args in
     let bytes : Bytes args.index.now = λ k. omega (arith, c.slice_known-1.given k) in
     let stock = c.take_stock-stock in
-    let e = c.if-not-stock.false in
+    let e = not-false _ c.if-not-stock.false in
     let dues = c.dues_of-dues in (
       stock_lines args.index.now args.text.now _ _ _ _ stock.result stock.ensures bytes e,
       (
@@ -75,7 +75,7 @@ returns c =
     let args = c.args in
     let bytes : Bytes args.index.now = λ k. omega (arith, c.slice_known-1.given k) in
     let stock = c.take_stock-stock in
-    let e = c.if-not-stock.false in
+    let e = not-false _ c.if-not-stock.false in
     let dues = c.dues_of-dues in
     let filed = c.file_line-room in
     file_lent args.index.now args.text.now (record { key = args.key; line = args.line.now }) _

@@ -4,7 +4,7 @@ use mathlib.Core.List.{List}
 use Prim.Native.Nat.{ℕ}
 use native.Mathlib.Omega.{arith}
 use lib.ListN.{get_or}
-use borrow.Author.Tests.{not-false}
+use borrow.Author.Tests.{not-true, not-false}
 use Rattle.store.proofs.ChainLaws.{chained_none}
 use Rattle.store.proofs.ShareCallLaws.{stocked, told_unsound, told_sound}
 use Rattle.store.proofs.WriteLaws.{empty_long}
@@ -17,7 +17,7 @@ pub returns-then-not-stock : goal.returns-then-not-stock
 returns-then-not-stock c =
     let args = c.args in
     told_unsound args.index.now args.text.now args.owner
-    (sym c.take_stock-stock.ensures.is ∙ c.if-not-stock.true)
+    (sym c.take_stock-stock.ensures.is ∙ not-true _ c.if-not-stock.true)
 
 pub add_uses-requires : goal.add_uses-requires
 add_uses-requires c =
@@ -25,8 +25,11 @@ add_uses-requires c =
     let known = c.shared_slice_known-1 in
     let stock = c.take_stock-stock in
     let w = stocked args.index.now args.text.now _ _ _ _ stock.result
-    (λ k. omega (arith, known.given k)) stock.ensures c.if-not-stock.false in
-    (refl, w.addable)
+    (λ k. omega (arith, known.given k)) stock.ensures (not-false _ c.if-not-stock.false) in
+    record {
+      uses_value = refl;
+      addable = w.addable;
+    }
 
 pub returns : goal.returns
 returns c =
