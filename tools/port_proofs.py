@@ -186,7 +186,7 @@ def parts_of(text):
     return [p.strip() for p in parts]
 
 
-def by_name(body, fn, new):
+def by_name(body, fn, new, old):
     """What had a number among several clauses has a name now."""
     paths = {}
     if len(fn.pre) > 1:
@@ -224,7 +224,7 @@ def by_name(body, fn, new):
     for full, fields in sorted(paths.items(), key=lambda it: -len(it[0])):
         closed = full.endswith(".new")
         body = re.sub(r"(?<![\w.'-])" + re.escape(full) + r"((?:\.\d+)+)(?![\w'-])", walk(full, fields, closed), body)
-    fields = fn.asked.get(new)
+    fields = fn.asked.get(new) or fn.asked.get(old)
     if fields and len(fields) > 1 and body.rstrip().endswith(")"):
         end = len(body.rstrip())
         depth = 0
@@ -474,7 +474,7 @@ def convert(path, data, crate, sub, said):
                 continue
             for a, b in fn.renamed.items():
                 body = re.sub(r"(?<![\w'-])(\w[\w-]*)\." + re.escape(a) + r"(?![\w'-])", r"\1." + b, body)
-            body = by_name(body, fn, new)
+            body = by_name(body, fn, new, fn.needs[i][0])
             body = without_not(body, source)
             one = "\n" not in body and len(new) + len(body) < 100
             ans.append((it["comment"], f"pub {new} : goal.{new}\n{lead}{new} {binder} =" + (" " + body if one else "\n    " + body)))

@@ -13,11 +13,12 @@ use Rattle.store.proofs.batch.insert_batch.Goals as goal
 pub survey-seen-requires : goal.survey-seen-requires
 survey-seen-requires c =
     let args = c.args in
-    let pre = c.requires in (
-      both_most args.index.now args.text.now (λ k. omega (arith, c.slice_known-1.given k))
-          pre.text_value,
-      (chained_none _, empty_long),
-    )
+    let pre = c.requires in record {
+      index_len_bound = both_most args.index.now args.text.now (λ k. omega (arith, c.slice_known-1.given k))
+          pre.text_value;
+      chained = chained_none _;
+      long = empty_long;
+    }
 
 pub dues_of-dues-requires : goal.dues_of-dues-requires
 dues_of-dues-requires c =
@@ -25,11 +26,11 @@ dues_of-dues-requires c =
     let pre = c.requires in
     let bytes : Bytes args.index.now = λ k. omega (arith, c.slice_known-1.given k) in
     let survey = c.survey-seen in
-    let whole = survey.ensures.is ∙ walk_of args.index.now args.text.now bytes pre.text_value in (
-      pre.given,
-      loads_addable args.index.now args.text.now _ _ _ survey.result.fill (survey.ensures.loads whole)
-          pre.text_value,
-    )
+    let whole = survey.ensures.is ∙ walk_of args.index.now args.text.now bytes pre.text_value in record {
+      given = pre.given;
+      addable = loads_addable args.index.now args.text.now _ _ _ survey.result.fill (survey.ensures.loads whole)
+          pre.text_value;
+    }
 
 pub take_lines-part-requires : goal.take_lines-part-requires
 take_lines-part-requires c =
@@ -38,13 +39,13 @@ take_lines-part-requires c =
     let bytes : Bytes args.index.now = λ k. omega (arith, c.slice_known-1.given k) in
     let survey = c.survey-seen in
     let whole = survey.ensures.is ∙ walk_of args.index.now args.text.now bytes pre.text_value in
-    let dues = c.dues_of-dues in (
-      pre.from_in_bounds,
-      loads_held dues.result args.shares.now args.index.now args.text.now args.lines.now _ _ _
+    let dues = c.dues_of-dues in record {
+      from_in_bounds = pre.from_in_bounds;
+      some_rows = loads_held dues.result args.shares.now args.index.now args.text.now args.lines.now _ _ _
           survey.result.fill args.owner (survey.ensures.loads whole)
           (loads_owed args.index.now args.text.now _ _ _ survey.result.fill (survey.ensures.loads whole)
-          args.shares.now args.owner dues.result dues.ensures bytes) pre.text_value,
-    )
+          args.shares.now args.owner dues.result dues.ensures bytes) pre.text_value;
+    }
 
 pub settle-requires : goal.settle-requires
 settle-requires c =

@@ -30,9 +30,9 @@ file_row-tried-requires c =
     let wants = wanted_part args.lines.now args.at args.len _ _
     c.wanted.ensures
     c.in-Parsed.is in
-    let w = pre.some_rows in (
-      pre.count_lt_rows_max.0,
-      (
+    let w = pre.some_rows in record {
+      count_lt_rows_max = pre.count_lt_rows_max.0;
+      fileable = (
         w.0,
         args.lines.now,
         (
@@ -45,8 +45,8 @@ file_row-tried-requires c =
                 w.1.1.1.1,
           ),
         ),
-      ),
-    )
+      );
+    }
 
 pub returns-in-IndexFull : goal.returns-in-IndexFull
 returns-in-IndexFull c =

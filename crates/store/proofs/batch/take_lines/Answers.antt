@@ -36,14 +36,14 @@ reach_row-step-requires c =
     args.rows.now
     args.heads.now args.next.now args.owner args.from args.first
     loop.rows
-    loop.heads loop.next loop.fill loop.at loop.count loop.invariant pre.some_rows in (
-      (
+    loop.heads loop.next loop.fill loop.at loop.count loop.invariant pre.some_rows in record {
+      count_lt_rows_max = (
         ltb-true loop.fill.count rows_max if1.true,
         omega
             (arith, tail_length loop.at args.lines.now, cut.ensures.0),
-      ),
-      now,
-    )
+      );
+      some_rows = now;
+    }
 
 pub returns-then-not-step : goal.returns-then-not-step
 returns-then-not-step c =

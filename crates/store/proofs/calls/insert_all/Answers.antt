@@ -18,11 +18,12 @@ pub insert_batch-some-requires : goal.insert_batch-some-requires
 insert_batch-some-requires c =
     let args = c.args in
     let pre = c.requires in
-    let loop = c.loop-at in (
-      still_sound args.shares.now args.owner args.part.now args.text.now args.lines.now
-          loop.part loop.text loop.at loop.count loop.invariant,
-      (pre.given, loop.invariant.within),
-    )
+    let loop = c.loop-at in record {
+      text_value = still_sound args.shares.now args.owner args.part.now args.text.now args.lines.now
+          loop.part loop.text loop.at loop.count loop.invariant;
+      given = pre.given;
+      from_in_bounds = loop.invariant.within;
+    }
 
 pub shape_of-part-then-not-some : goal.shape_of-part-then-not-some
 shape_of-part-then-not-some c =

@@ -22,7 +22,11 @@ first_step-from-requires c =
     number.ensures.0 pre.k_lt_rows_max in
     let linked = chained_turn (key_in args.rows.now) args.heads.now args.next.now args.k
     bucket-of.result head pre.chained bucket-is bucket-of.ensures.1 refl pre.k_lt_rows_max (args.k + 1) refl in
-    ((pre.k_lt_rows_max, last.within), (linked.links, last.kin))
+    record {
+      k_lt_rows_max = (pre.k_lt_rows_max, last.within);
+      linked = linked.links;
+      kin = last.kin;
+    }
 
 pub seek-r-requires : goal.seek-r-requires
 seek-r-requires c =
@@ -38,10 +42,11 @@ seek-r-requires c =
     number.ensures.0 pre.k_lt_rows_max in
     let linked = chained_turn (key_in args.rows.now) args.heads.now args.next.now args.k
     bucket-of.result head pre.chained bucket-is bucket-of.ensures.1 refl pre.k_lt_rows_max (args.k + 1) refl in
-    let first = c.first_step-from in (
-      (pre.k_lt_rows_max, omega (arith, first.ensures.not_in.1, last.within)),
-      (λ a l. linked.links a (omega (arith, l)), first.ensures.kin_2),
-    )
+    let first = c.first_step-from in record {
+      k_lt_rows_max = (pre.k_lt_rows_max, omega (arith, first.ensures.not_in.1, last.within));
+      linked = λ a l. linked.links a (omega (arith, l));
+      kin = first.ensures.kin_2;
+    }
 
 pub returns : goal.returns
 returns c =

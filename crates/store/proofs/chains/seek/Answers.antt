@@ -11,20 +11,21 @@ loop-c-init c =
     (record { passed = λ j l m e. omega arith; kin = c.requires.kin; within = c.requires.k_lt_rows_max.1 }, λ l. l)
 
 pub returns-then-left-eq0 : goal.returns-then-left-eq0
-returns-then-left-eq0 c = (
-  record { clear = λ l. absurd (omega arith); hit = λ p l. absurd (omega arith) },
-  λ l. let loop = c.loop-c in let left : loop.c ≤ loop.left = loop.invariant.1 l in omega arith,
-)
+returns-then-left-eq0 c =
+    record {
+      seeks = record { clear = λ l. absurd (omega arith); hit = λ p l. absurd (omega arith) };
+      upper_bound = λ l. let loop = c.loop-c in let left : loop.c ≤ loop.left = loop.invariant.1 l in omega arith;
+    }
 
 pub returns-then-same_at : goal.returns-then-same_at
 returns-then-same_at c =
-    let loop = c.loop-c in (
-      record {
+    let loop = c.loop-c in record {
+      seeks = record {
         clear = λ l. loop.invariant.0.passed;
         hit = λ p l. same_eq _ _ (sym c.same_at.ensures ∙ c.if-same_at.true);
-      },
-      λ l. loop.invariant.0.within,
-    )
+      };
+      upper_bound = λ l. loop.invariant.0.within;
+    }
 
 pub loop-c-smaller : goal.loop-c-smaller
 loop-c-smaller c =

@@ -16,7 +16,11 @@ seek-r-requires c =
     let number = c.number in
     let last = chain_from (key_in args.rows.now) args.next.now args.n loop.k number.result pre.linked (omega arith)
     number.ensures.0 in
-    ((omega arith, last.within), (λ a l. pre.linked a (omega arith), last.kin))
+    record {
+      k_lt_rows_max = (omega arith, last.within);
+      linked = λ a l. pre.linked a (omega arith);
+      kin = last.kin;
+    }
 
 pub returns-then-r-gt0 : goal.returns-then-r-gt0
 returns-then-r-gt0 c =

@@ -7,11 +7,11 @@ use Rattle.store.proofs.filing.file_line.Goals as goal
 pub file_row-tried-requires : goal.file_row-tried-requires
 file_row-tried-requires c =
     let args = c.args in
-    let pre = c.requires in (
-      pre.loads.1,
-      one_files args.dues args.index.now args.text.now args.line.now _ _ _ args.fill
-          pre.loads.0 args.key pre.in_bounds.0 pre.in_bounds.1 pre.text_value pre.some_dues,
-    )
+    let pre = c.requires in record {
+      count_lt_rows_max = pre.loads.1;
+      fileable = one_files args.dues args.index.now args.text.now args.line.now _ _ _ args.fill
+          pre.loads.0 args.key pre.in_bounds.0 pre.in_bounds.1 pre.text_value pre.some_dues;
+    }
 
 pub settle-requires : goal.settle-requires
 settle-requires c =

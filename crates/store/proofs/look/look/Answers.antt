@@ -10,7 +10,12 @@ use Rattle.store.proofs.SurveyLaws.{sound_holds}
 use Rattle.store.proofs.look.look.Goals as goal
 
 pub take_stock-stock-requires : goal.take_stock-stock-requires
-take_stock-stock-requires c = (refl, (chained_none _, empty_long))
+take_stock-stock-requires c =
+    record {
+      shares_value = refl;
+      chained = chained_none _;
+      long = empty_long;
+    }
 
 pub returns-then-not-stock : goal.returns-then-not-stock
 returns-then-not-stock c =
@@ -28,7 +33,10 @@ part_of-part-requires c =
     let i = args.index.now in
     let p = stock.result.front in
     let h = sound_holds i args.text.now _ p (stock.ensures.front e) (sym stock.ensures.is ∙ e) in
-    (l.1, look_ready (drop p i) args.text.now h.all.held h.lines _ _ _ stock.result.fill l.0)
+    record {
+      count_lt_rows_max = l.1;
+      ready = look_ready (drop p i) args.text.now h.all.held h.lines _ _ _ stock.result.fill l.0;
+    }
 
 pub returns-then-part-eq0 : goal.returns-then-part-eq0
 returns-then-part-eq0 c =

@@ -8,11 +8,11 @@ pub seek_before-r-requires : goal.seek_before-r-requires
 seek_before-r-requires c =
     let args = c.args in
     let pre = c.requires in
-    let pre = pre in (
-      pre.count_lt_rows_max,
-      (put_ready args.rows.now args.heads.now args.next.now args.fill.count args.key pre.count_lt_rows_max pre.ready
-          _ c.put_row.ensures.rows_after c.put_row.ensures.owner_bound).chained,
-    )
+    let pre = pre in record {
+      k_lt_rows_max = pre.count_lt_rows_max;
+      chained = (put_ready args.rows.now args.heads.now args.next.now args.fill.count args.key pre.count_lt_rows_max pre.ready
+          _ c.put_row.ensures.rows_after c.put_row.ensures.owner_bound).chained;
+    }
 
 pub returns-then-len-eq0 : goal.returns-then-len-eq0
 returns-then-len-eq0 c =
@@ -22,19 +22,17 @@ returns-then-len-eq0 c =
     let seek = c.seek_before-r in
     let before = c.len_before-len in
     let agree = put_agree args.rows.now args.heads.now args.next.now args.fill.count args.key pre.count_lt_rows_max
-    pre.ready _ put.ensures.rows_after put.ensures.owner_bound in (
-      put_ready args.rows.now args.heads.now args.next.now args.fill.count args.key pre.count_lt_rows_max pre.ready
-          _ put.ensures.rows_after put.ensures.owner_bound,
-      (
-        agree,
-        λ i t b hs ag x.
-            spot_none args.key i t b _ args.heads.now args.next.now args.fill hs x
-            (λ j l. ag j l ∙ agree j l)
-            (put_new args.rows.now args.heads.now args.next.now args.fill.count args.key pre.count_lt_rows_max
-            pre.ready _ put.ensures.rows_after put.ensures.owner_bound)
-            seek.result seek.ensures.sought seek.ensures.upper_bound before.result before.ensures c.if-len-eq0.true,
-      ),
-    )
+    pre.ready _ put.ensures.rows_after put.ensures.owner_bound in record {
+      ready_2 = put_ready args.rows.now args.heads.now args.next.now args.fill.count args.key pre.count_lt_rows_max pre.ready
+          _ put.ensures.rows_after put.ensures.owner_bound;
+      agree = agree;
+      spots = λ i t b hs ag x.
+          spot_none args.key i t b _ args.heads.now args.next.now args.fill hs x
+          (λ j l. ag j l ∙ agree j l)
+          (put_new args.rows.now args.heads.now args.next.now args.fill.count args.key pre.count_lt_rows_max
+          pre.ready _ put.ensures.rows_after put.ensures.owner_bound)
+          seek.result seek.ensures.sought seek.ensures.upper_bound before.result before.ensures c.if-len-eq0.true;
+    }
 
 pub overflow_sub-r : goal.overflow_sub-r
 overflow_sub-r c =

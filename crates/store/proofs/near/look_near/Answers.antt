@@ -11,7 +11,12 @@ use Rattle.store.proofs.SurveyLaws.{sound_holds}
 use Rattle.store.proofs.near.look_near.Goals as goal
 
 pub take_stock-stock-requires : goal.take_stock-stock-requires
-take_stock-stock-requires c = (refl, (chained_none _, empty_long))
+take_stock-stock-requires c =
+    record {
+      shares_value = refl;
+      chained = chained_none _;
+      long = empty_long;
+    }
 
 pub returns-then-not-stock : goal.returns-then-not-stock
 returns-then-not-stock c =

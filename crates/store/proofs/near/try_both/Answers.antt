@@ -20,7 +20,10 @@ pub part_of-second-requires : goal.part_of-second-requires
 part_of-second-requires c =
     let pre = c.requires in
     let part_of = c.part_of-whole in
-    (pre.count_lt_rows_max, part_of.ensures.ready_2)
+    record {
+      count_lt_rows_max = pre.count_lt_rows_max;
+      ready = part_of.ensures.ready_2;
+    }
 
 pub returns-then-second-gt0 : goal.returns-then-second-gt0
 returns-then-second-gt0 c =

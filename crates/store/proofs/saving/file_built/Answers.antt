@@ -10,7 +10,12 @@ use Rattle.store.proofs.WriteLaws.{empty_long}
 use Rattle.store.proofs.saving.file_built.Goals as goal
 
 pub take_stock-stock-requires : goal.take_stock-stock-requires
-take_stock-stock-requires c = (refl, (chained_none _, empty_long))
+take_stock-stock-requires c =
+    record {
+      shares_value = refl;
+      chained = chained_none _;
+      long = empty_long;
+    }
 
 pub returns-then-not-stock : goal.returns-then-not-stock
 returns-then-not-stock c =
@@ -24,10 +29,10 @@ dues_of-dues-requires c =
     let bytes : Bytes args.index.now = λ k. omega
     (arith, c.slice_known-1.given k) in
     let stock = c.take_stock-stock in
-    let e = not-false _ c.if-not-stock.false in (
-      stock_given args.index.now args.text.now _ _ _ _ stock.result stock.ensures bytes e,
-      stock_adds args.index.now args.text.now _ _ _ _ stock.result stock.ensures bytes e,
-    )
+    let e = not-false _ c.if-not-stock.false in record {
+      given = stock_given args.index.now args.text.now _ _ _ _ stock.result stock.ensures bytes e;
+      addable = stock_adds args.index.now args.text.now _ _ _ _ stock.result stock.ensures bytes e;
+    }
 
 pub slice_bounds-file_line-count : goal.slice_bounds-file_line-count
 slice_bounds-file_line-count c =
@@ -51,24 +56,20 @@ file_line-room-requires c =
     let bytes : Bytes args.index.now = λ k. omega (arith, c.slice_known-1.given k) in
     let stock = c.take_stock-stock in
     let e = not-false _ c.if-not-stock.false in
-    let dues = c.dues_of-dues in (
-      stock_lines args.index.now args.text.now _ _ _ _ stock.result stock.ensures bytes e,
-      (
-        c.requires,
-        (
-          (
-            stock_loads args.index.now args.text.now _ _ _ _ stock.result
-                stock.ensures bytes e,
-            (stock.ensures.loads e).1,
-          ),
-          (
-            _,
-            stock_owed args.index.now args.text.now _ _ _ _ stock.result stock.ensures bytes e
-                args.key.owner dues.result dues.ensures,
-          ),
-        ),
-      ),
-    )
+    let dues = c.dues_of-dues in record {
+      text_value = stock_lines args.index.now args.text.now _ _ _ _ stock.result stock.ensures bytes e;
+      in_bounds = c.requires;
+      loads = (
+        stock_loads args.index.now args.text.now _ _ _ _ stock.result
+            stock.ensures bytes e,
+        (stock.ensures.loads e).1,
+      );
+      some_dues = (
+        _,
+        stock_owed args.index.now args.text.now _ _ _ _ stock.result stock.ensures bytes e
+            args.key.owner dues.result dues.ensures,
+      );
+    }
 
 pub returns : goal.returns
 returns c =

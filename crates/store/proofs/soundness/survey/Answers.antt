@@ -66,7 +66,10 @@ pub add_row-r-requires : goal.add_row-r-requires
 add_row-r-requires c =
     let args = c.args in
     let loop = c.loop-head in
-    (survey_less args.index.now args.text.now loop.at loop.rows loop.heads loop.next loop.n loop.used loop.verdict loop.invariant, loop.invariant.loading.chained)
+    record {
+      n_lt_rows_max = survey_less args.index.now args.text.now loop.at loop.rows loop.heads loop.next loop.n loop.used loop.verdict loop.invariant;
+      chained = loop.invariant.loading.chained;
+    }
 
 pub overflow_add-at : goal.overflow_add-at
 overflow_add-at c =

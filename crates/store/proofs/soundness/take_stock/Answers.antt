@@ -45,13 +45,14 @@ survey-seen-requires c =
     let if2 = c.if-text-gt-TEXT_MAX in
     let read = c.read_shares-front in
     let p = read.result in
-    let i = args.index.now in (
-      (
+    let i = args.index.now in record {
+      index_len_bound = (
         part_most i args.text.now _ p read.ensures if1.false (mid_of p (length i - p) i) (tail_part p i),
         if2.false,
-      ),
-      (pre.chained, pre.long),
-    )
+      );
+      chained = pre.chained;
+      long = pre.long;
+    }
 
 pub returns-then-not-seen : goal.returns-then-not-seen
 returns-then-not-seen c =
@@ -72,7 +73,11 @@ returns-then-not-seen c =
 pub each_once-sound-requires : goal.each_once-sound-requires
 each_once-sound-requires c =
     let survey = c.survey-seen in
-    (omega (arith, survey.ensures.most), (survey.ensures.chained.links, survey.ensures.says))
+    record {
+      n_le_rows_max = omega (arith, survey.ensures.most);
+      linked = survey.ensures.chained.links;
+      says = survey.ensures.says;
+    }
 
 pub returns : goal.returns
 returns c =
