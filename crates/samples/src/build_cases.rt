@@ -9,6 +9,7 @@ use line::reading::parse_sdl_mapping;
 use map::error::MappingAnswer;
 use map::from_data::{Built, from_data};
 use map::mapping_data::MappingData;
+use std::io;
 use text::uuid::{Uuid, UuidParse};
 
 // The output is the end of so many dots.
@@ -161,7 +162,7 @@ fn build_lists(
 
 // `build ANSWER UUID SLOTS BUTTONS AXES ROOM NAME`: the line, or `#` and its length where that is over 400, and the
 // map.
-pub fn build_case(args: &[u8]) -> bool {
+pub fn build_case(rt: &impl Print, args: &[u8]) -> io::Result<bool> {
     let more = rest(args);
     let lists = rest(rest(more));
     let output = rest(rest(lists));
@@ -171,5 +172,5 @@ pub fn build_case(args: &[u8]) -> bool {
     let name = name_of(rest(output));
     let room = number(word(output));
     let answer = build_lists(data, buttons, axes, name, uuid_of(word(more)), room);
-    answer.is_text(spelled(word(args)))
+    answer.is_text(rt, spelled(word(args)))
 }
