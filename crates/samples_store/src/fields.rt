@@ -1,6 +1,5 @@
 // The fields of a case: words with one space between, bytes in hexadecimal, numbers in base ten.
-ghost use Rattle.std.specs.Prelude.{◌<◌, length};
-ghost use Rattle.io.specs.Counts.{IsPrefixLen};
+ghost use Rattle.std.specs.Prelude.{◌<◌, ◌≤◌, length};
 
 use text::bytes::{find_byte, same_bytes};
 use text::decimal::{IndexParse, parse_u16};
@@ -74,7 +73,7 @@ pub fn after_part(s: &[u8], at: usize, b: u8) -> usize
 
 // Puts the bytes that `s` spells into `out`, and returns how many there are.
 pub fn unhex(s: &[u8], out: &mut [u8]) -> usize
-    ensures { IsPrefixLen result out.new }
+    ensures { result ≤ length out.new }
 {
     let mut n: usize = 0;
     while n < out.len() {
