@@ -22,8 +22,7 @@ pub returns-in-AxisValueChanged : goal.returns-in-AxisValueChanged
 unfolding raw_value
 returns-in-AxisValueChanged c =
     let a = c.args in
-    let g = c.raw-1.given in
     c.axis_value.ensures
     ∙ ap (λ (z : ℤ). axis_value a.e a.r.output a.r.inverted (part_of z a.r.input))
-    (to_z-of_z w16 g.0.0 (record { sfits = c.known_told-1.given.0.1 }))
-    ∙ simp g.1
+    (to_z-of_z w16 c.in-AxisValueChanged.v (record { sfits = c.known_told-1.given.0.1 }))
+    ∙ simp c.in-AxisValueChanged.is
