@@ -68,8 +68,7 @@ impl Figures {
 
     fn entry_sums(self, map: Mapping) -> Figures {
         let mut next = self;
-        let mut i: usize = 0;
-        while i < 256 {
+        for i in 0..256 {
             if map.count <= i {
                 return next;
             }
@@ -77,7 +76,6 @@ impl Figures {
             let element = e.element;
             next.codes = wrapping_add_u64(next.codes, e.code.0 as u64);
             next.elements = wrapping_add_u64(next.elements, element_number(element));
-            i += 1;
         }
         next
     }
