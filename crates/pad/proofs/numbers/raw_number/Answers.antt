@@ -1,4 +1,5 @@
 -- By what is reported. Assumes nothing.
+use borrow.Author.Rules.{rules}
 use mathlib.Core.Path.{sym, ap, subst, ◌∙◌}
 use native.Mathlib.Omega.{arith}
 use Prim.Native.Nat.{ℕ, ◌+◌}
@@ -27,7 +28,7 @@ returns-in-ButtonPressed c =
 
 pub returns-in-AxisValueChanged : goal.returns-in-AxisValueChanged
 returns-in-AxisValueChanged c =
-    let f : SFits w16 c.in-AxisValueChanged.v = record { sfits = c.known_told-1.given.0.1 } in
+    let f : SFits w16 c.in-AxisValueChanged.v = search rules in
     let e = c.biased.ensures.0 ∙ ap (λ (z : ℤ). shifted z) (to_z-of_z w16 c.in-AxisValueChanged.v f)
     ∙ ap nat_abs (sym (sum_is c.in-AxisValueChanged.v f)) in (
       ap (λ (k : ℕ). k + 2) e ∙ ap (λ (r : Raw). raw_number r) (sym c.in-AxisValueChanged.is),

@@ -1,4 +1,5 @@
 -- By whether there is a value. Assumes nothing.
+use borrow.Author.Rules.{rules}
 use mathlib.Core.Path.{sym, ap, ◌∙◌}
 use lib.IntN.{ℤ}
 use mir.Syntax.{w16}
@@ -10,6 +11,6 @@ use Rattle.pad.proofs.numbers.value_number.Goals as goal
 
 pub returns-in-Is : goal.returns-in-Is
 returns-in-Is c =
-    let f : SFits w16 c.in-Is.x = record { sfits = c.known_told-1.given.0.1 } in
+    let f : SFits w16 c.in-Is.x = search rules in
     c.biased.ensures.0 ∙ ap (λ (z : ℤ). shifted z) (to_z-of_z w16 c.in-Is.x f)
     ∙ ap (λ (x : ElementValue). value_number x) (sym c.in-Is.is)

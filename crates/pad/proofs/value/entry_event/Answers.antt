@@ -1,4 +1,5 @@
 -- By whether there is a value. Assumes nothing.
+use borrow.Author.Rules.{rules}
 use mathlib.Core.Path.{sym, ap, ◌∙◌}
 use lib.IntN.{ℤ}
 use mir.Syntax.{w16}
@@ -12,7 +13,7 @@ pub returns-in-Is : goal.returns-in-Is
 returns-in-Is c =
     let el = c.args.e.element in
     ap (λ (z : ℤ). Em.Is (record { element = el; value = z }))
-    (to_z-of_z w16 c.in-Is.value (record { sfits = c.known_told-1.given.0.1 }))
+    (to_z-of_z w16 c.in-Is.value (search rules))
     ∙ ap (λ (w : ElementValue). emitted_of el w) (sym c.in-Is.is ∙ c.entry_value.ensures)
 
 pub returns-in-Nothing : goal.returns-in-Nothing

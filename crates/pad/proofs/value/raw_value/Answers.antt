@@ -1,4 +1,5 @@
 -- By what is reported. Assumes nothing.
+use borrow.Author.Rules.{rules}
 use mathlib.Core.Path.{ap, ◌∙◌}
 use lib.IntN.{ℤ}
 use mir.Syntax.{w16}
@@ -24,5 +25,5 @@ returns-in-AxisValueChanged c =
     let a = c.args in
     c.axis_value.ensures
     ∙ ap (λ (z : ℤ). axis_value a.e a.r.output a.r.inverted (part_of z a.r.input))
-    (to_z-of_z w16 c.in-AxisValueChanged.v (record { sfits = c.known_told-1.given.0.1 }))
+    (to_z-of_z w16 c.in-AxisValueChanged.v (search rules))
     ∙ simp c.in-AxisValueChanged.is

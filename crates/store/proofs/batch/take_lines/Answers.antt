@@ -4,7 +4,7 @@ use Prim.Native.Nat.{◌-◌, ◌≤◌}
 use native.Mathlib.Nat.{eq-or-lt_of_le}
 use native.Mathlib.Omega.{arith}
 use lib.ListN.{length, take, drop}
-use borrow.Author.Tests.{ltb-true, ltb-false}
+use borrow.Author.Tests.{not-true, not-false, ltb-true, ltb-false}
 use Rattle.text.specs.Bytes.{first_of}
 use Rattle.text.proofs.ListLaws.{part_to_end}
 use Rattle.text.proofs.LentLaws.{tail_length}
@@ -20,7 +20,7 @@ loop-at-init c =
     let pre = c.requires in
     take-first args.dues args.index.now args.text.now args.lines.now
     args.rows.now
-    args.heads.now args.next.now args.owner args.from args.first pre.0
+    args.heads.now args.next.now args.owner args.from args.first pre.from_in_bounds
 
 pub line_length-len-requires : goal.line_length-len-requires
 line_length-len-requires c = c.find_far-end.ensures
@@ -36,14 +36,14 @@ reach_row-step-requires c =
     args.rows.now
     args.heads.now args.next.now args.owner args.from args.first
     loop.rows
-    loop.heads loop.next loop.fill loop.at loop.count loop.invariant pre.1 in (
-      (
+    loop.heads loop.next loop.fill loop.at loop.count loop.invariant pre.some_rows in record {
+      count_lt_rows_max = (
         ltb-true loop.fill.count rows_max if1.true,
         omega
             (arith, tail_length loop.at args.lines.now, cut.ensures.0),
-      ),
-      now,
-    )
+      );
+      some_rows = now;
+    }
 
 pub returns-then-not-step : goal.returns-then-not-step
 returns-then-not-step c =
@@ -63,7 +63,7 @@ returns-then-not-step c =
     (line_part args.lines.now loop.at line_length_lem.result
     line_length_lem.ensures.1)
     reach-row.result _ _ _
-    reach-row.ensures c.if-not-step.true
+    reach-row.ensures (not-true _ c.if-not-step.true)
     c.report.result c.report.ensures
 
 pub loop-at-smaller : goal.loop-at-smaller
@@ -106,7 +106,7 @@ loop-at-preserved c =
     (found.ensures ∙ ap (first_of lf) (part_to_end args.lines.now loop.at)) _
     (line_part args.lines.now loop.at line_length_lem.result line_length_lem.ensures.1)
     reach-row.result _ _ _ reach-row.ensures (omega (arith, good.1.1.1.1.1.1.1.0))
-    c.if-not-step.false (omega (arith, loop-test.true, within))
+    (not-false _ c.if-not-step.false) (omega (arith, loop-test.true, within))
 
 pub returns : goal.returns
 returns c =

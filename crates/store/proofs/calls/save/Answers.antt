@@ -73,6 +73,6 @@ returns c =
     let if1 = c.if-unsaved_name in
     let filed = c.file_built-filed in
     let m = made a.party _ own args _ built.result _ (omega arith) built.ensures accepted.given.1 in
-    ap (λ (x : Saved). record { answer = x; index = filed.new.0; text = filed.new.1.0 }) c.saved_as.ensures
+    ap (λ (x : Saved). record { answer = x; index = filed.new.index; text = filed.new.text }) c.saved_as.ensures
     ∙ save_filed a.party _ own args _ built.result _ (omega arith) built.ensures m a.index.now
     a.text.now (sym named.ensures ∙ if1.false) _ filed.ensures

@@ -32,12 +32,12 @@ insert_all-requires c =
     let args = c.args in
     let front = c.read_shares-front in
     let sound = sym c.sound.ensures ∙ not-false _
-    c.if-not-sound.false in (
-      part_lines args.index.now args.text.now _ front.result front.ensures
-          (λ k. omega (arith, c.slice_known-1.given k)) sound,
-      (whole args.index.now args.text.now _ front.result front.ensures
-          (λ k. omega (arith, c.slice_known-1.given k)) sound).given,
-    )
+    c.if-not-sound.false in record {
+      text_value = part_lines args.index.now args.text.now _ front.result front.ensures
+          (λ k. omega (arith, c.slice_known-1.given k)) sound;
+      given = (whole args.index.now args.text.now _ front.result front.ensures
+          (λ k. omega (arith, c.slice_known-1.given k)) sound).given;
+    }
 
 pub returns : goal.returns
 returns c =
