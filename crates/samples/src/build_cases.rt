@@ -18,10 +18,8 @@ const DOTS: usize = 16384;
 // A name of so many times one byte.
 fn repeated(n: usize, b: u8) -> Text {
     let mut out = Text::new();
-    let mut i: usize = 0;
-    while i < n {
+    for _ in 0..n {
         out = out.byte(b);
-        i += 1;
     }
     out
 }
@@ -59,12 +57,10 @@ fn uuid_of(s: &[u8]) -> Uuid {
 
 // Whether all bytes from `from` on are dots.
 fn all_dots(s: &[u8], from: usize) -> bool {
-    let mut i = from;
-    while i < s.len() {
+    for i in from..s.len() {
         if s[i] != b'.' {
             return false;
         }
-        i += 1;
     }
     true
 }

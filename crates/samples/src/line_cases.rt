@@ -120,14 +120,12 @@ fn walk(line: &[u8], calls: usize) -> Text {
     let mut out = Text::new();
     let mut pos: usize = 0;
     let mut state = start_state(line);
-    let mut left = calls;
-    while 0 < left {
+    for _ in 0..calls {
         let next = token_at(line, pos, state);
         let answer = next.answer;
         out = answered(out, answer).byte(b'/');
         pos = next.pos;
         state = next.state;
-        left -= 1;
     }
     out
 }
@@ -135,12 +133,10 @@ fn walk(line: &[u8], calls: usize) -> Text {
 // The slashes in a word.
 fn slashes(s: &[u8]) -> usize {
     let mut n: usize = 0;
-    let mut i = 0;
-    while i < s.len() {
-        if s[i] == b'/' {
+    for b in s {
+        if *b == b'/' {
             n = std::num::wrapping_add_usize(n, 1);
         }
-        i += 1;
     }
     n
 }
@@ -176,8 +172,7 @@ pub fn count_case(rt: &impl Print, args: &[u8]) -> io::Result<bool> {
 
 fn entries(out: Text, map: Mapping) -> Text {
     let mut said = out;
-    let mut i: usize = 0;
-    while i < 256 {
+    for i in 0..256 {
         if map.count <= i {
             return said;
         }
@@ -186,7 +181,6 @@ fn entries(out: Text, map: Mapping) -> Text {
         let ranges = e.ranges;
         let entry = said.hex(e.code.0 as u64).byte(b'=').element(element);
         said = ranged(entry, ranges).byte(b',');
-        i += 1;
     }
     said
 }

@@ -9,10 +9,8 @@ use std::io;
 // The line `START,a:b0,a:b1,..END` with so many pairs.
 fn line_of(start: &[u8], pairs: usize, end: &[u8]) -> Text {
     let mut out = spelled(start);
-    let mut i: usize = 0;
-    while i < pairs {
+    for i in 0..pairs {
         out = out.text(b",a:b").number(i);
-        i += 1;
     }
     out.text(end)
 }

@@ -43,10 +43,8 @@ impl Text {
 
     pub fn text(self, s: &[u8]) -> Text {
         let mut out = self;
-        let mut i = 0;
-        while i < s.len() {
-            out = out.byte(s[i]);
-            i += 1;
+        for b in s {
+            out = out.byte(*b);
         }
         out
     }
