@@ -124,14 +124,12 @@ fn held(count: usize) -> usize
 fn put_entries(out: &mut [u8], at: usize, map: Mapping) -> usize {
     let n = held(map.count);
     let mut next = at;
-    let mut i: usize = 0;
-    while i < n {
+    for i in 0..n {
         let e = map.entries[i];
         let code = e.code;
         let element = e.element;
         let ranges = e.ranges;
         next = put_entry(out, next, code.0, element, ranges);
-        i += 1;
     }
     next
 }

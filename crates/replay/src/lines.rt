@@ -84,15 +84,13 @@ fn put_steps(out: &mut [u8], line: &[u8], steps: usize) -> usize {
     let mut at: usize = 0;
     let mut pos: usize = 0;
     let mut state = start_state(line);
-    let mut i: usize = 0;
-    while i < steps {
+    for _ in 0..steps {
         let next = step(line, pos, state);
         let answer = next.answer;
         let end = put_answer(out, at, answer);
         at = put(out, end, b"/");
         pos = next.pos;
         state = next.state;
-        i += 1;
     }
     at
 }
@@ -100,12 +98,10 @@ fn put_steps(out: &mut [u8], line: &[u8], steps: usize) -> usize {
 // The slashes in a word.
 fn slashes(s: &[u8]) -> usize {
     let mut n: usize = 0;
-    let mut i: usize = 0;
-    while i < s.len() {
-        if s[i] == b'/' {
+    for b in s {
+        if *b == b'/' {
             n = std::num::wrapping_add_usize(n, 1);
         }
-        i += 1;
     }
     n
 }

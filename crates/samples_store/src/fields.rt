@@ -75,15 +75,13 @@ pub fn after_part(s: &[u8], at: usize, b: u8) -> usize
 pub fn unhex(s: &[u8], out: &mut [u8]) -> usize
     ensures { result ≤ length out.new }
 {
-    let mut n: usize = 0;
-    while n < out.len() {
+    for n in 0..out.len() {
         if s.len() / 2 <= n {
             return n;
         }
         out[n] = byte_at(s, n);
-        n += 1;
     }
-    n
+    out.len()
 }
 
 // The number in a word, or 65535 where it is none.

@@ -126,10 +126,8 @@ fn counted(rt: &impl Print, run: Run, right: bool, line: &[u8]) -> io::Result<Ru
 }
 
 fn zero(s: &mut [u8]) {
-    let mut i = 0;
-    while i < s.len() {
-        s[i] = 0;
-        i += 1;
+    for b in s.iter_mut() {
+        *b = 0;
     }
 }
 
