@@ -21,7 +21,7 @@ settle-requires c =
       extends = loads_extend args.index.now args.text.now _ _ _ args.fill pre.loads.0;
       settles = one_settles args.dues args.index.now args.text.now args.line.now _ _ _ args.fill
           pre.loads.0 args.key pre.in_bounds.0 pre.in_bounds.1 _ _ _ filed.result filed.ensures
-          c.enum_told-1.given.1
+          c.in-Fits.is
           pre.text_value pre.some_dues;
     }
 
@@ -33,7 +33,7 @@ returns-in-Fits c =
     let settled = c.settle in
     one_filed args.dues args.index.now args.text.now args.line.now _ _ _ args.fill
     pre.loads.0 args.key pre.in_bounds.0 pre.in_bounds.1 _ _ _ filed.result filed.ensures
-    c.enum_told-1.given.1 _ _
+    c.in-Fits.is _ _
     settled.ensures
 
 pub returns-in-IndexFull : goal.returns-in-IndexFull

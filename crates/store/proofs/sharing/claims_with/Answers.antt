@@ -21,5 +21,5 @@ pub returns : goal.returns
 returns c =
     let args = c.args in
     λ hs u. c.claims_of.ensures.sums hs
-    (adds_uses args.rows.now args.count c.add_uses.new.1.1.0 hs
+    (adds_uses args.rows.now args.count c.add_uses.new.uses hs
     c.add_uses.ensures u)
