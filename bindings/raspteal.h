@@ -1,6 +1,6 @@
 /* Raspteal for C: mapping lines, maps and the line store of the hub.
  *
- * Link with target/staticlib/libexports.a, which `rt staticlib exports` writes (x86-64 Linux). Each function is
+ * Link with target/staticlib/libexports.a, which `bindings/library` writes (x86-64 Linux). Each function is
  * proved: it takes every input, ends, and answers what its definition says; no call keeps memory, and there is no
  * state but the buffers that you lend.
  *
