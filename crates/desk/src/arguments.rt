@@ -1,6 +1,7 @@
 // Arguments of the command line that several commands take.
 use crate::fields::before;
 use crate::files::arg_space;
+use crate::system::{argument, argument_count};
 use text::bytes::same_bytes;
 
 // Whether an argument names a party.
@@ -11,13 +12,13 @@ pub fn is_party(arg: &[u8]) -> bool {
 // Whether argument `i` is that word.
 fn is_word(word: &[u8], i: usize) -> bool {
     let mut space = arg_space();
-    let n = os::arg(i, &mut space);
+    let n = argument(rt, i, &mut space);
     same_bytes(&space[..n], word)
 }
 
 // Whether an argument from `from` on is that word.
 pub fn has_word(word: &[u8], from: usize) -> bool {
-    let count = os::arg_count();
+    let count = argument_count(rt);
     let mut i = from;
     while i < count {
         if is_word(word, i) {

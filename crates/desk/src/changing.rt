@@ -7,6 +7,11 @@ use crate::fields::first;
 use crate::files::arg_space;
 use crate::say::{DONE, TROUBLE, complain};
 use crate::shown::fail;
+use crate::system::{argument, open_read, path_of};
+use std::fs;
+use std::fs::{File, OpenOptions, Permissions};
+use std::io::{Error, Result, Write};
+use std::os::unix::fs::{PermissionsExt, fchown};
 use text::bytes::{same_bytes, write_bytes};
 
 // The room for a path that is made of an argument.
@@ -41,7 +46,7 @@ pub fn not_held() -> Held {
 
 fn code_arg(i: usize) -> CodeParse {
     let mut space = arg_space();
-    let n = os::arg(i, &mut space);
+    let n = argument(rt, i, &mut space);
     parse_code(&space[..n])
 }
 
@@ -49,7 +54,7 @@ fn code_arg(i: usize) -> CodeParse {
 // for each.
 pub fn held_from(at: usize) -> Held {
     let mut space = arg_space();
-    let n = os::arg(at, &mut space);
+    let n = argument(rt, at, &mut space);
     let mut held = not_held();
     held.locked = same_bytes(&space[..n], b"locked");
     let mode = code_arg(std::num::wrapping_add_usize(at, 1));
@@ -87,66 +92,73 @@ fn named(store: &[u8], ending: &[u8]) -> Path {
     }
 }
 
-fn remove(store: &[u8], ending: &[u8]) {
-    let path = named(store, ending);
-    let bytes = path.bytes;
-    os::unlink(first(&bytes, path.len));
+fn remove_path(rt: &HostRuntime, path: &[u8]) -> Result<()> {
+    fs::remove_file(rt, path_of(path)?)
 }
 
-fn renamed(store: &[u8], from: &[u8], to: &[u8]) -> bool {
+// What is not there needs no removal.
+fn remove(rt: &HostRuntime, store: &[u8], ending: &[u8]) {
+    let path = named(store, ending);
+    let bytes = path.bytes;
+    let _ = remove_path(rt, first(&bytes, path.len));
+}
+
+fn renamed(rt: &HostRuntime, store: &[u8], from: &[u8], to: &[u8]) -> Result<()> {
     let old = named(store, from);
     let old_bytes = old.bytes;
     let new = named(store, to);
     let new_bytes = new.bytes;
-    let moved = os::rename(first(&old_bytes, old.len), first(&new_bytes, new.len));
-    moved == 0
+    let old_path = path_of(first(&old_bytes, old.len))?;
+    let new_path = path_of(first(&new_bytes, new.len))?;
+    fs::rename(rt, old_path, new_path)
 }
 
 // Owner, group and mode of the file; where the owner can't be given, the group.
-fn keep(fd: i32, held: Held) -> bool {
+fn keep(rt: &HostRuntime, file: &File, held: Held) -> Result<()> {
     if !held.kept {
-        return true;
+        return Ok(());
     }
-    let owned = libc::fchown(fd, held.owner, held.group);
-    if owned < 0 {
+    let owned = fchown(file, Some(held.owner), Some(held.group));
+    if owned.is_err() {
         complain(b"The store's owner can't be kept: the new store is yours.\n");
-        libc::fchown(fd, 4294967295, held.group);
+        let _ = fchown(file, None, Some(held.group));
     }
-    let set = libc::fchmod(fd, held.mode);
-    set == 0
+    file.set_permissions(Permissions::from_mode(held.mode))
 }
 
-fn filled(fd: i32, held: Held, index: &[u8], text: &[u8]) -> bool {
-    if !keep(fd, held) {
-        return false;
-    }
-    if !io::write_all(fd, index) {
-        return false;
-    }
-    if !io::write_all(fd, text) {
-        return false;
-    }
-    let synced = libc::fsync(fd);
-    synced == 0
+fn fill(rt: &HostRuntime, mut file: File, held: Held, index: &[u8], text: &[u8]) -> Result<()> {
+    keep(rt, &file, held)?;
+    file.write_all(index)?;
+    file.write_all(text)?;
+    file.sync_all()
+}
+
+// A new file, where there is none of that name.
+fn create(rt: &HostRuntime, path: &[u8]) -> Result<File> {
+    let mut options = OpenOptions::new();
+    options.write(true).create_new(true);
+    options.open(rt, path_of(path)?)
 }
 
 // Writes a store beside the store.
-fn written(store: &[u8], ending: &[u8], held: Held, index: &[u8], text: &[u8]) -> bool {
-    remove(store, ending);
+fn written(
+    rt: &HostRuntime,
+    store: &[u8],
+    ending: &[u8],
+    held: Held,
+    index: &[u8],
+    text: &[u8],
+) -> Result<()> {
+    remove(rt, store, ending);
     let path = named(store, ending);
     let bytes = path.bytes;
-    let fd = os::create(first(&bytes, path.len));
-    if fd < 0 {
-        return false;
-    }
-    let whole = filled(fd, held, index, text);
-    libc::close(fd);
-    whole
+    let file = create(rt, first(&bytes, path.len))?;
+    fill(rt, file, held, index, text)
 }
 
 // Says why the store could not be written, and leaves nothing beside it.
-fn unwritten(store: &[u8]) -> u8 {
-    fail(store);
+fn unwritten(rt: &HostRuntime, store: &[u8], error: Error) -> u8 {
+    fail(rt, store, error);
     complain(b"The new store could not be written; the store is as it was.\n");
     remove(store, b".new");
     remove(store, b".old.new");
@@ -166,42 +178,67 @@ fn folder_len(path: &[u8]) -> usize {
     len
 }
 
-fn sync(folder: &[u8]) {
-    let fd = os::open_read(folder);
-    if fd < 0 {
-        return;
-    }
-    libc::fsync(fd);
-    libc::close(fd);
+fn sync(rt: &HostRuntime, folder: &[u8]) -> Result<()> {
+    open_read(rt, folder)?.sync_all()
 }
 
-fn sync_folder(store: &[u8]) {
+// A folder that can't be synced is left to the system.
+fn sync_folder(rt: &HostRuntime, store: &[u8]) {
     let len = folder_len(store);
     if len == 0 {
-        sync(b".");
+        let _ = sync(rt, b".");
         return;
     }
-    sync(first(store, len));
+    let _ = sync(rt, first(store, len));
 }
 
-fn placed(store: &[u8]) -> u8 {
-    if !renamed(store, b".new", b"") {
-        return unwritten(store);
+fn place_new(rt: &HostRuntime, store: &[u8]) -> Result<()> {
+    renamed(rt, store, b".new", b"")?;
+    sync_folder(rt, store);
+    Ok(())
+}
+
+fn replace_all(
+    rt: &HostRuntime,
+    store: &[u8],
+    held: Held,
+    former_index: &[u8],
+    former_text: &[u8],
+    index: &[u8],
+    text: &[u8],
+) -> Result<()> {
+    written(rt, store, b".new", held, index, text)?;
+    written(rt, store, b".old.new", held, former_index, former_text)?;
+    renamed(rt, store, b".old.new", b".old")?;
+    place_new(rt, store)
+}
+
+fn changed(rt: &HostRuntime, store: &[u8], done: Result<()>) -> u8 {
+    match done {
+        Ok(()) => DONE,
+        Err(error) => unwritten(rt, store, error),
     }
-    sync_folder(store);
-    DONE
+}
+
+fn place_all(
+    rt: &HostRuntime,
+    store: &[u8],
+    held: Held,
+    index: &[u8],
+    text: &[u8],
+) -> Result<()> {
+    written(rt, store, b".new", held, index, text)?;
+    place_new(rt, store)
 }
 
 // Puts a store where there is none.
-pub fn place(store: &[u8], held: Held, index: &[u8], text: &[u8]) -> u8 {
-    if !written(store, b".new", held, index, text) {
-        return unwritten(store);
-    }
-    placed(store)
+pub fn place(rt: &HostRuntime, store: &[u8], held: Held, index: &[u8], text: &[u8]) -> u8 {
+    changed(rt, store, place_all(rt, store, held, index, text))
 }
 
 // Puts a store in the place of a former one, which is kept as STORE.old.
 pub fn replace(
+    rt: &HostRuntime,
     store: &[u8],
     held: Held,
     former_index: &[u8],
@@ -214,16 +251,11 @@ pub fn replace(
             return DONE;
         }
     }
-    if !written(store, b".new", held, index, text) {
-        return unwritten(store);
-    }
-    if !written(store, b".old.new", held, former_index, former_text) {
-        return unwritten(store);
-    }
-    if !renamed(store, b".old.new", b".old") {
-        return unwritten(store);
-    }
-    placed(store)
+    changed(
+        rt,
+        store,
+        replace_all(rt, store, held, former_index, former_text, index, text),
+    )
 }
 
 // Reads STORE.old.

@@ -4,6 +4,7 @@ use crate::fields::{after, after_part, before, first, part_at};
 use crate::files::arg_space;
 use crate::say::{ERR, complain, put_code};
 use crate::shown::complain_shown;
+use crate::system::{argument, argument_count};
 use text::bytes::{same_bytes, write_bytes};
 use text::decimal::{IndexParse, parse_u16};
 use text::uuid::{Uuid, UuidParse};
@@ -204,7 +205,7 @@ fn with_parts(codes: Codes, s: &[u8], kind: u32) -> Codes {
 // Argument `i` after the codes, where it is `KEY=CODES`.
 fn with_arg(codes: Codes, key: &[u8], kind: u32, i: usize) -> Codes {
     let mut space = arg_space();
-    let n = os::arg(i, &mut space);
+    let n = argument(rt, i, &mut space);
     let pair = &space[..n];
     if same_bytes(before(pair, b'='), key) {
         return with_parts(codes, after(pair, b'='), kind);
@@ -219,7 +220,7 @@ pub fn codes_named(key: &[u8], kind: u32, from: usize) -> Codes {
         len: 0,
         bad: false,
     };
-    let count = os::arg_count();
+    let count = argument_count(rt);
     let mut i = from;
     while i < count {
         codes = with_arg(codes, key, kind, i);

@@ -15,5 +15,6 @@ pub mod say;
 pub mod shown;
 pub mod streams;
 pub mod suggest;
+pub mod system;
 pub mod tally;
 pub mod words;

@@ -3,6 +3,8 @@
 // column.
 use crate::fields::first;
 use crate::say::{ERR, OUT, put, put_hex_byte};
+use crate::system::write_error;
+use std::io::Error;
 use text::utf8::is_utf8;
 
 // The most columns before a mark.
@@ -88,9 +90,9 @@ pub fn complain_shown(s: &[u8]) {
 }
 
 // Says what failed, and why, by the system's words.
-pub fn fail(what: &[u8]) {
-    complain_shown(what);
-    os::fail(b"");
+pub fn fail(rt: &HostRuntime, what: &[u8], error: Error) {
+    complain_shown(rt, what);
+    write_error(rt, error);
 }
 
 // Whether a byte takes one column.

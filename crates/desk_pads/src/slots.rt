@@ -1,4 +1,5 @@
 // The slots that arguments fill, as `a=10130`.
+use desk::system::{argument, argument_count};
 use crate::elements::{element_named, put_nearest_element};
 use desk::arguments::is_party;
 use desk::codes::{ABS, CodeParse, KEY, complain_kind, is_of_kind, parse_code};
@@ -116,7 +117,7 @@ fn with_pair(slots: Slots, pair: &[u8]) -> Slots {
 
 fn with_arg(slots: Slots, i: usize) -> Slots {
     let mut space = arg_space();
-    let n = os::arg(i, &mut space);
+    let n = argument(rt, i, &mut space);
     with_pair(slots, &space[..n])
 }
 
@@ -127,7 +128,7 @@ pub fn slots_named(from: usize) -> Slots {
         given: 0,
         bad: false,
     };
-    let count = os::arg_count();
+    let count = argument_count(rt);
     let mut i = from;
     while i < count {
         slots = with_arg(slots, i);

@@ -1,4 +1,5 @@
 // Changes of map in the middle of a recording: `after=N:UUID` for the first pad, `after2=N:UUID` for the second.
+use desk::system::{argument, argument_count};
 use crate::held_maps::{map_status, read_with};
 use crate::test_args::{Request, lists_of};
 use desk::fields::{after, before};
@@ -86,7 +87,7 @@ fn is_for(arg: &[u8], which: Which) -> bool {
 // The change of a pad's map that argument `i` is, if it is one.
 fn change_at(which: Which, i: usize) -> MapChange {
     let mut space = arg_space();
-    let n = os::arg(i, &mut space);
+    let n = argument(rt, i, &mut space);
     let arg = &space[..n];
     if is_for(arg, which) {
         return parse_change(after(arg, b'='));
@@ -96,7 +97,7 @@ fn change_at(which: Which, i: usize) -> MapChange {
 
 // The fewest records, not less than `least`, after which a change of a pad's map comes.
 pub fn due_from(which: Which, from: usize, least: usize) -> usize {
-    let count = os::arg_count();
+    let count = argument_count(rt);
     let mut due = NEVER;
     let mut i = from;
     while i < count {
@@ -118,7 +119,7 @@ fn change_status(index: &[u8], text: &[u8], asked: Request, which: Which, i: usi
     let caller = asked.caller;
     let party = caller.party;
     let mut space = arg_space();
-    let n = os::arg(i, &mut space);
+    let n = argument(rt, i, &mut space);
     if change.records == NEVER {
         return DONE;
     }
@@ -127,7 +128,7 @@ fn change_status(index: &[u8], text: &[u8], asked: Request, which: Which, i: usi
 
 // Whether all lines of a pad's changes are.
 pub fn changes_status(index: &[u8], text: &[u8], asked: Request, which: Which) -> u8 {
-    let count = os::arg_count();
+    let count = argument_count(rt);
     let mut i = asked.from;
     while i < count {
         let status = change_status(index, text, asked, which, i);
@@ -223,7 +224,7 @@ fn with_change(
 
 // The changes of a pad's map that are due, in the order of the arguments.
 fn with_due(index: &[u8], text: &[u8], asked: Request, play: Play, which: Which) -> Play {
-    let count = os::arg_count();
+    let count = argument_count(rt);
     let mut next = play;
     let mut i = asked.from;
     while i < count {

@@ -1,4 +1,5 @@
 // Whose lines a command is about: `party=7` is a league organiser, no `party=` the hall.
+use desk::system::{argument, argument_count};
 use desk::arguments::is_party;
 use desk::fields::after;
 use desk::files::arg_space;
@@ -67,7 +68,7 @@ fn with_party(caller: Caller, arg: &[u8]) -> Caller {
 
 fn with_arg(caller: Caller, i: usize) -> Caller {
     let mut space = arg_space();
-    let n = os::arg(i, &mut space);
+    let n = argument(rt, i, &mut space);
     if is_party(&space[..n]) {
         return with_party(caller, &space[..n]);
     }
@@ -84,7 +85,7 @@ pub fn caller_named(from: usize) -> Caller {
         others: 0,
         bad: false,
     };
-    let count = os::arg_count();
+    let count = argument_count(rt);
     let mut i = from;
     while i < count {
         caller = with_arg(caller, i);

@@ -1,4 +1,5 @@
 // The command save.
+use desk::system::{argument};
 use crate::holding::no_uuid;
 use crate::inserting::complain_full;
 use crate::mappings::{Request, asked_from, is_good};
@@ -208,7 +209,7 @@ pub fn save_mapping(held: Held, store: &[u8], key: &[u8], at: usize) -> u8 {
         return TROUBLE;
     }
     let mut name = arg_space();
-    let n = os::arg(at, &mut name);
+    let n = argument(rt, at, &mut name);
     let parsed = Uuid::parse_str(key);
     match parsed {
         UuidParse::Parsed(spelled) => save_request(

@@ -1,4 +1,5 @@
 // The parties' shares of the text: the commands share and shares, and who claims what of it.
+use desk::system::{argument};
 use crate::parties::owner_of;
 use desk::changing::{Held, may_change, replace};
 use desk::fields::less;
@@ -315,7 +316,7 @@ pub fn give_share(held: Held, store: &[u8], who: &[u8], at: usize) -> u8 {
         return TROUBLE;
     }
     let mut size = arg_space();
-    let n = os::arg(at, &mut size);
+    let n = argument(rt, at, &mut size);
     let named = owner_named(who);
     match named {
         Named::Owner(owner) => set_named(held, store, owner, &size[..n]),

@@ -1,4 +1,5 @@
 // The arguments of the command test after the store and the UUID.
+use desk::system::{argument, argument_count};
 use crate::held_maps::Lists;
 use crate::map_changes::is_change;
 use crate::parties::{Caller, caller_named};
@@ -131,7 +132,7 @@ fn with_key(named: Named, i: usize, key: &[u8], arg: &[u8]) -> Named {
 
 fn with_arg(named: Named, i: usize) -> Named {
     let mut space = arg_space();
-    let n = os::arg(i, &mut space);
+    let n = argument(rt, i, &mut space);
     let arg = &space[..n];
     with_key(named, i, before(arg, b'='), arg)
 }
@@ -139,7 +140,7 @@ fn with_arg(named: Named, i: usize) -> Named {
 // What the arguments from `from` on name.
 fn named_from(from: usize) -> Named {
     let mut named = nothing_named();
-    let count = os::arg_count();
+    let count = argument_count(rt);
     let mut i = from;
     while i < count {
         named = with_arg(named, i);
@@ -197,7 +198,7 @@ fn is_bad(lists: Lists) -> bool {
 // An argument about a second pad, where none plays.
 fn complain_second(i: usize) -> u8 {
     let mut space = arg_space();
-    let n = os::arg(i, &mut space);
+    let n = argument(rt, i, &mut space);
     complain_shown(&space[..n]);
     complain(b": there is no second pad; with=FILE names its recording\n");
     TROUBLE

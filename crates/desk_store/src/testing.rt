@@ -1,4 +1,5 @@
 // The command test: lines that are held are read, and what the events of recordings give by them is told.
+use desk::system::{argument};
 use crate::held_maps::{held_status, read_with, reading_status};
 use crate::holding::no_uuid;
 use crate::map_changes::{changes_status, due_from, never_status, with_changes};
@@ -148,9 +149,9 @@ fn test_streams(
 fn test_play(index: &[u8], text: &[u8], asked: Request, start: Play) -> u8 {
     let named = asked.named;
     let mut stream = arg_space();
-    let n = os::arg(named.stream, &mut stream);
+    let n = argument(rt, named.stream, &mut stream);
     let mut beside = arg_space();
-    let m = os::arg(named.beside, &mut beside);
+    let m = argument(rt, named.beside, &mut beside);
     let one = with_changes(index, text, asked, start, Which::First);
     let play = with_changes(index, text, asked, one, Which::Second);
     test_streams(index, text, asked, play, &stream[..n], &beside[..m])
@@ -248,7 +249,7 @@ fn test_ids(store: &[u8], id: Uuid, asked: Request) -> u8 {
         return test_held(store, id, id, asked);
     }
     let mut space = arg_space();
-    let n = os::arg(named.uuid, &mut space);
+    let n = argument(rt, named.uuid, &mut space);
     let key = after(&space[..n], b'=');
     let parsed = Uuid::parse_str(key);
     match parsed {

@@ -1,6 +1,7 @@
 // The command line for support staff, with a hall's store file, lists of mapping lines and a pad's codes.
 #![tactic(auto)]
 
+use desk::system::{argument, argument_count, is_too_long, print};
 use desk::changing::{Held, held_from, not_held};
 use desk::files::arg_space;
 use desk::help;
@@ -19,7 +20,7 @@ fn nth(at: usize, n: usize) -> usize {
 
 // How many arguments stand after the one at `at`.
 fn given_after(at: usize) -> usize {
-    let count = os::arg_count();
+    let count = argument_count(rt);
     if at < count {
         return count - at - 1;
     }
@@ -132,27 +133,26 @@ fn run_command(held: Held, command: &[u8], at: usize, given: usize, a: &[u8], b:
 fn run(held: Held, at: usize) -> u8 {
     let given = given_after(at);
     let mut command = arg_space();
-    let n = os::arg(at, &mut command);
+    let n = argument(rt, at, &mut command);
     let mut a = arg_space();
-    let an = os::arg(nth(at, 1), &mut a);
+    let an = argument(rt, nth(at, 1), &mut a);
     let mut b = arg_space();
-    let bn = os::arg(nth(at, 2), &mut b);
-    if os::arg_count() <= at {
+    let bn = argument(rt, nth(at, 2), &mut b);
+    if argument_count(rt) <= at {
         return help::help();
     }
     run_command(held, &command[..n], at, given, &a[..an], &b[..bn])
 }
 
 // Whether an argument is no longer than the most.
-fn has_room(i: usize) -> bool {
+fn has_room(rt: &HostRuntime, i: usize) -> bool {
     let mut space = arg_space();
-    os::arg(i, &mut space);
-    os::errno() != libc::ENAMETOOLONG
+    !is_too_long(rt, i, &mut space)
 }
 
 // Whether all arguments are.
 fn all_have_room() -> bool {
-    let count = os::arg_count();
+    let count = argument_count(rt);
     let mut i: usize = 1;
     while i < count {
         if !has_room(i) {
@@ -173,12 +173,12 @@ fn run_all(held: Held, at: usize) -> u8 {
 
 // A Rattle program ends with status 0. The script `hub` starts it with `--script`, what it says of the store (see
 // changing.rt) and the command, and takes the command's status from descriptor 3.
-fn main() {
+fn main(rt: HostRuntime) {
     let mut space = arg_space();
-    let n = os::arg(1, &mut space);
+    let n = argument(&rt, 1, &mut space);
     if same_bytes(&space[..n], b"--script") {
-        io::print_decimal(STATUS, run_all(held_from(2), 6) as u64);
+        print(&rt, STATUS, run_all(&rt, held_from(&rt, 2), 6));
         return;
     }
-    run_all(not_held(), 1);
+    run_all(&rt, not_held(), 1);
 }
