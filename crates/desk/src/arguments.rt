@@ -10,18 +10,18 @@ pub fn is_party(arg: &[u8]) -> bool {
 }
 
 // Whether argument `i` is that word.
-fn is_word(word: &[u8], i: usize) -> bool {
+fn is_word(rt: &HostRuntime, word: &[u8], i: usize) -> bool {
     let mut space = arg_space();
     let n = argument(rt, i, &mut space);
     same_bytes(&space[..n], word)
 }
 
 // Whether an argument from `from` on is that word.
-pub fn has_word(word: &[u8], from: usize) -> bool {
+pub fn has_word(rt: &HostRuntime, word: &[u8], from: usize) -> bool {
     let count = argument_count(rt);
     let mut i = from;
     while i < count {
-        if is_word(word, i) {
+        if is_word(rt, word, i) {
             return true;
         }
         i += 1;

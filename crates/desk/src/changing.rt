@@ -44,7 +44,7 @@ pub fn not_held() -> Held {
     }
 }
 
-fn code_arg(i: usize) -> CodeParse {
+fn code_arg(rt: &HostRuntime, i: usize) -> CodeParse {
     let mut space = arg_space();
     let n = argument(rt, i, &mut space);
     parse_code(&space[..n])
@@ -52,14 +52,14 @@ fn code_arg(i: usize) -> CodeParse {
 
 // What the arguments from `at` on say: `locked` or `unlocked`, then mode, owner and group in hexadecimal, or a hyphen
 // for each.
-pub fn held_from(at: usize) -> Held {
+pub fn held_from(rt: &HostRuntime, at: usize) -> Held {
     let mut space = arg_space();
     let n = argument(rt, at, &mut space);
     let mut held = not_held();
     held.locked = same_bytes(&space[..n], b"locked");
-    let mode = code_arg(std::num::wrapping_add_usize(at, 1));
-    let owner = code_arg(std::num::wrapping_add_usize(at, 2));
-    let group = code_arg(std::num::wrapping_add_usize(at, 3));
+    let mode = code_arg(rt, std::num::wrapping_add_usize(at, 1));
+    let owner = code_arg(rt, std::num::wrapping_add_usize(at, 2));
+    let group = code_arg(rt, std::num::wrapping_add_usize(at, 3));
     if let CodeParse::Parsed(m) = mode {
         if let CodeParse::Parsed(o) = owner {
             if let CodeParse::Parsed(g) = group {
@@ -74,9 +74,12 @@ pub fn held_from(at: usize) -> Held {
 }
 
 // Whether a command may change a store: only where the lock is held.
-pub fn may_change(held: Held) -> bool {
+pub fn may_change(rt: &HostRuntime, held: Held) -> bool {
     if !held.locked {
-        complain(b"A store is changed by the script hub, which holds its lock.\n");
+        complain(
+            rt,
+            b"A store is changed by the script hub, which holds its lock.\n",
+        );
     }
     held.locked
 }
@@ -120,7 +123,10 @@ fn keep(rt: &HostRuntime, file: &File, held: Held) -> Result<()> {
     }
     let owned = fchown(file, Some(held.owner), Some(held.group));
     if owned.is_err() {
-        complain(b"The store's owner can't be kept: the new store is yours.\n");
+        complain(
+            rt,
+            b"The store's owner can't be kept: the new store is yours.\n",
+        );
         let _ = fchown(file, None, Some(held.group));
     }
     file.set_permissions(Permissions::from_mode(held.mode))
@@ -159,9 +165,12 @@ fn written(
 // Says why the store could not be written, and leaves nothing beside it.
 fn unwritten(rt: &HostRuntime, store: &[u8], error: Error) -> u8 {
     fail(rt, store, error);
-    complain(b"The new store could not be written; the store is as it was.\n");
-    remove(store, b".new");
-    remove(store, b".old.new");
+    complain(
+        rt,
+        b"The new store could not be written; the store is as it was.\n",
+    );
+    remove(rt, store, b".new");
+    remove(rt, store, b".old.new");
     TROUBLE
 }
 
@@ -220,13 +229,7 @@ fn changed(rt: &HostRuntime, store: &[u8], done: Result<()>) -> u8 {
     }
 }
 
-fn place_all(
-    rt: &HostRuntime,
-    store: &[u8],
-    held: Held,
-    index: &[u8],
-    text: &[u8],
-) -> Result<()> {
+fn place_all(rt: &HostRuntime, store: &[u8], held: Held, index: &[u8], text: &[u8]) -> Result<()> {
     written(rt, store, b".new", held, index, text)?;
     place_new(rt, store)
 }
@@ -259,8 +262,8 @@ pub fn replace(
 }
 
 // Reads STORE.old.
-pub fn load_old(store: &[u8], index: &mut [u8], text: &mut [u8]) -> u8 {
+pub fn load_old(rt: &HostRuntime, store: &[u8], index: &mut [u8], text: &mut [u8]) -> u8 {
     let path = named(store, b".old");
     let bytes = path.bytes;
-    crate::files::load(first(&bytes, path.len), index, text)
+    crate::files::load(rt, first(&bytes, path.len), index, text)
 }

@@ -118,63 +118,77 @@ fn is_number(kind: u32, number: u32) -> bool {
     number < 0x40
 }
 
-fn complain_meant(spelling: &[u8], s: &[u8], kind: u32, number: u16) {
+fn complain_meant(rt: &HostRuntime, spelling: &[u8], s: &[u8], kind: u32, number: u16) {
     if is_number(kind, number as u32) {
-        complain(spelling);
-        complain_shown(s);
-        complain(b" is ");
-        put_code(ERR, code_of(kind, number));
+        complain(rt, spelling);
+        complain_shown(rt, s);
+        complain(rt, b" is ");
+        put_code(rt, ERR, code_of(kind, number));
     }
 }
 
 // What a number without its kind would be, in decimal and in hexadecimal.
-fn complain_spellings(s: &[u8], code: u32, kind: u32) {
+fn complain_spellings(rt: &HostRuntime, s: &[u8], code: u32, kind: u32) {
     let decimal = parse_u16(s);
     if let IndexParse::Parsed(n) = decimal {
-        complain_meant(b"; evtest's decimal ", s, kind, n);
+        complain_meant(rt, b"; evtest's decimal ", s, kind, n);
     }
     if code < 10 {
         return;
     }
     if code < KIND_UNIT {
-        complain_meant(b"; hexadecimal ", digits_of(s), kind, code as u16);
+        complain_meant(rt, b"; hexadecimal ", digits_of(s), kind, code as u16);
     }
 }
 
 // Turns away a code of another kind.
-pub fn complain_kind(s: &[u8], code: u32, kind: u32) {
-    complain_shown(s);
+pub fn complain_kind(rt: &HostRuntime, s: &[u8], code: u32, kind: u32) {
+    complain_shown(rt, s);
     if kind == KEY {
-        complain(b": no code of a button, which is 1 and four hexadecimal digits, as 10130");
+        complain(
+            rt,
+            b": no code of a button, which is 1 and four hexadecimal digits, as 10130",
+        );
     } else {
-        complain(b": no code of an axis, which is 3 and four hexadecimal digits, as 30000");
+        complain(
+            rt,
+            b": no code of an axis, which is 3 and four hexadecimal digits, as 30000",
+        );
     }
-    complain_spellings(s, code, kind);
-    complain(b"\n");
+    complain_spellings(rt, s, code, kind);
+    complain(rt, b"\n");
 }
 
 // The codes from one to another, both of the kind.
-fn with_ends(codes: Codes, low: &[u8], a: u32, high: &[u8], b: u32, kind: u32) -> Codes {
+fn with_ends(
+    rt: &HostRuntime,
+    codes: Codes,
+    low: &[u8],
+    a: u32,
+    high: &[u8],
+    b: u32,
+    kind: u32,
+) -> Codes {
     if !is_of_kind(a, kind) {
-        complain_kind(low, a, kind);
+        complain_kind(rt, low, a, kind);
         return with_bad(codes);
     }
     if !is_of_kind(b, kind) {
-        complain_kind(high, b, kind);
+        complain_kind(rt, high, b, kind);
         return with_bad(codes);
     }
     if b < a {
-        complain_shown(low);
-        complain(b"-");
-        complain_shown(high);
-        complain(b": the range ends before it starts\n");
+        complain_shown(rt, low);
+        complain(rt, b"-");
+        complain_shown(rt, high);
+        complain(rt, b": the range ends before it starts\n");
         return with_bad(codes);
     }
     with_range(codes, a, b)
 }
 
 // `10130`, or `10130-1013e`
-fn with_part(codes: Codes, s: &[u8], kind: u32) -> Codes {
+fn with_part(rt: &HostRuntime, codes: Codes, s: &[u8], kind: u32) -> Codes {
     let low = before(s, b'-');
     let mut high = after(s, b'-');
     if low.len() == s.len() {
@@ -184,37 +198,40 @@ fn with_part(codes: Codes, s: &[u8], kind: u32) -> Codes {
     let to = parse_code(high);
     if let CodeParse::Parsed(a) = from {
         if let CodeParse::Parsed(b) = to {
-            return with_ends(codes, low, a, high, b, kind);
+            return with_ends(rt, codes, low, a, high, b, kind);
         }
     }
-    complain_shown(s);
-    complain(b": no code or range of codes; a code has 1 to 8 hexadecimal digits\n");
+    complain_shown(rt, s);
+    complain(
+        rt,
+        b": no code or range of codes; a code has 1 to 8 hexadecimal digits\n",
+    );
     with_bad(codes)
 }
 
-fn with_parts(codes: Codes, s: &[u8], kind: u32) -> Codes {
+fn with_parts(rt: &HostRuntime, codes: Codes, s: &[u8], kind: u32) -> Codes {
     let mut next = codes;
     let mut at: usize = 0;
     while at < s.len() {
-        next = with_part(next, part_at(s, at, b','), kind);
+        next = with_part(rt, next, part_at(s, at, b','), kind);
         at = after_part(s, at, b',');
     }
     next
 }
 
 // Argument `i` after the codes, where it is `KEY=CODES`.
-fn with_arg(codes: Codes, key: &[u8], kind: u32, i: usize) -> Codes {
+fn with_arg(rt: &HostRuntime, codes: Codes, key: &[u8], kind: u32, i: usize) -> Codes {
     let mut space = arg_space();
     let n = argument(rt, i, &mut space);
     let pair = &space[..n];
     if same_bytes(before(pair, b'='), key) {
-        return with_parts(codes, after(pair, b'='), kind);
+        return with_parts(rt, codes, after(pair, b'='), kind);
     }
     codes
 }
 
 // The codes of a kind that the arguments from `from` on give under a key, as `buttons`.
-pub fn codes_named(key: &[u8], kind: u32, from: usize) -> Codes {
+pub fn codes_named(rt: &HostRuntime, key: &[u8], kind: u32, from: usize) -> Codes {
     let mut codes = Codes {
         list: [0u32; LONGEST],
         len: 0,
@@ -223,7 +240,7 @@ pub fn codes_named(key: &[u8], kind: u32, from: usize) -> Codes {
     let count = argument_count(rt);
     let mut i = from;
     while i < count {
-        codes = with_arg(codes, key, kind, i);
+        codes = with_arg(rt, codes, key, kind, i);
         i += 1;
     }
     codes

@@ -106,8 +106,8 @@ fn whole_list(rt: &HostRuntime, path: &[u8], file: &mut File, n: usize) -> List 
             if over == 0 {
                 return List::Read(n);
             }
-            complain_shown(path);
-            complain(b": a list may have at most 1048576 bytes\n");
+            complain_shown(rt, path);
+            complain(rt, b": a list may have at most 1048576 bytes\n");
             List::Failed
         }
         Got::Failed(error) => unread(rt, path, error),
@@ -131,13 +131,13 @@ pub fn read_list(rt: &HostRuntime, path: &[u8], space: &mut [u8]) -> List {
 }
 
 // Whether so many bytes were read, or 19, or trouble.
-fn load_status(path: &[u8], got: Got, len: usize) -> u8 {
+fn load_status(rt: &HostRuntime, path: &[u8], got: Got, len: usize) -> u8 {
     match got {
         Got::Bytes(n) => {
             if n == len {
                 return DONE;
             }
-            refused_file(path)
+            refused_file(rt, path)
         }
         Got::Failed(error) => {
             fail(rt, path, error);
@@ -146,22 +146,28 @@ fn load_status(path: &[u8], got: Got, len: usize) -> u8 {
     }
 }
 
-fn load_halves(path: &[u8], mut file: File, index: &mut [u8], text: &mut [u8]) -> u8 {
-    let status = load_status(path, read_all(&mut file, index), HALF);
+fn load_halves(
+    rt: &HostRuntime,
+    path: &[u8],
+    mut file: File,
+    index: &mut [u8],
+    text: &mut [u8],
+) -> u8 {
+    let status = load_status(rt, path, read_all(&mut file, index), HALF);
     if status != DONE {
         return status;
     }
-    let status = load_status(path, read_all(&mut file, text), HALF);
+    let status = load_status(rt, path, read_all(&mut file, text), HALF);
     if status != DONE {
         return status;
     }
-    load_status(path, more(&mut file), 0)
+    load_status(rt, path, more(&mut file), 0)
 }
 
 // Reads a store file into the two buffers, which have HALF bytes each.
 pub fn load(rt: &HostRuntime, path: &[u8], index: &mut [u8], text: &mut [u8]) -> u8 {
     match open_read(rt, path) {
-        Ok(file) => load_halves(path, file, index, text),
+        Ok(file) => load_halves(rt, path, file, index, text),
         Err(error) => {
             fail(rt, path, error);
             TROUBLE

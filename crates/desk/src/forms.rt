@@ -27,30 +27,30 @@ pub fn has_other_form(line: &[u8]) -> bool {
     }
 }
 
-fn say_spelled(words: &[u8]) {
-    say(b"the UUID is spelled ");
-    say(words);
-    say(b", not in 32 digits\n");
+fn say_spelled(rt: &HostRuntime, words: &[u8]) {
+    say(rt, b"the UUID is spelled ");
+    say(rt, words);
+    say(rt, b", not in 32 digits\n");
 }
 
 // Says which other form it is.
-pub fn say_form(line: &[u8]) {
+pub fn say_form(rt: &HostRuntime, line: &[u8]) {
     let form = form_of(line);
     match form {
         Form::Simple => {}
-        Form::Hyphenated => say_spelled(b"with hyphens"),
-        Form::Braced => say_spelled(b"in braces"),
-        Form::Urn => say_spelled(b"after urn:uuid:"),
+        Form::Hyphenated => say_spelled(rt, b"with hyphens"),
+        Form::Braced => say_spelled(rt, b"in braces"),
+        Form::Urn => say_spelled(rt, b"after urn:uuid:"),
         Form::Xinput => {}
     }
 }
 
 // How many lines were filed, or would be, in another form.
-pub fn say_other_forms(n: usize) {
+pub fn say_other_forms(rt: &HostRuntime, n: usize) {
     if n == 0 {
         return;
     }
-    say(b"  ");
-    say_number(n);
-    say(b" with a UUID that is not spelled in 32 digits\n");
+    say(rt, b"  ");
+    say_number(rt, n);
+    say(rt, b" with a UUID that is not spelled in 32 digits\n");
 }

@@ -4,8 +4,9 @@ use crate::say::{DONE, ERR, OUT, TROUBLE, complain, say};
 use crate::shown::complain_shown;
 use crate::suggest::{nothing_near, put_suggestion, with_names};
 
-pub fn help() -> u8 {
+pub fn help(rt: &HostRuntime) -> u8 {
     say(
+        rt,
         b"hub: mapping lines of game pads, in a hall's store file
 
   hub new STORE                  makes a fresh store file
@@ -36,31 +37,31 @@ where the output can't be written. Refusals and trouble go to standard error.
 }
 
 // `hub --version`
-pub fn version() -> u8 {
-    say(b"hub 0.1.0 (Raspteal)\n");
+pub fn version(rt: &HostRuntime) -> u8 {
+    say(rt, b"hub 0.1.0 (Raspteal)\n");
     DONE
 }
 
 // Whether a command of that name was found, and its help printed.
-fn put_help(fd: i32, command: &[u8]) -> bool {
-    if put_filing(fd, command) {
+fn put_help(rt: &HostRuntime, fd: i32, command: &[u8]) -> bool {
+    if put_filing(rt, fd, command) {
         return true;
     }
-    if put_holding(fd, command) {
+    if put_holding(rt, fd, command) {
         return true;
     }
-    if put_sharing(fd, command) {
+    if put_sharing(rt, fd, command) {
         return true;
     }
-    if put_mappings(fd, command) {
+    if put_mappings(rt, fd, command) {
         return true;
     }
-    put_others(fd, command)
+    put_others(rt, fd, command)
 }
 
-fn no_command(command: &[u8]) -> u8 {
-    complain_shown(command);
-    complain(b": no such command (hub help lists them)");
+fn no_command(rt: &HostRuntime, command: &[u8]) -> u8 {
+    complain_shown(rt, command);
+    complain(rt, b": no such command (hub help lists them)");
     let near = with_names(
         nothing_near(),
         command,
@@ -81,24 +82,24 @@ default
 demo
 help",
     );
-    put_suggestion(ERR, near, command);
-    complain(b"\n");
+    put_suggestion(rt, ERR, near, command);
+    complain(rt, b"\n");
     TROUBLE
 }
 
 // `hub help COMMAND`
-pub fn help_on(command: &[u8]) -> u8 {
-    if put_help(OUT, command) {
+pub fn help_on(rt: &HostRuntime, command: &[u8]) -> u8 {
+    if put_help(rt, OUT, command) {
         return DONE;
     }
-    no_command(command)
+    no_command(rt, command)
 }
 
 // After a command that is none, or has the wrong number of arguments.
-pub fn wrong_use(command: &[u8]) -> u8 {
-    if put_help(ERR, command) {
-        complain(b"The arguments are not as above.\n");
+pub fn wrong_use(rt: &HostRuntime, command: &[u8]) -> u8 {
+    if put_help(rt, ERR, command) {
+        complain(rt, b"The arguments are not as above.\n");
         return TROUBLE;
     }
-    no_command(command)
+    no_command(rt, command)
 }

@@ -1,8 +1,7 @@
 // What is printed: answers on standard output; refusals, `none`, `near` and trouble on standard error.
 use crate::system::{print, write};
-use text::uuid::Uuid;
-
 pub use crate::system::{ERR, OUT, STATUS};
+use text::uuid::Uuid;
 
 // The status of a command that is done, of one that was refused or found nothing, and of wrong use or file trouble.
 pub const DONE: u8 = 0;
@@ -44,14 +43,14 @@ pub fn put_uuid(rt: &HostRuntime, fd: i32, id: Uuid) {
     noted(rt, print(rt, fd, format_args!("{low:016x}")));
 }
 
-pub fn say(text: &[u8]) {
-    put(OUT, text);
+pub fn say(rt: &HostRuntime, text: &[u8]) {
+    put(rt, OUT, text);
 }
 
-pub fn say_number(n: usize) {
-    put_number(OUT, n);
+pub fn say_number(rt: &HostRuntime, n: usize) {
+    put_number(rt, OUT, n);
 }
 
-pub fn complain(text: &[u8]) {
-    put(ERR, text);
+pub fn complain(rt: &HostRuntime, text: &[u8]) {
+    put(rt, ERR, text);
 }

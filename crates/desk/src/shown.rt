@@ -53,40 +53,40 @@ fn has_controls(s: &[u8], utf8: bool) -> bool {
     false
 }
 
-fn put_byte(fd: i32, s: &[u8], i: usize, utf8: bool) {
+fn put_byte(rt: &HostRuntime, fd: i32, s: &[u8], i: usize, utf8: bool) {
     let b = byte_at(s, i);
     if is_control(s, i, utf8) {
-        put(fd, b"\\x");
-        put_hex_byte(fd, b);
+        put(rt, fd, b"\\x");
+        put_hex_byte(rt, fd, b);
         return;
     }
     let byte = [b];
-    put(fd, &byte);
+    put(rt, fd, &byte);
 }
 
-fn put_bytes(fd: i32, s: &[u8], utf8: bool) {
+fn put_bytes(rt: &HostRuntime, fd: i32, s: &[u8], utf8: bool) {
     let mut i: usize = 0;
     while i < s.len() {
-        put_byte(fd, s, i, utf8);
+        put_byte(rt, fd, s, i, utf8);
         i += 1;
     }
 }
 
-pub fn put_shown(fd: i32, s: &[u8]) {
+pub fn put_shown(rt: &HostRuntime, fd: i32, s: &[u8]) {
     let utf8 = is_utf8(s);
     if has_controls(s, utf8) {
-        put_bytes(fd, s, utf8);
+        put_bytes(rt, fd, s, utf8);
         return;
     }
-    put(fd, s);
+    put(rt, fd, s);
 }
 
-pub fn say_shown(s: &[u8]) {
-    put_shown(OUT, s);
+pub fn say_shown(rt: &HostRuntime, s: &[u8]) {
+    put_shown(rt, OUT, s);
 }
 
-pub fn complain_shown(s: &[u8]) {
-    put_shown(ERR, s);
+pub fn complain_shown(rt: &HostRuntime, s: &[u8]) {
+    put_shown(rt, ERR, s);
 }
 
 // Says what failed, and why, by the system's words.
@@ -103,13 +103,13 @@ fn is_plain(b: u8) -> bool {
     b <= b'~'
 }
 
-fn put_column(fd: i32, b: u8) {
+fn put_column(rt: &HostRuntime, fd: i32, b: u8) {
     if is_plain(b) {
         let byte = [b];
-        put(fd, &byte);
+        put(rt, fd, &byte);
         return;
     }
-    put(fd, b".");
+    put(rt, fd, b".");
 }
 
 fn is_all_plain(s: &[u8]) -> bool {
@@ -123,25 +123,25 @@ fn is_all_plain(s: &[u8]) -> bool {
     true
 }
 
-fn put_columns(fd: i32, s: &[u8]) {
+fn put_columns(rt: &HostRuntime, fd: i32, s: &[u8]) {
     let mut i: usize = 0;
     while i < s.len() {
-        put_column(fd, s[i]);
+        put_column(rt, fd, s[i]);
         i += 1;
     }
 }
 
 // A text in which each byte takes one column: one that is no printable ASCII is a dot.
-pub fn put_plain(fd: i32, s: &[u8]) {
+pub fn put_plain(rt: &HostRuntime, fd: i32, s: &[u8]) {
     if is_all_plain(s) {
-        put(fd, s);
+        put(rt, fd, s);
         return;
     }
-    put_columns(fd, s);
+    put_columns(rt, fd, s);
 }
 
 // That many columns of space.
-pub fn put_space(fd: i32, n: usize) {
+pub fn put_space(rt: &HostRuntime, fd: i32, n: usize) {
     let columns = [b' '; COLUMNS];
-    put(fd, first(&columns, n));
+    put(rt, fd, first(&columns, n));
 }

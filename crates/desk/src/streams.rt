@@ -35,8 +35,8 @@ pub fn no_stream() -> Stream {
 pub fn open_stream(rt: &HostRuntime, arg: &[u8]) -> Stream {
     let path = after(arg, b'=');
     if path.len() == 0 {
-        complain_shown(before(arg, b'='));
-        complain(b"=: no file is named\n");
+        complain_shown(rt, before(arg, b'='));
+        complain(rt, b"=: no file is named\n");
         return no_stream();
     }
     match open_read(rt, path) {
@@ -117,11 +117,11 @@ pub fn turn_of(first: &Stream, second: &Stream) -> Turn {
     }
 }
 
-fn complain_cut(path: &[u8], left: usize) -> u8 {
-    complain_shown(path);
-    complain(b": a record has 24 bytes, and the last one only ");
-    put_number(ERR, left);
-    complain(b"; such a file is no whole recording of input events\n");
+fn complain_cut(rt: &HostRuntime, path: &[u8], left: usize) -> u8 {
+    complain_shown(rt, path);
+    complain(rt, b": a record has 24 bytes, and the last one only ");
+    put_number(rt, ERR, left);
+    complain(rt, b"; such a file is no whole recording of input events\n");
     TROUBLE
 }
 
@@ -135,7 +135,7 @@ pub fn end_status(rt: &HostRuntime, stream: &Stream, arg: &[u8]) -> u8 {
     let path = after(arg, b'=');
     let next = stream.next;
     match next {
-        NextInput::Cut(left) => complain_cut(path, left),
+        NextInput::Cut(left) => complain_cut(rt, path, left),
         NextInput::Failed(error) => complain_failed(rt, path, error),
         _ => DONE,
     }

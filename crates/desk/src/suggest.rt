@@ -112,7 +112,7 @@ pub fn with_names(near: Near, key: &[u8], names: &[u8]) -> Near {
 }
 
 // A name with nothing in common is no suggestion.
-pub fn put_suggestion(fd: i32, near: Near, key: &[u8]) {
+pub fn put_suggestion(rt: &HostRuntime, fd: i32, near: Near, key: &[u8]) {
     if key.len() <= near.apart {
         return;
     }
@@ -120,7 +120,7 @@ pub fn put_suggestion(fd: i32, near: Near, key: &[u8]) {
         return;
     }
     let name = near.name;
-    put(fd, b"; did you mean '");
-    put(fd, first(&name, near.len));
-    put(fd, b"'?");
+    put(rt, fd, b"; did you mean '");
+    put(rt, fd, first(&name, near.len));
+    put(rt, fd, b"'?");
 }

@@ -43,45 +43,49 @@ fn sum(a: usize, b: usize, c: usize, d: usize) -> usize {
     wrapping_add_usize(wrapping_add_usize(a, b), wrapping_add_usize(c, d))
 }
 
-fn say_count(n: usize, words: &[u8]) {
+fn say_count(rt: &HostRuntime, n: usize, words: &[u8]) {
     if n == 0 {
         return;
     }
-    say(b"  ");
-    say_number(n);
-    say(words);
-    say(b"\n");
+    say(rt, b"  ");
+    say_number(rt, n);
+    say(rt, words);
+    say(rt, b"\n");
 }
 
 // How many events the changes of map told.
-fn say_changes(tally: Tally) {
+fn say_changes(rt: &HostRuntime, tally: Tally) {
     if tally.changes == 0 {
         return;
     }
-    say_number(tally.changed);
-    say(b" events more at ");
-    say_number(tally.changes);
-    say(b" changes of map\n");
+    say_number(rt, tally.changed);
+    say(rt, b" events more at ");
+    say_number(rt, tally.changes);
+    say(rt, b" changes of map\n");
 }
 
 // What became of the records.
-pub fn say_tally(tally: Tally) {
+pub fn say_tally(rt: &HostRuntime, tally: Tally) {
     let held = sum(tally.unmapped, tally.valueless, tally.kept, tally.left_out);
     let other = sum(tally.repeats, tally.beyond, tally.refused, 0);
-    say_number(tally.told);
-    say(b" events told, ");
-    say_number(wrapping_add_usize(held, other));
-    say(b" without one, ");
-    say_number(tally.others);
-    say(b" records of other kinds skipped\n");
-    say_count(tally.unmapped, b" of codes that are not in the map");
-    say_count(tally.valueless, b" of values that the line gives none");
-    say_count(tally.kept, b" of elements that keep their value");
-    say_count(tally.left_out, b" of elements that are left out");
-    say_count(tally.repeats, b" of buttons that repeat");
-    say_count(tally.beyond, b" of values that no button or axis has");
-    say_count(tally.refused, b" of codes over the 256 that a pad holds");
-    say_changes(tally);
+    say_number(rt, tally.told);
+    say(rt, b" events told, ");
+    say_number(rt, wrapping_add_usize(held, other));
+    say(rt, b" without one, ");
+    say_number(rt, tally.others);
+    say(rt, b" records of other kinds skipped\n");
+    say_count(rt, tally.unmapped, b" of codes that are not in the map");
+    say_count(rt, tally.valueless, b" of values that the line gives none");
+    say_count(rt, tally.kept, b" of elements that keep their value");
+    say_count(rt, tally.left_out, b" of elements that are left out");
+    say_count(rt, tally.repeats, b" of buttons that repeat");
+    say_count(rt, tally.beyond, b" of values that no button or axis has");
+    say_count(
+        rt,
+        tally.refused,
+        b" of codes over the 256 that a pad holds",
+    );
+    say_changes(rt, tally);
 }
 
 // Refused where a value is one that no button or axis has, and where a pad has too many codes.

@@ -5,11 +5,12 @@ use crate::say::{ERR, REFUSED, complain, put, put_code, put_number};
 use crate::shown::complain_shown;
 
 // `refused 21: no room in the index`
-pub fn put_refused(fd: i32, number: usize) {
-    put(fd, b"refused ");
-    put_number(fd, number);
-    put(fd, b": ");
+pub fn put_refused(rt: &HostRuntime, fd: i32, number: usize) {
+    put(rt, fd, b"refused ");
+    put_number(rt, fd, number);
+    put(rt, fd, b": ");
     put(
+        rt,
         fd,
         nth_part(
             b"\nthe first field is no UUID
@@ -45,47 +46,51 @@ more than 256 codes held by a pad",
     );
 }
 
-pub fn put_place(fd: i32, place: usize) {
-    put(fd, b" (place ");
-    put_number(fd, place);
-    put(fd, b")\n");
+pub fn put_place(rt: &HostRuntime, fd: i32, place: usize) {
+    put(rt, fd, b" (place ");
+    put_number(rt, fd, place);
+    put(rt, fd, b")\n");
 }
 
-pub fn refused(number: usize) -> u8 {
-    put_refused(ERR, number);
-    complain(b"\n");
+pub fn refused(rt: &HostRuntime, number: usize) -> u8 {
+    put_refused(rt, ERR, number);
+    complain(rt, b"\n");
     if number == 24 {
         complain(
+            rt,
             b"  name an organiser, party=1 to party=255, or leave party= out: then it is the hall's line\n",
         );
     }
     REFUSED
 }
 
-pub fn refused_at(number: usize, place: usize) -> u8 {
-    put_refused(ERR, number);
-    put_place(ERR, place);
+pub fn refused_at(rt: &HostRuntime, number: usize, place: usize) -> u8 {
+    put_refused(rt, ERR, number);
+    put_place(rt, ERR, place);
     REFUSED
 }
 
-pub fn refused_code(number: usize, code: u32) -> u8 {
-    put_refused(ERR, number);
-    complain(b" (code ");
-    put_code(ERR, code);
-    complain(b")\n");
+pub fn refused_code(rt: &HostRuntime, number: usize, code: u32) -> u8 {
+    put_refused(rt, ERR, number);
+    complain(rt, b" (code ");
+    put_code(rt, ERR, code);
+    complain(rt, b")\n");
     REFUSED
 }
 
-pub fn refused_file(path: &[u8]) -> u8 {
-    put_refused(ERR, 19);
-    complain(b" (");
-    complain_shown(path);
-    complain(b" has not the 131070 bytes of a store file, and is left alone)\n");
+pub fn refused_file(rt: &HostRuntime, path: &[u8]) -> u8 {
+    put_refused(rt, ERR, 19);
+    complain(rt, b" (");
+    complain_shown(rt, path);
+    complain(
+        rt,
+        b" has not the 131070 bytes of a store file, and is left alone)\n",
+    );
     REFUSED
 }
 
 // Nothing was found.
-pub fn none() -> u8 {
-    complain(b"none\n");
+pub fn none(rt: &HostRuntime) -> u8 {
+    complain(rt, b"none\n");
     REFUSED
 }

@@ -97,36 +97,36 @@ fn is_lost(former: Bound, now: Bound, k: usize) -> bool {
 }
 
 // Names the element at `k` if it is no longer bound, after others or as the first; whether one was named.
-fn say_if_lost(former: Bound, now: Bound, k: usize, named: bool) -> bool {
+fn say_if_lost(rt: &HostRuntime, former: Bound, now: Bound, k: usize, named: bool) -> bool {
     if !is_lost(former, now, k) {
         return named;
     }
     if named {
-        say(b", ");
+        say(rt, b", ");
     } else {
-        say(b"no longer bound: ");
+        say(rt, b"no longer bound: ");
     }
-    put_element(OUT, element_at(k));
+    put_element(rt, OUT, element_at(k));
     true
 }
 
-fn say_end(named: bool) {
+fn say_end(rt: &HostRuntime, named: bool) {
     if named {
-        say(b"\n");
+        say(rt, b"\n");
     }
 }
 
 // Names the elements that one line binds, and the line in its place does not.
-pub fn say_lost(former: &[u8], line: &[u8]) {
+pub fn say_lost(rt: &HostRuntime, former: &[u8], line: &[u8]) {
     let had = bound_by(former);
     let has = bound_by(line);
     let mut named = false;
     let mut k: usize = 0;
     while k < ELEMENTS {
-        named = say_if_lost(had, has, k, named);
+        named = say_if_lost(rt, had, has, k, named);
         k += 1;
     }
-    say_end(named);
+    say_end(rt, named);
 }
 
 fn slot_code(slots: MappingData, k: usize) -> SlotCode {

@@ -77,11 +77,11 @@ fn holder(pad: Pad, map: Mapping, element: AxisOrBtn, value: i16) -> u32 {
 }
 
 // `code 30005`
-fn say_holder(play: Play, which: Which, element: AxisOrBtn, value: i16) {
+fn say_holder(rt: &HostRuntime, play: Play, which: Which, element: AxisOrBtn, value: i16) {
     let seat = seat_of(play, which);
     let map = seat.map;
-    say(b"code ");
-    put_code(OUT, holder(pad_of(play, which), map, element, value));
+    say(rt, b"code ");
+    put_code(rt, OUT, holder(pad_of(play, which), map, element, value));
 }
 
 // Whether the pad itself has an element at that value.
@@ -91,32 +91,39 @@ fn is_own(play: Play, which: Which, element: AxisOrBtn, value: i16) -> bool {
 }
 
 // `, held by code 30005`, `, held by pad 2`: nothing for an element at 0.
-pub fn say_held_by(play: Play, which: Which, element: AxisOrBtn, value: i16) {
+pub fn say_held_by(rt: &HostRuntime, play: Play, which: Which, element: AxisOrBtn, value: i16) {
     if value == 0 {
         return;
     }
-    say(b", held by ");
+    say(rt, b", held by ");
     if is_own(play, which, element, value) {
-        say_holder(play, which, element, value);
+        say_holder(rt, play, which, element, value);
     } else {
-        say_beside(which);
+        say_beside(rt, which);
     }
 }
 
 // Why an element does not take a value from a code, where it has another one.
-pub fn say_reason(play: Play, which: Which, element: AxisOrBtn, value: i16, given: i16) {
+pub fn say_reason(
+    rt: &HostRuntime,
+    play: Play,
+    which: Which,
+    element: AxisOrBtn,
+    value: i16,
+    given: i16,
+) {
     let near = distance(given) < distance(value);
     let own = is_own(play, which, element, value);
     if own {
-        say_holder(play, which, element, value);
+        say_holder(rt, play, which, element, value);
     } else {
-        say_beside(which);
+        say_beside(rt, which);
     }
     if near {
-        say(b" holds it farther from zero");
+        say(rt, b" holds it farther from zero");
     } else if own {
-        say(b" holds it as far from zero, and is the smaller code");
+        say(rt, b" holds it as far from zero, and is the smaller code");
     } else {
-        say(b" holds it as far from zero, and is the first pad");
+        say(rt, b" holds it as far from zero, and is the first pad");
     }
 }

@@ -89,78 +89,78 @@ pub fn pad_of(play: Play, which: Which) -> Pad {
 }
 
 // `pad 1`
-pub fn say_which(which: Which) {
+pub fn say_which(rt: &HostRuntime, which: Which) {
     match which {
-        Which::First => say(b"pad 1"),
-        Which::Second => say(b"pad 2"),
+        Which::First => say(rt, b"pad 1"),
+        Which::Second => say(rt, b"pad 2"),
     }
 }
 
 // `pad 2`, for the first one.
-pub fn say_beside(which: Which) {
+pub fn say_beside(rt: &HostRuntime, which: Which) {
     match which {
-        Which::First => say(b"pad 2"),
-        Which::Second => say(b"pad 1"),
+        Which::First => say(rt, b"pad 2"),
+        Which::Second => say(rt, b"pad 1"),
     }
 }
 
 // Whose line it is, where there are two pads.
-pub fn say_pad(play: Play, which: Which) {
+pub fn say_pad(rt: &HostRuntime, play: Play, which: Which) {
     if play.two {
-        say_which(which);
-        say(b": ");
+        say_which(rt, which);
+        say(rt, b": ");
     }
 }
 
 // `South (a) 32767`
-pub fn say_element(element: AxisOrBtn, value: i16) {
-    put_element(OUT, element);
-    say(b" ");
-    put_value(OUT, value);
+pub fn say_element(rt: &HostRuntime, element: AxisOrBtn, value: i16) {
+    put_element(rt, OUT, element);
+    say(rt, b" ");
+    put_value(rt, OUT, value);
 }
 
 // Prints an element that is not at 0; whether all up to it are.
-fn say_moved(pads: Pads, element: AxisOrBtn, at_rest: bool) -> bool {
+fn say_moved(rt: &HostRuntime, pads: Pads, element: AxisOrBtn, at_rest: bool) -> bool {
     let value = pads.value(element);
     if value == 0 {
         return at_rest;
     }
-    say(b"  ");
-    say_element(element, value);
-    say(b"\n");
+    say(rt, b"  ");
+    say_element(rt, element, value);
+    say(rt, b"\n");
     false
 }
 
-fn say_rest(at_rest: bool) {
+fn say_rest(rt: &HostRuntime, at_rest: bool) {
     if at_rest {
-        say(b"  every element is at 0\n");
+        say(rt, b"  every element is at 0\n");
     }
 }
 
 // The elements that are not at 0.
-fn say_values(pads: Pads) {
+fn say_values(rt: &HostRuntime, pads: Pads) {
     let mut at_rest = true;
     let mut k: usize = 0;
     while k < ELEMENTS {
-        at_rest = say_moved(pads, element_at(k), at_rest);
+        at_rest = say_moved(rt, pads, element_at(k), at_rest);
         k += 1;
     }
-    say_rest(at_rest);
+    say_rest(rt, at_rest);
 }
 
 // How many codes are held, and the values of the elements.
-pub fn say_end(play: Play) {
+pub fn say_end(rt: &HostRuntime, play: Play) {
     let pads = play.pads;
     let first = pads.first;
     let second = pads.second;
-    say(b"at the end, with ");
-    say_number(first.count);
-    say(b" codes held");
+    say(rt, b"at the end, with ");
+    say_number(rt, first.count);
+    say(rt, b" codes held");
     if play.two {
-        say(b" by pad 1 and ");
-        say_number(second.count);
-        say(b" by pad 2");
+        say(rt, b" by pad 1 and ");
+        say_number(rt, second.count);
+        say(rt, b" by pad 2");
     }
-    say(b":\n");
-    say_values(pads);
+    say(rt, b":\n");
+    say_values(rt, pads);
 }

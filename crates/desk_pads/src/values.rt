@@ -41,16 +41,16 @@ pub fn axis_value(value: u32) -> AxisValue {
 }
 
 // Four bytes in two's complement, in decimal.
-pub fn put_signed(fd: i32, value: u32) {
+pub fn put_signed(rt: &HostRuntime, fd: i32, value: u32) {
     if value < 0x80000000 {
-        put_number(fd, value as usize);
+        put_number(rt, fd, value as usize);
         return;
     }
-    put(fd, b"-");
-    put_number(fd, std::num::wrapping_sub_u32(0, value) as usize);
+    put(rt, fd, b"-");
+    put_number(rt, fd, std::num::wrapping_sub_u32(0, value) as usize);
 }
 
 // A value, in decimal.
-pub fn put_value(fd: i32, v: i16) {
-    put_signed(fd, std::num::wrapping_sub_u32(biased(v), 32768));
+pub fn put_value(rt: &HostRuntime, fd: i32, v: i16) {
+    put_signed(rt, fd, std::num::wrapping_sub_u32(biased(v), 32768));
 }

@@ -9,34 +9,34 @@ use store::calls::{Answer, clear};
 use text::bytes::same_bytes;
 
 // `hub new STORE`
-pub fn new_store(held: Held, store: &[u8]) -> u8 {
+pub fn new_store(rt: &HostRuntime, held: Held, store: &[u8]) -> u8 {
     if !may_change(held) {
         return TROUBLE;
     }
-    if stands(store) {
-        complain_shown(store);
-        complain(b": the file stands already, and is left alone\n");
+    if stands(rt, store) {
+        complain_shown(rt, store);
+        complain(rt, b": the file stands already, and is left alone\n");
         return TROUBLE;
     }
     let index = half();
     let text = half();
-    let status = place(store, held, &index, &text);
+    let status = place(rt, store, held, &index, &text);
     if status == DONE {
-        say(b"a fresh store: ");
-        say_shown(store);
-        say(b"\n");
+        say(rt, b"a fresh store: ");
+        say_shown(rt, store);
+        say(rt, b"\n");
     }
     status
 }
 
 // `hub clear STORE`
-pub fn clear_store(held: Held, store: &[u8]) -> u8 {
+pub fn clear_store(rt: &HostRuntime, held: Held, store: &[u8]) -> u8 {
     if !may_change(held) {
         return TROUBLE;
     }
     let mut former_index = half();
     let mut former_text = half();
-    let status = load(store, &mut former_index, &mut former_text);
+    let status = load(rt, store, &mut former_index, &mut former_text);
     if status != DONE {
         return status;
     }
@@ -44,17 +44,21 @@ pub fn clear_store(held: Held, store: &[u8]) -> u8 {
     let mut text = former_text;
     let answer = clear(&mut index, &mut text);
     if let Answer::Done = answer {
-        let status = replace(store, held, &former_index, &former_text, &index, &text);
+        let status = replace(rt, store, held, &former_index, &former_text, &index, &text);
         if status == DONE {
-            say(b"cleared: 0 lines held; hub undo brings the former ones back\n");
+            say(
+                rt,
+                b"cleared: 0 lines held; hub undo brings the former ones back\n",
+            );
         }
         return status;
     }
-    refused_outcome(answer.outcome())
+    refused_outcome(rt, answer.outcome())
 }
 
 // The store becomes the one of STORE.old, and STORE.old the one that it was.
 fn swap(
+    rt: &HostRuntime,
     held: Held,
     store: &[u8],
     index: &[u8],
@@ -64,47 +68,50 @@ fn swap(
 ) -> u8 {
     if same_bytes(index, old_index) {
         if same_bytes(text, old_text) {
-            complain(b"STORE.old holds the same as the store; there is nothing to undo.\n");
+            complain(
+                rt,
+                b"STORE.old holds the same as the store; there is nothing to undo.\n",
+            );
             return TROUBLE;
         }
     }
-    let status = replace(store, held, index, text, old_index, old_text);
+    let status = replace(rt, store, held, index, text, old_index, old_text);
     if status == DONE {
-        say(b"undone; hub undo once more takes this back\n");
-        say_store(old_index, old_text, false);
+        say(rt, b"undone; hub undo once more takes this back\n");
+        say_store(rt, old_index, old_text, false);
     }
     status
 }
 
 // Brings STORE.old back where there is no store.
-fn restore(held: Held, store: &[u8], index: &[u8], text: &[u8]) -> u8 {
-    let status = place(store, held, index, text);
+fn restore(rt: &HostRuntime, held: Held, store: &[u8], index: &[u8], text: &[u8]) -> u8 {
+    let status = place(rt, store, held, index, text);
     if status == DONE {
-        say(b"the store was gone, and is STORE.old again\n");
-        say_store(index, text, false);
+        say(rt, b"the store was gone, and is STORE.old again\n");
+        say_store(rt, index, text, false);
     }
     status
 }
 
 // `hub undo STORE`
-pub fn undo(held: Held, store: &[u8]) -> u8 {
+pub fn undo(rt: &HostRuntime, held: Held, store: &[u8]) -> u8 {
     if !may_change(held) {
         return TROUBLE;
     }
     let mut old_index = half();
     let mut old_text = half();
-    let status = load_old(store, &mut old_index, &mut old_text);
+    let status = load_old(rt, store, &mut old_index, &mut old_text);
     if status != DONE {
         return status;
     }
     if !stands(store) {
-        return restore(held, store, &old_index, &old_text);
+        return restore(rt, held, store, &old_index, &old_text);
     }
     let mut index = half();
     let mut text = half();
-    let status = load(store, &mut index, &mut text);
+    let status = load(rt, store, &mut index, &mut text);
     if status != DONE {
         return status;
     }
-    swap(held, store, &index, &text, &old_index, &old_text)
+    swap(rt, held, store, &index, &text, &old_index, &old_text)
 }

@@ -43,62 +43,65 @@ pub struct Room {
     pub index: usize,
 }
 
-pub fn no_uuid(key: &[u8]) -> u8 {
-    complain_shown(key);
-    complain(b": no UUID; it has 32 hexadecimal digits, or 36 characters with hyphens\n");
+pub fn no_uuid(rt: &HostRuntime, key: &[u8]) -> u8 {
+    complain_shown(rt, key);
+    complain(
+        rt,
+        b": no UUID; it has 32 hexadecimal digits, or 36 characters with hyphens\n",
+    );
     TROUBLE
 }
 
-fn say_shown_line(line: &[u8]) -> u8 {
-    say_shown(line);
-    say(b"\n");
+fn say_shown_line(rt: &HostRuntime, line: &[u8]) -> u8 {
+    say_shown(rt, line);
+    say(rt, b"\n");
     DONE
 }
 
 // Prints the line that a party holds under a UUID, or else under that without its checksum.
-pub fn say_line(index: &[u8], text: &[u8], party: Party, id: Uuid) -> u8 {
+pub fn say_line(rt: &HostRuntime, index: &[u8], text: &[u8], party: Party, id: Uuid) -> u8 {
     let look = found_near(index, text, party, id);
     match look {
-        NearLook::Exact => say_shown_line(get_near(index, text, party, id)),
+        NearLook::Exact => say_shown_line(rt, get_near(index, text, party, id)),
         NearLook::Near => {
-            complain_near(id);
-            say_shown_line(get_near(index, text, party, id))
+            complain_near(rt, id);
+            say_shown_line(rt, get_near(index, text, party, id))
         }
-        NearLook::Missing => none(),
-        NearLook::Unsound => refused_outcome(look.outcome()),
-        NearLook::NoOwner => refused_outcome(look.outcome()),
+        NearLook::Missing => none(rt),
+        NearLook::Unsound => refused_outcome(rt, look.outcome()),
+        NearLook::NoOwner => refused_outcome(rt, look.outcome()),
     }
 }
 
-fn find_held(store: &[u8], party: Party, id: Uuid) -> u8 {
+fn find_held(rt: &HostRuntime, store: &[u8], party: Party, id: Uuid) -> u8 {
     let mut index = half();
     let mut text = half();
-    let status = load(store, &mut index, &mut text);
+    let status = load(rt, store, &mut index, &mut text);
     if status != DONE {
         return status;
     }
-    say_line(&index, &text, party, id)
+    say_line(rt, &index, &text, party, id)
 }
 
-fn find_asked(store: &[u8], key: &[u8], caller: Caller) -> u8 {
+fn find_asked(rt: &HostRuntime, store: &[u8], key: &[u8], caller: Caller) -> u8 {
     let party = caller.party;
     let parsed = Uuid::parse_str(key);
     match parsed {
-        UuidParse::Parsed(spelled) => find_held(store, party, spelled.id),
-        UuidParse::Invalid => no_uuid(key),
+        UuidParse::Parsed(spelled) => find_held(rt, store, party, spelled.id),
+        UuidParse::Invalid => no_uuid(rt, key),
     }
 }
 
 // `hub find STORE UUID ..`; the party stands from argument `from` on.
-pub fn find_line(store: &[u8], key: &[u8], from: usize) -> u8 {
-    let caller = caller_named(from);
+pub fn find_line(rt: &HostRuntime, store: &[u8], key: &[u8], from: usize) -> u8 {
+    let caller = caller_named(rt, from);
     if caller.others != 0 {
-        return wrong_use(b"find");
+        return wrong_use(rt, b"find");
     }
     if caller.bad {
         return TROUBLE;
     }
-    find_asked(store, key, caller)
+    find_asked(rt, store, key, caller)
 }
 
 fn word(high: u8, low: u8) -> usize {
@@ -172,20 +175,20 @@ fn record_at(index: &[u8], at: usize) -> Record {
 }
 
 // A line, after its party where that is an organiser.
-fn say_owned(owner: u8, line: &[u8]) {
+fn say_owned(rt: &HostRuntime, owner: u8, line: &[u8]) {
     if owner != 0 {
-        say(b"party ");
-        say_number(owner as usize);
-        say(b": ");
+        say(rt, b"party ");
+        say_number(rt, owner as usize);
+        say(rt, b": ");
     }
-    say_shown(line);
-    say(b"\n");
+    say_shown(rt, line);
+    say(rt, b"\n");
 }
 
 // Prints the line of a record, if it has one.
-fn say_record(record: Record, line: &[u8]) {
+fn say_record(rt: &HostRuntime, record: Record, line: &[u8]) {
     if record.line {
-        say_owned(record.owner, line);
+        say_owned(rt, record.owner, line);
     }
 }
 
@@ -206,7 +209,7 @@ fn with_record(seen: Extent, record: Record) -> Extent {
 }
 
 // Goes through the records of a sound store; `shown`: prints each line.
-fn held(index: &[u8], text: &[u8], shown: bool) -> Extent {
+fn held(rt: &HostRuntime, index: &[u8], text: &[u8], shown: bool) -> Extent {
     let mut seen = Extent {
         shares: 0,
         lines: 0,
@@ -222,7 +225,7 @@ fn held(index: &[u8], text: &[u8], shown: bool) -> Extent {
             return seen;
         }
         if shown {
-            say_record(record, section(text, seen.bytes, record.len));
+            say_record(rt, record, section(text, seen.bytes, record.len));
         }
         seen = with_record(seen, record);
         if index.len() - at < size {
@@ -241,72 +244,72 @@ fn room_beside(held: Extent) -> Room {
 }
 
 // The room of a sound store.
-pub fn room_in(index: &[u8], text: &[u8]) -> Room {
-    room_beside(held(index, text, false))
+pub fn room_in(rt: &HostRuntime, index: &[u8], text: &[u8]) -> Room {
+    room_beside(held(rt, index, text, false))
 }
 
 // The room for lines: the hall's, and an organiser's where one holds any.
-fn say_line_room(owned: usize, room: Room) {
-    say_number(room.index / RECORD);
-    say(b" more lines");
+fn say_line_room(rt: &HostRuntime, owned: usize, room: Room) {
+    say_number(rt, room.index / RECORD);
+    say(rt, b" more lines");
     if owned != 0 {
-        say(b" of the hall or ");
-        say_number(room.index / OWNED_RECORD);
-        say(b" of an organiser");
+        say(rt, b" of the hall or ");
+        say_number(rt, room.index / OWNED_RECORD);
+        say(rt, b" of an organiser");
     }
 }
 
 // The lines held and the room left, of the text that many bytes.
-fn say_held(held: Extent, left: usize) {
+fn say_held(rt: &HostRuntime, held: Extent, left: usize) {
     let room = room_beside(held);
     let owned = held.owned;
-    say_number(held.lines);
-    say(b" lines held, ");
+    say_number(rt, held.lines);
+    say(rt, b" lines held, ");
     if owned != 0 {
-        say_number(owned);
-        say(b" of them organisers', ");
+        say_number(rt, owned);
+        say(rt, b" of them organisers', ");
     }
-    say(b"of ");
-    say_number(held.bytes);
-    say(b" bytes; room for ");
-    say_line_room(owned, room);
-    say(b" and ");
-    say_number(left);
-    say(b" more bytes");
+    say(rt, b"of ");
+    say_number(rt, held.bytes);
+    say(rt, b" bytes; room for ");
+    say_line_room(rt, owned, room);
+    say(rt, b" and ");
+    say_number(rt, left);
+    say(rt, b" more bytes");
 }
 
 // The same, and where a share is set what the parties claim.
-fn say_extent(held: Extent, index: &[u8], text: &[u8]) {
+fn say_extent(rt: &HostRuntime, held: Extent, index: &[u8], text: &[u8]) {
     if held.shares == 0 {
-        say_held(held, less(HALF, held.bytes));
-        say(b"\n");
+        say_held(rt, held, less(HALF, held.bytes));
+        say(rt, b"\n");
         return;
     }
-    let claims = claims_in(index, text);
-    say_held(held, less(HALF, claims.bytes));
-    say(b" beside the parties' shares\n");
-    put_sum(OUT, claims);
+    let claims = claims_in(rt, index, text);
+    say_held(rt, held, less(HALF, claims.bytes));
+    say(rt, b" beside the parties' shares\n");
+    put_sum(rt, OUT, claims);
 }
 
-pub fn say_store(index: &[u8], text: &[u8], shown: bool) -> u8 {
+pub fn say_store(rt: &HostRuntime, index: &[u8], text: &[u8], shown: bool) -> u8 {
     let looked = found(index, text, Party::Hall, Uuid::NIL).outcome();
     if let LookOutcome::CannotLook(refusal) = looked {
-        return refused_by(refusal);
+        return refused_by(rt, refusal);
     }
     if !shown {
-        say(b"sound: ");
+        say(rt, b"sound: ");
     }
-    say_extent(held(index, text, shown), index, text);
+    say_extent(rt, held(rt, index, text, shown), index, text);
     DONE
 }
 
 // `hub list STORE` where the lines are shown, `hub check STORE` where not.
-pub fn list_store(store: &[u8], shown: bool) -> u8 {
+pub fn list_store(rt: &HostRuntime, store: &[u8], shown: bool) -> u8 {
     let mut index = half();
     let mut text = half();
-    let status = load(store, &mut index, &mut text);
+    let status = load(rt, store, &mut index, &mut text);
     if status != DONE {
         return status;
     }
-    say_store(&index, &text, shown)
+    say_store(rt, &index, &text, shown)
 }

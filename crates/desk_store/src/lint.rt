@@ -34,43 +34,43 @@ fn with_refused(tally: Tally) -> Tally {
     next
 }
 
-fn say_line_number(number: usize) {
-    say(b"line ");
-    say_number(number);
-    say(b": ");
+fn say_line_number(rt: &HostRuntime, number: usize) {
+    say(rt, b"line ");
+    say_number(rt, number);
+    say(rt, b": ");
 }
 
 // A line whose first field is refused, or that is not UTF-8.
-fn with_first(tally: Tally, e: Error, line: &[u8]) -> Tally {
+fn with_first(rt: &HostRuntime, tally: Tally, e: Error, line: &[u8]) -> Tally {
     if tally.refused < SHOWN {
-        say_line_number(tally.lines);
-        put_first_refused(OUT, e, line);
+        say_line_number(rt, tally.lines);
+        put_first_refused(rt, OUT, e, line);
     }
     with_refused(tally)
 }
 
-fn with_reading(tally: Tally, e: ParseSdlMappingError, line: &[u8]) -> Tally {
+fn with_reading(rt: &HostRuntime, tally: Tally, e: ParseSdlMappingError, line: &[u8]) -> Tally {
     if tally.refused < SHOWN {
-        say_line_number(tally.lines);
-        put_reading_refused(OUT, e, line);
+        say_line_number(rt, tally.lines);
+        put_reading_refused(rt, OUT, e, line);
     }
     with_refused(tally)
 }
 
 // A line that an insert refuses with 20.
-fn with_long(tally: Tally, line: &[u8]) -> Tally {
+fn with_long(rt: &HostRuntime, tally: Tally, line: &[u8]) -> Tally {
     if tally.refused < SHOWN {
-        say_line_number(tally.lines);
-        put_refused(OUT, 20);
-        say(b": it has ");
-        say_number(line.len());
-        say(b"\n");
+        say_line_number(rt, tally.lines);
+        put_refused(rt, OUT, 20);
+        say(rt, b": it has ");
+        say_number(rt, line.len());
+        say(rt, b"\n");
     }
     with_refused(tally)
 }
 
 // A line that can be read: whether an insert files it.
-fn with_readable(tally: Tally, line: &[u8]) -> Tally {
+fn with_readable(rt: &HostRuntime, tally: Tally, line: &[u8]) -> Tally {
     let mut next = tally;
     let kind = kind_of(line);
     match kind {
@@ -89,7 +89,7 @@ fn with_readable(tally: Tally, line: &[u8]) -> Tally {
             next.elsewhere = wrapping_add_usize(tally.elsewhere, 1);
         }
         LineKind::TooLong => {
-            next = with_long(tally, line);
+            next = with_long(rt, tally, line);
         }
         LineKind::Wanted => {}
     }
@@ -97,32 +97,32 @@ fn with_readable(tally: Tally, line: &[u8]) -> Tally {
 }
 
 // A line that an insert files, readable or not, whose UUID is in another form than 32 digits.
-fn with_form(tally: Tally, line: &[u8]) -> Tally {
+fn with_form(rt: &HostRuntime, tally: Tally, line: &[u8]) -> Tally {
     let mut next = tally;
     if !has_other_form(line) {
         return next;
     }
     let kind = kind_of(line);
     if let LineKind::Wanted = kind {
-        say_line_number(tally.lines);
-        say_form(line);
+        say_line_number(rt, tally.lines);
+        say_form(rt, line);
         next.other_forms = wrapping_add_usize(tally.other_forms, 1);
     }
     next
 }
 
-fn with_read(tally: Tally, line: &[u8]) -> Tally {
+fn with_read(rt: &HostRuntime, tally: Tally, line: &[u8]) -> Tally {
     let none = [0u32; 1];
     let codes = first_codes(&none, 0);
     let reading = parse_sdl_mapping(line, codes, codes);
     let answer = reading.answer;
     match answer {
-        SdlAnswer::Accepted => with_readable(tally, line),
-        SdlAnswer::Refused(e) => with_reading(tally, e, line),
+        SdlAnswer::Accepted => with_readable(rt, tally, line),
+        SdlAnswer::Refused(e) => with_reading(rt, tally, e, line),
     }
 }
 
-fn with_line(tally: Tally, line: &[u8]) -> Tally {
+fn with_line(rt: &HostRuntime, tally: Tally, line: &[u8]) -> Tally {
     let mut next = tally;
     next.lines = wrapping_add_usize(tally.lines, 1);
     if line.len() == 0 {
@@ -132,56 +132,58 @@ fn with_line(tally: Tally, line: &[u8]) -> Tally {
         next.comments = wrapping_add_usize(tally.comments, 1);
         return next;
     }
-    next = with_form(next, line);
+    next = with_form(rt, next, line);
     let token = first_token(line);
     match token {
-        Answer::Found(_) => with_read(next, line),
-        Answer::Refused(e) => with_first(next, e, line),
+        Answer::Found(_) => with_read(rt, next, line),
+        Answer::Refused(e) => with_first(rt, next, e, line),
         Answer::End => next,
     }
 }
 
-fn say_passed(n: usize, words: &[u8], number: usize) {
+fn say_passed(rt: &HostRuntime, n: usize, words: &[u8], number: usize) {
     if n == 0 {
         return;
     }
-    say(b"  an insert passes over ");
-    say_number(n);
-    say(words);
-    say(b"; the first is line ");
-    say_number(number);
-    say(b"\n");
+    say(rt, b"  an insert passes over ");
+    say_number(rt, n);
+    say(rt, words);
+    say(rt, b"; the first is line ");
+    say_number(rt, number);
+    say(rt, b"\n");
 }
 
-fn say_tally(tally: Tally) -> u8 {
+fn say_tally(rt: &HostRuntime, tally: Tally) -> u8 {
     if SHOWN < tally.refused {
-        say_number(less(tally.refused, SHOWN));
-        say(b" more refused lines are not shown\n");
+        say_number(rt, less(tally.refused, SHOWN));
+        say(rt, b" more refused lines are not shown\n");
     }
-    say_number(tally.lines);
-    say(b" lines, ");
-    say_number(tally.comments);
-    say(b" comments, ");
-    say_number(tally.refused);
-    say(b" refused\n");
+    say_number(rt, tally.lines);
+    say(rt, b" lines, ");
+    say_number(rt, tally.comments);
+    say(rt, b" comments, ");
+    say_number(rt, tally.refused);
+    say(rt, b" refused\n");
     say_passed(
+        rt,
         tally.elsewhere,
         b" for other platforms",
         tally.first_elsewhere,
     );
     say_passed(
+        rt,
         tally.no_uuid,
         b" whose first field is no UUID but xinput",
         tally.first_no_uuid,
     );
-    say_other_forms(tally.other_forms);
+    say_other_forms(rt, tally.other_forms);
     if tally.refused == 0 {
         return DONE;
     }
     REFUSED
 }
 
-fn lint_text(list: &[u8]) -> u8 {
+fn lint_text(rt: &HostRuntime, list: &[u8]) -> u8 {
     let mut tally = Tally {
         lines: 0,
         comments: 0,
@@ -194,17 +196,17 @@ fn lint_text(list: &[u8]) -> u8 {
     };
     let mut at: usize = 0;
     while at < list.len() {
-        tally = with_line(tally, bare(line_at(list, at)));
+        tally = with_line(rt, tally, bare(line_at(list, at)));
         at = after_part(list, at, b'\n');
     }
-    say_tally(tally)
+    say_tally(rt, tally)
 }
 
 // `hub lint FILE`
-pub fn lint_list(path: &[u8]) -> u8 {
+pub fn lint_list(rt: &HostRuntime, path: &[u8]) -> u8 {
     let mut space = list_space();
-    match read_list(path, &mut space) {
-        List::Read(n) => lint_text(first(&space, n)),
+    match read_list(rt, path, &mut space) {
+        List::Read(n) => lint_text(rt, first(&space, n)),
         List::Failed => TROUBLE,
     }
 }

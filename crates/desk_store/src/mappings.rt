@@ -26,12 +26,12 @@ pub struct Request {
     pub anyway: bool,
 }
 
-pub fn asked_from(from: usize) -> Request {
-    let buttons = codes_named(b"buttons", KEY, from);
-    let axes = codes_named(b"axes", ABS, from);
-    let slots = slots_named(from);
-    let caller = caller_named(from);
-    let anyway = has_word(b"anyway", from);
+pub fn asked_from(rt: &HostRuntime, from: usize) -> Request {
+    let buttons = codes_named(rt, b"buttons", KEY, from);
+    let axes = codes_named(rt, b"axes", ABS, from);
+    let slots = slots_named(rt, from);
+    let caller = caller_named(rt, from);
+    let anyway = has_word(rt, b"anyway", from);
     Request {
         buttons,
         axes,
@@ -64,19 +64,22 @@ fn has_no_slots(asked: Request) -> bool {
 }
 
 // Whether they are what show takes.
-fn may_show(asked: Request) -> bool {
+fn may_show(rt: &HostRuntime, asked: Request) -> bool {
     if !is_good(asked) {
         return false;
     }
     if has_no_slots(asked) {
         return true;
     }
-    complain(b"here the arguments are buttons=.., axes=.. and party=.. only\n");
+    complain(
+        rt,
+        b"here the arguments are buttons=.., axes=.. and party=.. only\n",
+    );
     false
 }
 
 // Whether they are lists only.
-fn has_lists_only(asked: Request) -> bool {
+fn has_lists_only(rt: &HostRuntime, asked: Request) -> bool {
     if !is_good(asked) {
         return false;
     }
@@ -85,67 +88,68 @@ fn has_lists_only(asked: Request) -> bool {
             return true;
         }
     }
-    complain(b"here the arguments are buttons=.. and axes=.. only\n");
+    complain(rt, b"here the arguments are buttons=.. and axes=.. only\n");
     false
 }
 
 // Prints a line, and its map by the lists.
-fn show_line(line: &[u8], asked: Request) -> u8 {
-    say_shown(line);
-    say(b"\n");
+fn show_line(rt: &HostRuntime, line: &[u8], asked: Request) -> u8 {
+    say_shown(rt, line);
+    say(rt, b"\n");
     let buttons = asked.buttons;
     let button_list = buttons.list;
     let axes = asked.axes;
     let axis_list = axes.list;
     say_reading(
+        rt,
         line,
         first_codes(&button_list, buttons.len),
         first_codes(&axis_list, axes.len),
     )
 }
 
-fn show_held(index: &[u8], text: &[u8], id: Uuid, asked: Request) -> u8 {
+fn show_held(rt: &HostRuntime, index: &[u8], text: &[u8], id: Uuid, asked: Request) -> u8 {
     let caller = asked.caller;
     let party = caller.party;
     let look = found_near(index, text, party, id);
     match look {
-        NearLook::Exact => show_line(get_near(index, text, party, id), asked),
+        NearLook::Exact => show_line(rt, get_near(index, text, party, id), asked),
         NearLook::Near => {
-            complain_near(id);
-            show_line(get_near(index, text, party, id), asked)
+            complain_near(rt, id);
+            show_line(rt, get_near(index, text, party, id), asked)
         }
-        NearLook::Missing => none(),
-        NearLook::Unsound => refused_outcome(look.outcome()),
-        NearLook::NoOwner => refused_outcome(look.outcome()),
+        NearLook::Missing => none(rt),
+        NearLook::Unsound => refused_outcome(rt, look.outcome()),
+        NearLook::NoOwner => refused_outcome(rt, look.outcome()),
     }
 }
 
-fn show_request(store: &[u8], id: Uuid, asked: Request) -> u8 {
+fn show_request(rt: &HostRuntime, store: &[u8], id: Uuid, asked: Request) -> u8 {
     let mut index = half();
     let mut text = half();
-    let status = load(store, &mut index, &mut text);
+    let status = load(rt, store, &mut index, &mut text);
     if status != DONE {
         return status;
     }
-    show_held(&index, &text, id, asked)
+    show_held(rt, &index, &text, id, asked)
 }
 
 // `hub show STORE UUID ..`; the lists stand from argument `from` on.
-pub fn show_mapping(store: &[u8], key: &[u8], from: usize) -> u8 {
-    let asked = asked_from(from);
+pub fn show_mapping(rt: &HostRuntime, store: &[u8], key: &[u8], from: usize) -> u8 {
+    let asked = asked_from(rt, from);
     if !may_show(asked) {
         return TROUBLE;
     }
     let parsed = Uuid::parse_str(key);
     match parsed {
-        UuidParse::Parsed(spelled) => show_request(store, spelled.id, asked),
-        UuidParse::Invalid => no_uuid(key),
+        UuidParse::Parsed(spelled) => show_request(rt, store, spelled.id, asked),
+        UuidParse::Invalid => no_uuid(rt, key),
     }
 }
 
 // `hub default ..`
-pub fn default_mapping(from: usize) -> u8 {
-    let asked = asked_from(from);
+pub fn default_mapping(rt: &HostRuntime, from: usize) -> u8 {
+    let asked = asked_from(rt, from);
     if !has_lists_only(asked) {
         return TROUBLE;
     }
@@ -160,7 +164,7 @@ pub fn default_mapping(from: usize) -> u8 {
     let answer = made.answer;
     let map = made.map;
     match answer {
-        MappingAnswer::Accepted => say_map(map, b""),
-        MappingAnswer::Refused(e) => refused_by(e.refusal()),
+        MappingAnswer::Accepted => say_map(rt, map, b""),
+        MappingAnswer::Refused(e) => refused_by(rt, e.refusal()),
     }
 }
