@@ -163,6 +163,14 @@ def turn_body(body, fn, place, binder, said, where):
                 body = body[: m.start()] + body[m.end() :]
                 again = True
                 break
+    # let X = c.before.x.given in: what an arm gives is named by its parts now
+    given = re.compile(r"let (" + NAME + r") = (" + NAME + r"(?:\.before)*\.[^\s(){}\[\],;.@\"]+\.given(?:\.\d)*) in\s*")
+    while True:
+        m = given.search(body)
+        if not m:
+            break
+        body = body[: m.start()] + body[m.end() :]
+        body = re.sub(r"(?<![\w.'-])" + re.escape(m.group(1)) + r"(?![\w'-])", lambda _: m.group(2), body)
     names = "|".join(re.escape(a) for a in sorted(alias, key=len, reverse=True))
     path = re.compile(r"(?<![\w.'-])(" + names + r")((?:\.before)*)((?:\.[^\s(){}\[\],;.@\"]+)*)(?![\w'-])")
 
@@ -188,6 +196,8 @@ def turn_body(body, fn, place, binder, said, where):
         return f"{binder}.{step}{more}"
 
     body = path.sub(one, body)
+    for x in set(re.findall(r"let (" + NAME + r") = c\.", body)):
+        body = re.sub(r"(?<![\w.'-])" + re.escape(x) + r"((?:\.[^\s(){}\[\],;.@\"]+)+)", lambda m: x + underscored(m.group(1)), body)
     return body
 
 
@@ -315,7 +325,7 @@ def convert(path, data, crate, sub, said):
             params = [q for q in m.group(1).split() if q != "κs"]
             binder = params[0] if params else "c"
             body = body[m.end() :]
-            if PLAIN.match(re.sub(r"\s+", " ", body).strip()):
+            if PLAIN.match(re.sub(r"\s+", " ", body).strip()) and not lead:
                 kept_plain += 1
                 continue
             if "well-formed" in body and re.match(r"\s*(let .*? in\s*)*omega", body, re.S):
@@ -329,9 +339,11 @@ def convert(path, data, crate, sub, said):
             if new.startswith("shape_of") and re.match(r"c\.[^\s]+\.auto\.\d+$", body):
                 kept_plain += 1
                 continue
-            if PLAIN.match(re.sub(r"\s+", " ", body).strip()):
+            if PLAIN.match(re.sub(r"\s+", " ", body).strip()) and not lead:
                 kept_plain += 1
                 continue
+            for a, b in fn.renamed.items():
+                body = re.sub(r"(?<![\w'-])(\w[\w-]*)\." + re.escape(a) + r"(?![\w'-])", r"\1." + b, body)
             one = "\n" not in body and len(new) + len(body) < 100
             ans.append((it["comment"], f"pub {new} : goal.{new}\n{lead}{new} {binder} =" + (" " + body if one else "\n    " + body)))
             continue

@@ -10,7 +10,7 @@ use mathlib.Core.Bool.{false}
 use lib.IntN.{pos}
 use Rattle.text.specs.declared.uuid.Uuid.{Uuid}
 use Rattle.line.specs.declared.mapping.Entry.{Entry}
-use Rattle.line.specs.Maps.{CODES_MAX, MapView, unused_entry, to_map, empty_view, empty_map}
+use Rattle.line.specs.Maps.{codes_max, MapView, unused_entry, to_map, empty_view, empty_map}
 use Rattle.line.proofs.ViewLaws.{drop-replicate}
 use Rattle.map.specs.declared.error.MappingAnswer.{MappingAnswer}
 use Rattle.map.specs.declared.error.MappingAnswer.TheVariants.{Accepted, Refused}
@@ -73,18 +73,18 @@ map-append [] ys = refl
 map-append (x ∷ xs) ys = ap (λ (r : List FlatEntry). flat_entry x ∷ r) (map-append xs ys)
 
 pub laid_first : (n : ℕ) (xs : List Entry) → Unused n xs
-    → map flat_entry (take n xs) ++ drop n (replicate CODES_MAX flat_unused) ≡ map flat_entry xs
+    → map flat_entry (take n xs) ++ drop n (replicate codes_max flat_unused) ≡ map flat_entry xs
 laid_first n xs h =
-    let e : map flat_entry (drop n xs) ≡ drop n (replicate CODES_MAX flat_unused) =
-    ap (λ (r : List Entry). map flat_entry r) h.1 ∙ map-replicate (CODES_MAX - n)
-    ∙ sym (drop-replicate n CODES_MAX flat_unused) in
+    let e : map flat_entry (drop n xs) ≡ drop n (replicate codes_max flat_unused) =
+    ap (λ (r : List Entry). map flat_entry r) h.1 ∙ map-replicate (codes_max - n)
+    ∙ sym (drop-replicate n codes_max flat_unused) in
     ap (λ (r : List FlatEntry). map flat_entry (take n xs) ++ r) (sym e) ∙ sym (map-append (take n xs) (drop n xs))
     ∙ ap (λ (r : List Entry). map flat_entry r) (take-append-drop n xs)
 
 -- ---- a map that was made of its entries has nothing after them
-pub made_unused : (v : MapView) → length v.list ≤ CODES_MAX → Unused (to_map v).count (to_map v).entries
+pub made_unused : (v : MapView) → length v.list ≤ codes_max → Unused (to_map v).count (to_map v).entries
 unfolding to_map
-made_unused v h = (h, drop-append_seam v.list (replicate (CODES_MAX - length v.list) unused_entry))
+made_unused v h = (h, drop-append_seam v.list (replicate (codes_max - length v.list) unused_entry))
 
 pub built_unused : (d : MappingData) (buttons axes name : List ℕ) (uuid : Uuid) (room : ℕ)
     → Unused (build_of d buttons axes name uuid room).map.count (build_of d buttons axes name uuid room).map.entries

@@ -26,7 +26,7 @@ use Rattle.line.specs.declared.reading.SdlAnswer.{SdlAnswer}
 use Rattle.line.specs.declared.reading.SdlAnswer.TheVariants.{Accepted, Refused}
 use Rattle.line.specs.declared.reading.SdlMapping.{SdlMapping}
 use Rattle.line.specs.Fields.{fields_of, first_field}
-use Rattle.line.specs.Maps.{CODES_MAX, unused_entry, to_map, empty_view, empty_map, held, put_entry, with_entries, put_of}
+use Rattle.line.specs.Maps.{codes_max, unused_entry, to_map, empty_view, empty_map, held, put_entry, with_entries, put_of}
 use Rattle.line.specs.Pairs.{pair_of}
 use Rattle.line.specs.Puts.{puts_of}
 use Rattle.line.specs.Reading.{accepted_of, refused_of, refuses, follow, with_name, with_hat, stored_at, put_one, then_put}
@@ -40,24 +40,24 @@ use Rattle.exports.proofs.FlatLaws.{made_unused}
 
 pub record Tidy (m : Mapping) : Type 0 where
   pub unused : Unused m.count m.entries
-  pub long : length m.entries ≡ CODES_MAX
+  pub long : length m.entries ≡ codes_max
 
 tidy_empty : Tidy empty_map
 unfolding empty_map to_map
-tidy_empty = record { unused = made_unused empty_view (omega arith); long = length-replicate CODES_MAX unused_entry }
+tidy_empty = record { unused = made_unused empty_view (omega arith); long = length-replicate codes_max unused_entry }
 
 -- ---- a put
-tidy_with : (m : Mapping) (es : List Entry) → Tidy m → m.count ≤ length es → length es ≤ CODES_MAX
+tidy_with : (m : Mapping) (es : List Entry) → Tidy m → m.count ≤ length es → length es ≤ codes_max
     → Tidy (with_entries m es)
 tidy_with m es t h l =
     let n = length es in
     let k = length es - m.count in
     let a : m.count + k ≡ n = omega arith in
-    let b : CODES_MAX - m.count - k ≡ CODES_MAX - n = omega arith in
-    let d : drop (m.count + k) m.entries ≡ replicate (CODES_MAX - m.count - k) unused_entry =
+    let b : codes_max - m.count - k ≡ codes_max - n = omega arith in
+    let d : drop (m.count + k) m.entries ≡ replicate (codes_max - m.count - k) unused_entry =
     sym (drop-drop k m.count m.entries) ∙ ap (λ (xs : List Entry). drop k xs) t.unused.1
-    ∙ drop-replicate k (CODES_MAX - m.count) unused_entry in
-    let e : drop n m.entries ≡ replicate (CODES_MAX - n) unused_entry = rw (a, b) at d in
+    ∙ drop-replicate k (codes_max - m.count) unused_entry in
+    let e : drop n m.entries ≡ replicate (codes_max - n) unused_entry = rw (a, b) at d in
     record {
       unused = (l, drop-append_seam es (drop n m.entries) ∙ e);
       long = omega (arith, length-append es (drop n m.entries), length-drop n m.entries, t.long);
@@ -65,9 +65,9 @@ tidy_with m es t h l =
 
 tidy_put : (m : Mapping) (e : Entry) → Tidy m → Tidy (put_of m e).map
 unfolding put_of
-tidy_put m e t = by (leb (length (put_entry e (held m))) CODES_MAX) refl
+tidy_put m e t = by (leb (length (put_entry e (held m))) codes_max) refl
   where
-    by : (b : Bool) → leb (length (put_entry e (held m))) CODES_MAX ≡ b
+    by : (b : Bool) → leb (length (put_entry e (held m))) codes_max ≡ b
         → Tidy (pick {A = PutAnswer} b (record { answer = Stored; map = with_entries m (put_entry e (held m)) })
         (record { answer = Full; map = m })).map
     by true q =
@@ -77,7 +77,7 @@ tidy_put m e t = by (leb (length (put_entry e (held m))) CODES_MAX) refl
           put_grows e (held m),
           length-take-le m.count m.entries (omega (arith, t.unused.0, t.long)),
         ))
-        (leb-true (length (put_entry e (held m))) CODES_MAX q)
+        (leb-true (length (put_entry e (held m))) codes_max q)
     by false q = t
 
 -- ---- a field

@@ -9,13 +9,13 @@ use Rattle.exports.specs.declared.flat.FlatElement.{FlatElement}
 use Rattle.exports.specs.Flat.{element_of}
 
 -- an element as one number: a button's, or that of an axis counted from here
-abbrev pub AXES_FROM : ℕ
-AXES_FROM = 65536
+abbrev pub axes_from : ℕ
+axes_from = 65536
 
 unfoldable pub listed_element : ℕ → FlatElement
 listed_element x =
-    pick (ltb x AXES_FROM) (record { is_axis = false; number = x })
-    (record { is_axis = true; number = x % AXES_FROM })
+    pick (ltb x axes_from) (record { is_axis = false; number = x })
+    (record { is_axis = true; number = x % axes_from })
 
 -- the entries that two lists make, as many as the shorter one has
 unfoldable pub listed_entries : List ℕ → List ℕ → List Entry

@@ -16,7 +16,7 @@ use Rattle.line.specs.declared.tables.KeyElement.TheVariants as Ke
 use Rattle.line.specs.declared.tables.Ident.{Ident}
 use Rattle.line.specs.declared.reading.SdlMapping.{SdlMapping}
 use Rattle.line.specs.Elements.{code_of}
-use Rattle.line.specs.Maps.{CODES_MAX, ranged_entry, unused_entry}
+use Rattle.line.specs.Maps.{codes_max, ranged_entry, unused_entry}
 use Rattle.line.specs.Refusals.{put_outcome, reading_outcome}
 use Rattle.exports.specs.declared.flat.FlatElement.{FlatElement}
 use Rattle.exports.specs.declared.flat_mapping.FlatEntry.{FlatEntry}
@@ -61,7 +61,7 @@ flat_mapping m =
 
 -- from n on the entries of a map are unused: what a private function needs
 abbrev pub Unused : ℕ → List Entry → Type 0
-Unused n es = (n ≤ CODES_MAX) × (drop n es ≡ replicate (CODES_MAX - n) unused_entry)
+Unused n es = (n ≤ codes_max) × (drop n es ≡ replicate (codes_max - n) unused_entry)
 
 unfoldable pub mapping_in : FlatMapping → Mapping
 mapping_in m =

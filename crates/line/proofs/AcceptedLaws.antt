@@ -28,7 +28,7 @@ use Rattle.line.specs.declared.reading.SdlAnswer.{SdlAnswer}
 use Rattle.line.specs.declared.reading.SdlAnswer.TheVariants.{Accepted, Refused}
 use Rattle.line.specs.declared.reading.SdlMapping.{SdlMapping}
 use Rattle.line.specs.Elements.{code_of}
-use Rattle.line.specs.Maps.{CODES_MAX, MapView, ranged_entry, to_map, put_entry, puts_into}
+use Rattle.line.specs.Maps.{codes_max, MapView, ranged_entry, to_map, put_entry, puts_into}
 use Rattle.line.specs.Pairs.{pair_of}
 use Rattle.line.specs.Puts.{listed, hat_codes, dpad_axis, beside_of, dpad_puts, codes_puts, hat_puts, puts_of}
 use Rattle.line.specs.Refusals.{refusal_at}
@@ -65,15 +65,15 @@ module _ (v : MapView) (e : Entry) (p : ℕ) where
   abbrev many : ℕ
   many = length (put_entry e v.list)
 
-  pub one_over : leb many CODES_MAX ≡ false → put_one (to_map v) e p ≡ refuses (refusal_at 11 p)
+  pub one_over : leb many codes_max ≡ false → put_one (to_map v) e p ≡ refuses (refusal_at 11 p)
   unfolding put_one
   one_over b = rw (put_to_map v e, b)
 
-  one_accepted : (put_one (to_map v) e p).answer ≡ Accepted → many ≤ CODES_MAX
-  one_accepted a = by (leb many CODES_MAX) refl
+  one_accepted : (put_one (to_map v) e p).answer ≡ Accepted → many ≤ codes_max
+  one_accepted a = by (leb many codes_max) refl
     where
-      by : (t : Bool) → leb many CODES_MAX ≡ t → many ≤ CODES_MAX
-      by true b = leb-true many CODES_MAX b
+      by : (t : Bool) → leb many codes_max ≡ t → many ≤ codes_max
+      by true b = leb-true many codes_max b
       by false b = refused_not (Pe.TooManyCodes p) (rw (one_over b) at a)
 
 -- ---- the puts of a pair, none of which is a name
@@ -86,17 +86,17 @@ NotName UnknownHatDirection = Unit {0}
 
 module _ (v : MapView) (p : ℕ) where
   two_accepted : (e f : Entry) → (then_put (put_one (to_map v) e p) f p).answer ≡ Accepted
-      → length (put_entry f (put_entry e v.list)) ≤ CODES_MAX
-  two_accepted e f a = by (leb (many v e p) CODES_MAX) refl
+      → length (put_entry f (put_entry e v.list)) ≤ codes_max
+  two_accepted e f a = by (leb (many v e p) codes_max) refl
     where
-      by : (t : Bool) → leb (many v e p) CODES_MAX ≡ t → length (put_entry f (put_entry e v.list)) ≤ CODES_MAX
+      by : (t : Bool) → leb (many v e p) codes_max ≡ t → length (put_entry f (put_entry e v.list)) ≤ codes_max
       by true b =
-          let fits = one_fits v e p (leb-true (many v e p) CODES_MAX b) in
+          let fits = one_fits v e p (leb-true (many v e p) codes_max b) in
           one_accepted (with v (put_entry e v.list)) f p (rw fits at a)
       by false b = refused_not (Pe.TooManyCodes p) (rw (one_over v e p b) at a)
 
-  puts_accepted : (x : Puts) → NotName x → length v.list ≤ CODES_MAX → (put_all (to_map v) x p).answer ≡ Accepted
-      → ((puts_effect x).goes ≡ true) × (length (puts_into (puts_effect x).puts v.list) ≤ CODES_MAX)
+  puts_accepted : (x : Puts) → NotName x → length v.list ≤ codes_max → (put_all (to_map v) x p).answer ≡ Accepted
+      → ((puts_effect x).goes ≡ true) × (length (puts_into (puts_effect x).puts v.list) ≤ codes_max)
   unfolding puts_into NotName
   puts_accepted Nothing n h a = (refl, h)
   puts_accepted (Name start len) n h a = absurd n
@@ -139,12 +139,12 @@ unfolding hat_puts
 hat_unnamed h d to r = picked NotName (eqb h 0) (codes_unnamed (hat_codes d) to r) nothing_unnamed
 
 -- ---- what the walker answers for a pair
-none_fits : (v : MapView) → length v.list ≤ CODES_MAX → length (puts_into [] v.list) ≤ CODES_MAX
+none_fits : (v : MapView) → length v.list ≤ codes_max → length (puts_into [] v.list) ≤ codes_max
 unfolding puts_into
 none_fits v h = h
 
 module _ (v : MapView) (p q : ℕ) (buttons axes : List ℕ) where
-  taken_accepted : (a : Answer) → PairAnswer a → length v.list ≤ CODES_MAX
+  taken_accepted : (a : Answer) → PairAnswer a → length v.list ≤ codes_max
       → (taken (to_map v) a p q buttons axes).answer ≡ Accepted
       → ((answer_effect a buttons axes).goes ≡ true) × Fits v p q buttons axes a
   unfolding taken answer_effect puts_of PairAnswer
@@ -161,25 +161,25 @@ module _ (v : MapView) (p q : ℕ) (buttons axes : List ℕ) where
     where
       passed : (t : Bool) → (pick t (accepted_of (to_map v)) (refused_of (Pe.ParseError e))).answer ≡ Accepted
           → ((pick t (does [] []) stops).goes ≡ true)
-          × (length (puts_into (pick t (does [] []) stops).puts v.list) ≤ CODES_MAX)
+          × (length (puts_into (pick t (does [] []) stops).puts v.list) ≤ codes_max)
       passed true b = (refl, none_fits v h)
       passed false b = refused_not (Pe.ParseError e) b
   taken_accepted An.End n h a = (refl, none_fits v h)
 
 -- ---- pairs in line order
 module _ (buttons axes : List ℕ) where
-  pub pair_accepted : (f : List ℕ) (p q : ℕ) (v : MapView) → length v.list ≤ CODES_MAX
+  pub pair_accepted : (f : List ℕ) (p q : ℕ) (v : MapView) → length v.list ≤ codes_max
       → (taken (to_map v) (pair_of f p) p q buttons axes).answer ≡ Accepted
       → ((effect_of f buttons axes).goes ≡ true)
-      × (length (puts_into (effect_of f buttons axes).puts v.list) ≤ CODES_MAX)
+      × (length (puts_into (effect_of f buttons axes).puts v.list) ≤ codes_max)
   pair_accepted f p q v h a =
       let e = pair_anywhere buttons axes f p 0 in
       rw e at (taken_accepted v p q buttons axes (pair_of f p) (pair_answer f p) h a)
 
   -- `pairs_fit` the other way round
-  pub pairs_accepted : (fs : List (List ℕ)) (p : ℕ) (v : MapView) → length v.list ≤ CODES_MAX
+  pub pairs_accepted : (fs : List (List ℕ)) (p : ℕ) (v : MapView) → length v.list ≤ codes_max
       → (pairs_from p fs (to_map v) buttons axes).answer ≡ Accepted
-      → AllGo fs buttons axes × (length (puts_into (entries_of fs buttons axes) v.list) ≤ CODES_MAX)
+      → AllGo fs buttons axes × (length (puts_into (entries_of fs buttons axes) v.list) ≤ codes_max)
   unfolding pairs_from AllGo entries_of
   pairs_accepted [] p v h a = (tt, none_fits v h)
   pairs_accepted (f ∷ fs) p v h a =

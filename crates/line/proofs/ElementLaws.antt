@@ -9,7 +9,7 @@ use lib.Dec.{T, leb, eqb, eqb→eq}
 use lib.ListN.{get_or}
 use Rattle.text.specs.Bytes.{pick}
 use Rattle.line.specs.declared.ev.Code.{Code}
-use Rattle.line.specs.Elements.{BUTTON_LAST, code_of, button_code, counted_of}
+use Rattle.line.specs.Elements.{button_last, code_of, button_code, counted_of}
 use Rattle.line.proofs.TableLaws.{every_at}
 
 -- a counted number is at most the last one
@@ -35,7 +35,7 @@ in_place k c h t =
     let some = ne_eqb k 0 (λ e. omega arith) in
     ap code_of (eqb→eq c.0 (button_code k).0 (rw some at t))
 
-pub button_code_lem : (k : ℕ) → 0 < k → k ≤ BUTTON_LAST → get_or button_codes k (code_of 0) ≡ button_code k
+pub button_code_lem : (k : ℕ) → 0 < k → k ≤ button_last → get_or button_codes k (code_of 0) ≡ button_code k
 unfolding button_codes is_code
 button_code_lem k h l =
     in_place k (get_or button_codes k (code_of 0)) h (every_at is_code (code_of 0) button_codes tt k (omega arith))

@@ -16,7 +16,7 @@ use Rattle.line.specs.declared.parser.Answer.TheVariants as An
 use Rattle.line.specs.declared.reading.puts.Puts.{Puts}
 use Rattle.line.specs.declared.reading.puts.Puts.TheVariants.{Nothing, Name, One, Two, UnknownHatDirection}
 use Rattle.line.specs.declared.reading.ParseSdlMappingError.TheVariants as Pe
-use Rattle.line.specs.Maps.{CODES_MAX, MapView, to_map, put_entry, puts_into}
+use Rattle.line.specs.Maps.{codes_max, MapView, to_map, put_entry, puts_into}
 use Rattle.line.specs.Pairs.{pair_of}
 use Rattle.line.specs.Puts.{listed, hat_puts, puts_of}
 use Rattle.line.specs.Reading.{refused_of, accepted_of, put_one, put_all, skips, taken, pairs_from}
@@ -47,21 +47,21 @@ after-append v es fs a b = rw (puts_append es fs v.list, or_append a b v.hat_fla
 
 -- ---- one put
 module _ (v : MapView) (e : Entry) (p : ℕ) where
-  pub one_fits : length (put_entry e v.list) ≤ CODES_MAX → put_one (to_map v) e p
+  pub one_fits : length (put_entry e v.list) ≤ codes_max → put_one (to_map v) e p
       ≡ accepted_of (to_map (with v (put_entry e v.list)))
   unfolding put_one
-  one_fits h = let b = le-leb (length (put_entry e v.list)) CODES_MAX h in rw (put_to_map v e, b)
+  one_fits h = let b = le-leb (length (put_entry e v.list)) codes_max h in rw (put_to_map v e, b)
 
 -- ---- the puts of a pair
 module _ (v : MapView) (p : ℕ) where
-  puts_fit : (x : Puts) → (puts_effect x).goes ≡ true → length (puts_into (puts_effect x).puts v.list) ≤ CODES_MAX
+  puts_fit : (x : Puts) → (puts_effect x).goes ≡ true → length (puts_into (puts_effect x).puts v.list) ≤ codes_max
       → put_all (to_map v) x p ≡ accepted_of (to_map (after v (puts_effect x).puts (puts_effect x).flags))
   unfolding puts_into or_all to_map
   puts_fit Nothing g h = refl
   puts_fit (Name start len) g h = absurd (off g)
   puts_fit (One e flag) g h = rw (one_fits v e p h)
   puts_fit (Two e f flag) g h =
-      let k : length (put_entry e v.list) ≤ CODES_MAX = omega (arith, put_grows f (put_entry e v.list)) in
+      let k : length (put_entry e v.list) ≤ codes_max = omega (arith, put_grows f (put_entry e v.list)) in
       rw (one_fits v e p k, one_fits (with v (put_entry e v.list)) f p h)
   puts_fit UnknownHatDirection g h = absurd (off g)
 
@@ -72,7 +72,7 @@ none_after v = refl
 
 module _ (v : MapView) (p q : ℕ) (buttons axes : List ℕ) where
   abbrev pub Fits : Answer → Type 0
-  Fits a = length (puts_into (answer_effect a buttons axes).puts v.list) ≤ CODES_MAX
+  Fits a = length (puts_into (answer_effect a buttons axes).puts v.list) ≤ codes_max
 
   taken_fits : (a : Answer) → PairAnswer a → (answer_effect a buttons axes).goes ≡ true → Fits a
       → taken (to_map v) a p q buttons axes
@@ -97,7 +97,7 @@ module _ (v : MapView) (p q : ℕ) (buttons axes : List ℕ) where
 module _ (buttons axes : List ℕ) where
   -- one pair, wherever it stands
   pub pair_fits : (f : List ℕ) (p q : ℕ) (v : MapView) → (effect_of f buttons axes).goes ≡ true
-      → length (puts_into (effect_of f buttons axes).puts v.list) ≤ CODES_MAX
+      → length (puts_into (effect_of f buttons axes).puts v.list) ≤ codes_max
       → taken (to_map v) (pair_of f p) p q buttons axes
       ≡ accepted_of (to_map (after v (effect_of f buttons axes).puts (effect_of f buttons axes).flags))
   pair_fits f p q v g h =
@@ -106,16 +106,16 @@ module _ (buttons axes : List ℕ) where
 
   -- pairs that go, and whose entries fit, are accepted: the map of all their puts
   pub pairs_fit : (fs : List (List ℕ)) (p : ℕ) (v : MapView) → AllGo fs buttons axes
-      → length (puts_into (entries_of fs buttons axes) v.list) ≤ CODES_MAX
+      → length (puts_into (entries_of fs buttons axes) v.list) ≤ codes_max
       → pairs_from p fs (to_map v) buttons axes
       ≡ accepted_of (to_map (after v (entries_of fs buttons axes) (flags_of fs buttons axes)))
   unfolding pairs_from AllGo entries_of flags_of
   pairs_fit [] p v g h = none_after v
   pairs_fit (f ∷ fs) p v g h =
       let w = after v (effect_of f buttons axes).puts (effect_of f buttons axes).flags in
-      let k : length (puts_into (entries_of fs buttons axes) w.list) ≤ CODES_MAX =
+      let k : length (puts_into (entries_of fs buttons axes) w.list) ≤ codes_max =
       rw (puts_append (effect_of f buttons axes).puts (entries_of fs buttons axes) v.list) at h in
-      let j : length (puts_into (effect_of f buttons axes).puts v.list) ≤ CODES_MAX =
+      let j : length (puts_into (effect_of f buttons axes).puts v.list) ≤ codes_max =
       omega (arith, puts_grow (entries_of fs buttons axes) w.list) in
       rw (
         pair_fits f p (p + length f + 1) v g.0 j,

@@ -24,7 +24,7 @@ use Rattle.line.specs.declared.parser.Token.TheVariants as Tk
 use Rattle.line.specs.declared.parser.Answer.TheVariants as An
 use Rattle.line.specs.Elements.{code_of, same_element}
 use Rattle.line.specs.Maps.{entry_of}
-use Rattle.line.specs.Tables.{AXES_SDL, AXES, row_from, key_row, key_element, element_from, element_row, ident_text}
+use Rattle.line.specs.Tables.{axes_sdl, axes_table, row_from, key_row, key_element, element_from, element_row, ident_text}
 use Rattle.line.specs.Tables.{as_button, as_axis}
 use Rattle.line.specs.Fields.{count_of}
 use Rattle.line.specs.Values.{axis_value_of, value_of}
@@ -81,11 +81,11 @@ all_named_of f k zero = true
 all_named_of f k (suc n) = both (names (ident_text (f k)) (f k)) (all_named_of f (suc k) n)
 
 buttons_named : T (all_named_of as_button 1 19)
-unfolding all_named_of names count_of half_of same key_row row_from AXES_SDL AXES element_row element_from
+unfolding all_named_of names count_of half_of same key_row row_from axes_sdl axes_table element_row element_from
 buttons_named = tt
 
 axes_named : T (all_named_of as_axis 1 6)
-unfolding all_named_of names count_of half_of same key_row row_from AXES_SDL AXES element_row element_from
+unfolding all_named_of names count_of half_of same key_row row_from axes_sdl axes_table element_row element_from
 axes_named = tt
 
 -- ---- what the test says of each

@@ -14,7 +14,7 @@ use Rattle.line.specs.Buttons as B
 use Rattle.line.specs.Elements.{same_element}
 use Rattle.line.specs.Inner.{until_zero, kind_and_number, kind_rows}
 use Rattle.line.specs.Numbers.{element_of_kind}
-use Rattle.line.specs.Tables.{ROWS, AXES_SDL, AXES, name_at, row_from, key_row, element_from, element_row}
+use Rattle.line.specs.Tables.{row_count, axes_sdl, axes_table, name_at, row_from, key_row, element_from, element_row}
 use Rattle.line.specs.Tables.{name_rows, padded_name, byte_order, place_order, same_order, every, sorted, how_many}
 use Rattle.line.specs.Tables.{one_row, as_button, as_axis}
 use Rattle.line.specs.declared.ev.AxisOrBtn.{AxisOrBtn}
@@ -102,21 +102,21 @@ order_same Greater Less t = absurd t
 order_same Greater Equal t = absurd t
 order_same Greater Greater t = refl
 
-pub in_order : T (sorted AXES_SDL)
-unfolding AXES_SDL byte_order
+pub in_order : T (sorted axes_sdl)
+unfolding axes_sdl byte_order
 in_order = tt
 
-names_length : length AXES_SDL ≡ ROWS
-unfolding AXES_SDL
+names_length : length axes_sdl ≡ row_count
+unfolding axes_sdl
 names_length = refl
 
 -- where the key stands among the names, seen from place i
-pub placed : (key : List ℕ) (i j : ℕ) (o : Order) → i < ROWS → j < ROWS → byte_order (name_at i) key ≡ o → name_at j ≡ key
+pub placed : (key : List ℕ) (i j : ℕ) (o : Order) → i < row_count → j < row_count → byte_order (name_at i) key ≡ o → name_at j ≡ key
     → place_order i j ≡ o
 placed key i j o h k e q =
     sym (order_same (byte_order (name_at i) (name_at j)) (place_order i j)
-    (every_at (λ j m. same_order (byte_order (name_at i) m) (place_order i j)) [] AXES_SDL
-    (every_at (λ i n. every (λ j m. same_order (byte_order n m) (place_order i j)) 0 AXES_SDL) [] AXES_SDL in_order i
+    (every_at (λ j m. same_order (byte_order (name_at i) m) (place_order i j)) [] axes_sdl
+    (every_at (λ i n. every (λ j m. same_order (byte_order n m) (place_order i j)) 0 axes_sdl) [] axes_sdl in_order i
     (rw names_length h))
     j (rw names_length k)))
     ∙ rw q e
@@ -134,13 +134,13 @@ off_equal e = let z : ◌≡◌ {A = ℕ} 0 1 = cc in omega arith
 
 -- a name that is less than the key: the key is at no place up to it; one that is greater: at none from it on; one that
 -- is equal: at none before it
-pub not_up_to : (key : List ℕ) (i j : ℕ) → i < ROWS → byte_order (name_at i) key ≡ Less → j ≤ i → name_at j ≡ key → ⊥
+pub not_up_to : (key : List ℕ) (i j : ℕ) → i < row_count → byte_order (name_at i) key ≡ Less → j ≤ i → name_at j ≡ key → ⊥
 not_up_to key i j h e k q = off_less (ltb j i) (simp (le-ltb i j k) at (placed key i j Less h (omega arith) e q))
 
-pub not-from : (key : List ℕ) (i j : ℕ) → j < ROWS → byte_order (name_at i) key ≡ Greater → i ≤ j → name_at j ≡ key → ⊥
+pub not-from : (key : List ℕ) (i j : ℕ) → j < row_count → byte_order (name_at i) key ≡ Greater → i ≤ j → name_at j ≡ key → ⊥
 not-from key i j h e k q = off_greater (ltb i j) (simp (le-ltb j i k) at (placed key i j Greater (omega arith) h e q))
 
-pub not-before : (key : List ℕ) (i j : ℕ) → i < ROWS → byte_order (name_at i) key ≡ Equal → j < i → name_at j ≡ key → ⊥
+pub not-before : (key : List ℕ) (i j : ℕ) → i < row_count → byte_order (name_at i) key ≡ Equal → j < i → name_at j ≡ key → ⊥
 not-before key i j h e k q =
     let l : j ≤ i = omega arith in
     off_equal (simp (le-ltb i j l, lt-ltb j i k) at (placed key i j Equal h (omega arith) e q))
@@ -179,19 +179,19 @@ row_found (n ∷ ns) key i (suc r) h e f =
     rw (unlike n key (f 0 (omega arith)))
     (row_found ns key (suc i) r (omega arith) e (λ k h. f (suc k) (omega arith)) ∙ ap At (omega arith))
 
-pub key_none : (key : List ℕ) → ((k : ℕ) → k < ROWS → name_at k ≡ key → ⊥) → key_row key ≡ Nowhere
+pub key_none : (key : List ℕ) → ((k : ℕ) → k < row_count → name_at k ≡ key → ⊥) → key_row key ≡ Nowhere
 unfolding key_row
-key_none key f = row_none AXES_SDL key 0 (λ k h. f k (rw names_length at h))
+key_none key f = row_none axes_sdl key 0 (λ k h. f k (rw names_length at h))
 
-pub key_found : (key : List ℕ) (i : ℕ) → i < ROWS → byte_order (name_at i) key ≡ Equal → key_row key ≡ At i
+pub key_found : (key : List ℕ) (i : ℕ) → i < row_count → byte_order (name_at i) key ≡ Equal → key_row key ≡ At i
 unfolding key_row
 key_found key i h e =
-    row_found AXES_SDL key 0 i (rw names_length h) (equal_same (name_at i) key e) (λ k l. not-before key i k h e l)
+    row_found axes_sdl key 0 i (rw names_length h) (equal_same (name_at i) key e) (λ k l. not-before key i k h e l)
     ∙ ap At (omega arith)
 
 -- ---- the rows of the table: each name, filled with zeros up to 13 bytes
-rows_names : map until_zero name_rows ≡ AXES_SDL
-unfolding name_rows AXES_SDL until_zero
+rows_names : map until_zero name_rows ≡ axes_sdl
+unfolding name_rows axes_sdl until_zero
 rows_names = refl
 
 -- the name that a row holds
@@ -199,9 +199,9 @@ pub row_name : (i : ℕ) → until_zero (get_or name_rows i []) ≡ name_at i
 unfolding until_zero
 row_name i = sym (get_or-map until_zero name_rows i []) ∙ ap (λ (l : List (List ℕ)). get_or l i []) rows_names
 
-pub row_padded : (i : ℕ) → i < ROWS → get_or name_rows i [] ≡ padded_name (name_at i)
-unfolding name_rows AXES_SDL
-row_padded i h = get_d_any name_rows i [] (padded_name []) h ∙ get_or-map padded_name AXES_SDL i []
+pub row_padded : (i : ℕ) → i < row_count → get_or name_rows i [] ≡ padded_name (name_at i)
+unfolding name_rows axes_sdl
+row_padded i h = get_d_any name_rows i [] (padded_name []) h ∙ get_or-map padded_name axes_sdl i []
 
 -- what a comparison with a row says of the name
 pub told : (names : List (List ℕ)) (key : List ℕ) (i : ℕ) (r o : Order) → names ≡ name_rows
@@ -214,7 +214,7 @@ told names key i r o n e f =
 pub row_named : (names : List (List ℕ)) (i : ℕ) → names ≡ name_rows → until_zero (get_or names i []) ≡ name_at i
 row_named names i n = ap (λ (l : List (List ℕ)). until_zero (get_or l i [])) n ∙ row_name i
 
-pub row_filled : (names : List (List ℕ)) (i : ℕ) → names ≡ name_rows → i < ROWS → get_or names i [] ≡ padded_name (name_at i)
+pub row_filled : (names : List (List ℕ)) (i : ℕ) → names ≡ name_rows → i < row_count → get_or names i [] ≡ padded_name (name_at i)
 row_filled names i n h = ap (λ (l : List (List ℕ)). get_or l i []) n ∙ row_padded i h
 
 -- ---- the elements as kind and number
@@ -222,63 +222,63 @@ kind_back : (x : AxisOrBtn) → element_of_kind (get_or (kind_and_number x) 0 0)
 kind_back (Axis a) = refl
 kind_back (Btn b) = refl
 
-pub kinds_length : length kind_rows ≡ ROWS
-unfolding kind_rows AXES
+pub kinds_length : length kind_rows ≡ row_count
+unfolding kind_rows axes_table
 kinds_length = refl
 
-pub kind_row : (i : ℕ) → i < ROWS → get_or kind_rows i [] ≡ kind_and_number (get_or AXES i (Btn B.Unknown))
-unfolding kind_rows AXES
+pub kind_row : (i : ℕ) → i < row_count → get_or kind_rows i [] ≡ kind_and_number (get_or axes_table i (Btn B.Unknown))
+unfolding kind_rows axes_table
 kind_row i h =
-    get_d_any kind_rows i [] (kind_and_number (Btn B.Unknown)) h ∙ get_or-map kind_and_number AXES i (Btn B.Unknown)
+    get_d_any kind_rows i [] (kind_and_number (Btn B.Unknown)) h ∙ get_or-map kind_and_number axes_table i (Btn B.Unknown)
 
-pub kind_element : (kinds : List (List ℕ)) (i : ℕ) → kinds ≡ kind_rows → i < ROWS
-    → element_of_kind (get_or (get_or kinds i []) 0 0) (get_or (get_or kinds i []) 1 0) ≡ get_or AXES i (Btn B.Unknown)
+pub kind_element : (kinds : List (List ℕ)) (i : ℕ) → kinds ≡ kind_rows → i < row_count
+    → element_of_kind (get_or (get_or kinds i []) 0 0) (get_or (get_or kinds i []) 1 0) ≡ get_or axes_table i (Btn B.Unknown)
 kind_element kinds i n h =
     ap (λ (l : List ℕ). element_of_kind (get_or l 0 0) (get_or l 1 0)) (ap (λ (k : List (List ℕ)). get_or k i []) n ∙ kind_row i h)
-    ∙ kind_back (get_or AXES i (Btn B.Unknown))
+    ∙ kind_back (get_or axes_table i (Btn B.Unknown))
 
 -- the first i rows are made, and one more
-pub kinds_turn : (elements : List AxisOrBtn) (kinds : List (List ℕ)) (i : ℕ) (k : List ℕ) → elements ≡ AXES
-    → length kinds ≡ ROWS → i < ROWS → k ≡ kind_and_number (get_or elements i (Btn B.Unknown))
+pub kinds_turn : (elements : List AxisOrBtn) (kinds : List (List ℕ)) (i : ℕ) (k : List ℕ) → elements ≡ axes_table
+    → length kinds ≡ row_count → i < row_count → k ≡ kind_and_number (get_or elements i (Btn B.Unknown))
     → take i kinds ≡ take i kind_rows → take (i + 1) (set kinds i k) ≡ take (i + 1) kind_rows
-unfolding AXES
+unfolding axes_table
 kinds_turn elements kinds i k n m h e p =
     let w : k ≡ get_or kind_rows i [] =
     e ∙ ap (λ (l : List AxisOrBtn). kind_and_number (get_or l i (Btn B.Unknown))) n
     ∙ sym (kind_row i h) in
     rw (add-one, take-suc-set kinds i k (omega arith), take-suc kind_rows i [] (omega (arith, kinds_length)), p, w)
 
-pub kinds_all : (kinds : List (List ℕ)) (i : ℕ) → length kinds ≡ ROWS → ROWS ≤ i → take i kinds ≡ take i kind_rows
+pub kinds_all : (kinds : List (List ℕ)) (i : ℕ) → length kinds ≡ row_count → row_count ≤ i → take i kinds ≡ take i kind_rows
     → kinds ≡ kind_rows
 kinds_all kinds i m h p =
     sym (take_all i kinds (omega arith)) ∙ p ∙ take_all i kind_rows (omega (arith, kinds_length))
 
 -- ---- the row of an element
-pub element_told : (xs : List AxisOrBtn) (i : ℕ) (e : AxisOrBtn) (r : Bool) → xs ≡ AXES → i < ROWS
-    → r ≡ same_element (get_or xs i (Btn B.Unknown)) e → r ≡ same_element (get_or AXES i (Btn B.Unknown)) e
-unfolding AXES
+pub element_told : (xs : List AxisOrBtn) (i : ℕ) (e : AxisOrBtn) (r : Bool) → xs ≡ axes_table → i < row_count
+    → r ≡ same_element (get_or xs i (Btn B.Unknown)) e → r ≡ same_element (get_or axes_table i (Btn B.Unknown)) e
+unfolding axes_table
 element_told xs i e r n h q =
     q ∙ ap (λ (l : List AxisOrBtn). same_element (get_or l i (Btn B.Unknown)) e) n
 
-pub element_here : (i : ℕ) (e : AxisOrBtn) (r : Bool) → i < ROWS → r ≡ same_element (get_or AXES i (Btn B.Unknown)) e
-    → r ≡ true → element_from i (drop i AXES) e ≡ At i
-unfolding element_from AXES
+pub element_here : (i : ℕ) (e : AxisOrBtn) (r : Bool) → i < row_count → r ≡ same_element (get_or axes_table i (Btn B.Unknown)) e
+    → r ≡ true → element_from i (drop i axes_table) e ≡ At i
+unfolding element_from axes_table
 element_here i e r h p q =
-    rw (drop-cons AXES i (Btn B.Unknown) h) (rw (sym p ∙ q))
+    rw (drop-cons axes_table i (Btn B.Unknown) h) (rw (sym p ∙ q))
 
-pub element_past : (i : ℕ) (e : AxisOrBtn) (r : Bool) → i < ROWS → r ≡ same_element (get_or AXES i (Btn B.Unknown)) e
-    → r ≡ false → element_from i (drop i AXES) e ≡ element_from (i + 1) (drop (i + 1) AXES) e
-unfolding element_from AXES
+pub element_past : (i : ℕ) (e : AxisOrBtn) (r : Bool) → i < row_count → r ≡ same_element (get_or axes_table i (Btn B.Unknown)) e
+    → r ≡ false → element_from i (drop i axes_table) e ≡ element_from (i + 1) (drop (i + 1) axes_table) e
+unfolding element_from axes_table
 element_past i e r h p q =
-    rw (drop-cons AXES i (Btn B.Unknown) h) (rw (sym p ∙ q) (rw (add-one)))
+    rw (drop-cons axes_table i (Btn B.Unknown) h) (rw (sym p ∙ q) (rw (add-one)))
 
 pub one_row_lem : T (both (one_row as_button 1 19) (one_row as_axis 1 6))
-unfolding one_row how_many AXES
+unfolding one_row how_many axes_table
 one_row_lem = tt
 
-pub element_none : (i : ℕ) (e : AxisOrBtn) → ROWS ≤ i → element_from i (drop i AXES) e ≡ Nowhere
-unfolding element_from AXES
-element_none i e h = rw (drop_of_length-le AXES h)
+pub element_none : (i : ℕ) (e : AxisOrBtn) → row_count ≤ i → element_from i (drop i axes_table) e ≡ Nowhere
+unfolding element_from axes_table
+element_none i e h = rw (drop_of_length-le axes_table h)
 
 -- ---- a row is one of the 35
 row_bound : (names : List (List ℕ)) (key : List ℕ) (i r : ℕ) → row_from i names key ≡ At r → r < i + length names
@@ -291,9 +291,9 @@ row_bound (n ∷ ns) key i r e = go (same n key) e (row_bound ns key (suc i) r)
     go true e f = let q : i ≡ r = cc in omega arith
     go false e f = omega (arith, f e)
 
-pub key_bound : (key : List ℕ) (r : ℕ) → key_row key ≡ At r → r < ROWS
+pub key_bound : (key : List ℕ) (r : ℕ) → key_row key ≡ At r → r < row_count
 unfolding key_row
-key_bound key r e = omega (arith, row_bound AXES_SDL key 0 r e, names_length)
+key_bound key r e = omega (arith, row_bound axes_sdl key 0 r e, names_length)
 
 element_row_bound : (xs : List AxisOrBtn) (e : AxisOrBtn) (i r : ℕ) → element_from i xs e ≡ At r → r < i + length xs
 unfolding element_from
@@ -305,6 +305,6 @@ element_row_bound (x ∷ xs) e i r p = go (same_element x e) p (element_row_boun
     go true p f = let q : i ≡ r = cc in omega arith
     go false p f = omega (arith, f p)
 
-pub element_bound : (e : AxisOrBtn) (r : ℕ) → element_row e ≡ At r → r < ROWS
-unfolding element_row AXES
-element_bound e r p = omega (arith, element_row_bound AXES e 0 r p)
+pub element_bound : (e : AxisOrBtn) (r : ℕ) → element_row e ≡ At r → r < row_count
+unfolding element_row axes_table
+element_bound e r p = omega (arith, element_row_bound axes_table e 0 r p)

@@ -18,8 +18,6 @@ pub mod TileLaws
 pub mod WalkLaws
 pub mod KindLaws
 pub mod FormLaws
-pub mod SliceLaws
-pub mod ParserLaws
 pub mod TokenLaws
 pub mod ReadingLaws
 pub mod CallLaws

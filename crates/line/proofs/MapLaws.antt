@@ -18,7 +18,7 @@ use Rattle.line.specs.declared.mapping.Mapped.TheVariants.{To, Nothing}
 use Rattle.line.specs.declared.mapping.Entered.TheVariants.{Is, Absent}
 use Rattle.text.specs.Bytes.{pick}
 use Rattle.line.specs.Elements.{same_element}
-use Rattle.line.specs.Maps.{CODES_MAX, unused_entry, held, map_of, entry_at, put_entry, put_of, map_rev_of, lesser}
+use Rattle.line.specs.Maps.{codes_max, unused_entry, held, map_of, entry_at, put_entry, put_of, map_rev_of, lesser}
 use Rattle.line.specs.Inner.{insert_at}
 use Rattle.line.specs.contracts.mapping.Entry.{the_field}
 use Rattle.line.proofs.PlaceLaws.{set_prefix, insert_prefix, length_inserted}
@@ -124,25 +124,25 @@ module _ (m : Mapping) where
       }
 
   module _ (e : Entry) (k : ℕ) where
-    pub put_onto : k < length (held m) → length (held m) ≤ CODES_MAX → put_entry e (held m) ≡ set (held m) k e
+    pub put_onto : k < length (held m) → length (held m) ≤ codes_max → put_entry e (held m) ≡ set (held m) k e
         → stored (length (held m)) (set m.entries k e) ≡ put_of m e
     unfolding put_of
     put_onto h b p = rw (p, length-set, le-leb _ _ b, set_prefix m.count m.entries k e h)
 
     module _ (h : k ≤ length (held m)) (p : put_entry e (held m) ≡ insert_at k e (held m)) where
-      pub put_before : length (held m) < CODES_MAX
+      pub put_before : length (held m) < codes_max
           → stored (length (held m) + 1)
           (take (length (held m) + 1) (insert_at k e m.entries) ++ drop (length (held m) + 1) m.entries)
           ≡ put_of m e
       unfolding put_of
       put_before b =
-          let long = le-leb (length (held m) + 1) CODES_MAX (omega arith) in
+          let long = le-leb (length (held m) + 1) codes_max (omega arith) in
           rw (p, length_inserted k (held m) e h, long, insert_prefix k m.count m.entries e h)
 
-      pub put_full : length (held m) ≡ CODES_MAX → record { answer = Full; map = m } ≡ put_of m e
+      pub put_full : length (held m) ≡ codes_max → record { answer = Full; map = m } ≡ put_of m e
       unfolding put_of
       put_full b =
-          let long = lt-leb (length (held m) + 1) CODES_MAX (omega arith) in
+          let long = lt-leb (length (held m) + 1) codes_max (omega arith) in
           rw (p, length_inserted k (held m) e h, long)
 
 -- ---- the reverse look-up, from the last entry down

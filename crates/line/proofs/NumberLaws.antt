@@ -13,12 +13,12 @@ use Rattle.line.specs.declared.parser.Ranges.{Ranges}
 use Rattle.line.specs.declared.mapping.Entry.{Entry}
 use Rattle.line.specs.Elements.{code_of}
 use Rattle.line.specs.Maps.{ranged_entry}
-use Rattle.line.specs.Numbers.{CODE_UNIT, SHAPE_UNIT, half_number, halves_number, ranges_number, packed_number, entry_number}
+use Rattle.line.specs.Numbers.{code_unit, shape_unit, half_number, halves_number, ranges_number, packed_number, entry_number}
 use Rattle.line.specs.Numbers.{half_in, ranges_in, shaped_entry, entry_in}
 
 -- ---- an entry of its parts
-pub packed_in : (c k n : ℕ) → k < SHAPE_UNIT → n < SHAPE_UNIT
-    → entry_in (c * CODE_UNIT + k * SHAPE_UNIT + n) ≡ shaped_entry c k n
+pub packed_in : (c k n : ℕ) → k < shape_unit → n < shape_unit
+    → entry_in (c * code_unit + k * shape_unit + n) ≡ shaped_entry c k n
 unfolding entry_in
 packed_in c k n h l =
     let p : (c * 4294967296 + k * 65536 + n) / 4294967296 ≡ c = omega arith in
@@ -99,8 +99,8 @@ ranges_small r = by r.inverted (half_small r.input) (half_small r.output)
 
 -- the number of an element fits 16 bits, as that of every element of the program does
 abbrev pub Short : AxisOrBtn → Type 0
-Short (El.Btn b) = b.0 < SHAPE_UNIT
-Short (El.Axis a) = a.0 < SHAPE_UNIT
+Short (El.Btn b) = b.0 < shape_unit
+Short (El.Axis a) = a.0 < shape_unit
 
 pub number_back : (e : Entry) → Short e.element → entry_in (entry_number e) ≡ e
 unfolding entry_number

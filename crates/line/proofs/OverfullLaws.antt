@@ -20,7 +20,7 @@ use Rattle.line.specs.declared.reading.ParseSdlMappingError.TheVariants as Pe
 use Rattle.line.specs.declared.reading.SdlAnswer.{SdlAnswer}
 use Rattle.line.specs.declared.reading.SdlAnswer.TheVariants.{Accepted, Refused}
 use Rattle.line.specs.declared.reading.SdlMapping.{SdlMapping}
-use Rattle.line.specs.Maps.{CODES_MAX, MapView, to_map, put_entry, puts_into}
+use Rattle.line.specs.Maps.{codes_max, MapView, to_map, put_entry, puts_into}
 use Rattle.line.specs.Pairs.{pair_of}
 use Rattle.line.specs.Puts.{listed, hat_puts, puts_of}
 use Rattle.line.specs.Refusals.{refusal_at}
@@ -57,29 +57,29 @@ pub no_11 : (a : SdlAnswer) (q : ℕ) → is11 a ≡ 0 → a ≡ Refused (Pe.Too
 no_11 a q z e = let y : is11 a ≡ 1 = ap is11 e in omega (arith, y, z)
 
 -- ---- the puts of a pair
-none_over : (xs : List Entry) → length xs ≤ CODES_MAX → CODES_MAX < length (puts_into [] xs) → ⊥
+none_over : (xs : List Entry) → length xs ≤ codes_max → codes_max < length (puts_into [] xs) → ⊥
 unfolding puts_into
 none_over xs k o = omega (arith, k, o)
 
 module _ (v : MapView) (p : ℕ) where
-  two_over : (e f : Entry) → CODES_MAX < length (put_entry f (put_entry e v.list))
+  two_over : (e f : Entry) → codes_max < length (put_entry f (put_entry e v.list))
       → then_put (put_one (to_map v) e p) f p ≡ refuses (refusal_at 11 p)
-  two_over e f o = by (leb (length (put_entry e v.list)) CODES_MAX) refl
+  two_over e f o = by (leb (length (put_entry e v.list)) codes_max) refl
     where
-      by : (t : Bool) → leb (length (put_entry e v.list)) CODES_MAX ≡ t
+      by : (t : Bool) → leb (length (put_entry e v.list)) codes_max ≡ t
           → then_put (put_one (to_map v) e p) f p ≡ refuses (refusal_at 11 p)
       by true b =
-          let long = lt-leb (length (put_entry f (put_entry e v.list))) CODES_MAX o in
-          rw (one_fits v e p (leb-true (length (put_entry e v.list)) CODES_MAX b))
+          let long = lt-leb (length (put_entry f (put_entry e v.list))) codes_max o in
+          rw (one_fits v e p (leb-true (length (put_entry e v.list)) codes_max b))
           (one_over (with v (put_entry e v.list)) f p long)
       by false b = rw (one_over v e p b)
 
-  puts_over : (x : Puts) → length v.list ≤ CODES_MAX → (puts_effect x).goes ≡ true
-      → CODES_MAX < length (puts_into (puts_effect x).puts v.list) → put_all (to_map v) x p ≡ refuses (refusal_at 11 p)
+  puts_over : (x : Puts) → length v.list ≤ codes_max → (puts_effect x).goes ≡ true
+      → codes_max < length (puts_into (puts_effect x).puts v.list) → put_all (to_map v) x p ≡ refuses (refusal_at 11 p)
   unfolding puts_into
   puts_over Nothing k g o = absurd (omega (arith, k, o))
   puts_over (Name start len) k g o = absurd (off g)
-  puts_over (One e flag) k g o = rw (one_over v e p (lt-leb (length (put_entry e v.list)) CODES_MAX o))
+  puts_over (One e flag) k g o = rw (one_over v e p (lt-leb (length (put_entry e v.list)) codes_max o))
   puts_over (Two e f flag) k g o = rw (two_over e f o)
   puts_over UnknownHatDirection k g o = absurd (off g)
 
@@ -93,8 +93,8 @@ module _ (v : MapView) (p : ℕ) where
 
 -- ---- what the walker answers for a pair
 module _ (v : MapView) (p q : ℕ) (buttons axes : List ℕ) where
-  taken_over : (a : Answer) → PairAnswer a → length v.list ≤ CODES_MAX → (answer_effect a buttons axes).goes ≡ true
-      → CODES_MAX < length (puts_into (answer_effect a buttons axes).puts v.list)
+  taken_over : (a : Answer) → PairAnswer a → length v.list ≤ codes_max → (answer_effect a buttons axes).goes ≡ true
+      → codes_max < length (puts_into (answer_effect a buttons axes).puts v.list)
       → taken (to_map v) a p q buttons axes ≡ refuses (refusal_at 11 p)
   unfolding taken answer_effect puts_of PairAnswer
   taken_over (An.Found (Tk.Uuid u)) n k g o = absurd n
@@ -106,7 +106,7 @@ module _ (v : MapView) (p q : ℕ) (buttons axes : List ℕ) where
   taken_over (An.Refused e) n k g o = passed (skips e.kind) g o
     where
       passed : (t : Bool) → (pick t (does [] []) stops).goes ≡ true
-          → CODES_MAX < length (puts_into (pick t (does [] []) stops).puts v.list)
+          → codes_max < length (puts_into (pick t (does [] []) stops).puts v.list)
           → pick t (accepted_of (to_map v)) (refused_of (Pe.ParseError e)) ≡ refuses (refusal_at 11 p)
       passed true g o = absurd (none_over v.list k o)
       passed false g o = absurd (off g)
@@ -149,13 +149,13 @@ module _ (buttons axes : List ℕ) where
     pub are : pairs ≡ earlier ++ pair ∷ later
     pub place : place_after start earlier ≡ p
     pub go : AllGo earlier buttons axes
-    pub fit : length (puts_into (all earlier) v.list) ≤ CODES_MAX
+    pub fit : length (puts_into (all earlier) v.list) ≤ codes_max
     pub goes : (effect_of pair buttons axes).goes ≡ true
-    pub over : CODES_MAX < length (puts_into (all earlier ++ put_by pair) v.list)
+    pub over : codes_max < length (puts_into (all earlier ++ put_by pair) v.list)
 
   module _ (f : List ℕ) (p q : ℕ) (v : MapView) where
-    pair_over : length v.list ≤ CODES_MAX → (effect_of f buttons axes).goes ≡ true
-        → CODES_MAX < length (puts_into (put_by f) v.list)
+    pair_over : length v.list ≤ codes_max → (effect_of f buttons axes).goes ≡ true
+        → codes_max < length (puts_into (put_by f) v.list)
         → taken (to_map v) (pair_of f p) p q buttons axes ≡ refuses (refusal_at 11 p)
     pair_over k g o =
         let e = pair_anywhere buttons axes f p 0 in
@@ -168,7 +168,7 @@ module _ (buttons axes : List ℕ) where
         taken_not v p q buttons axes (pair_of f p) at (pair_answer f p) (rw e g) x
 
     -- a pair that is refused for itself is not refused by 11, and the line with it
-    stopped : (at : ℕ) (rest : SdlMapping) → length v.list ≤ CODES_MAX → (effect_of f buttons axes).goes ≡ false
+    stopped : (at : ℕ) (rest : SdlMapping) → length v.list ≤ codes_max → (effect_of f buttons axes).goes ≡ false
         → Eleven at (follow (taken (to_map v) (pair_of f p) p q buttons axes).answer
         (taken (to_map v) (pair_of f p) p q buttons axes) rest) → ⊥
     stopped at rest k g x = by (taken (to_map v) (pair_of f p) p q buttons axes).answer refl
@@ -202,8 +202,8 @@ module _ (buttons axes : List ℕ) where
               r.over;
         }
 
-    here_over : length v.list ≤ CODES_MAX → (effect_of f buttons axes).goes ≡ true
-        → CODES_MAX < length (puts_into (put_by f) v.list) → OverFrom v p (f ∷ fs) p
+    here_over : length v.list ≤ codes_max → (effect_of f buttons axes).goes ≡ true
+        → codes_max < length (puts_into (put_by f) v.list) → OverFrom v p (f ∷ fs) p
     unfolding AllGo entries_of place_after puts_into
     here_over k g o =
         record {
@@ -220,22 +220,22 @@ module _ (buttons axes : List ℕ) where
 
     abbrev Later : ℕ → Type 0
     Later at =
-        (w : MapView) → length w.list ≤ CODES_MAX → Eleven at (pairs_from beyond fs (to_map w) buttons axes)
+        (w : MapView) → length w.list ≤ codes_max → Eleven at (pairs_from beyond fs (to_map w) buttons axes)
         → OverFrom w beyond fs at
 
-    first_over : (at : ℕ) → length v.list ≤ CODES_MAX → Later at
+    first_over : (at : ℕ) → length v.list ≤ codes_max → Later at
         → Eleven at (pairs_from p (f ∷ fs) (to_map v) buttons axes) → OverFrom v p (f ∷ fs) at
     unfolding pairs_from
     first_over at k ih a =
-        by (effect_of f buttons axes).goes refl (leb (length (puts_into (put_by f) v.list)) CODES_MAX) refl
+        by (effect_of f buttons axes).goes refl (leb (length (puts_into (put_by f) v.list)) codes_max) refl
       where
         by : (g : Bool) → (effect_of f buttons axes).goes ≡ g → (t : Bool)
-            → leb (length (puts_into (put_by f) v.list)) CODES_MAX ≡ t → OverFrom v p (f ∷ fs) at
+            → leb (length (puts_into (put_by f) v.list)) codes_max ≡ t → OverFrom v p (f ∷ fs) at
         by true g true t =
-            let j = leb-true (length (puts_into (put_by f) v.list)) CODES_MAX t in
+            let j = leb-true (length (puts_into (put_by f) v.list)) codes_max t in
             cons_over at g (ih (next v f) j (rw (pair_fits buttons axes f p beyond v g j) at a))
         by true g false t =
-            let o = leb-false (length (puts_into (put_by f) v.list)) CODES_MAX t in
+            let o = leb-false (length (puts_into (put_by f) v.list)) codes_max t in
             let x : Refused (Pe.TooManyCodes p) ≡ Refused (Pe.TooManyCodes at) =
             rw (pair_over f p beyond v k g o) at a in
             subst (λ (n : ℕ). OverFrom v p (f ∷ fs) n) (ap place11 x) (here_over k g o)
@@ -243,24 +243,24 @@ module _ (buttons axes : List ℕ) where
             let r = taken (to_map v) (pair_of f p) p beyond buttons axes in
             absurd (stopped f p beyond v at (pairs_from beyond fs r.map buttons axes) k g a)
 
-  pub only_over : (fs : List (List ℕ)) (p : ℕ) (v : MapView) (at : ℕ) → length v.list ≤ CODES_MAX
+  pub only_over : (fs : List (List ℕ)) (p : ℕ) (v : MapView) (at : ℕ) → length v.list ≤ codes_max
       → Eleven at (pairs_from p fs (to_map v) buttons axes) → OverFrom v p fs at
   unfolding pairs_from
   only_over [] p v at k a = absurd (no_11 Accepted at refl a)
   only_over (f ∷ fs) p v at k a = first_over f fs p v at k (λ w. only_over fs (p + length f + 1) w at) a
 
   pub over_says : (es : List (List ℕ)) (f : List ℕ) (fs : List (List ℕ)) (p : ℕ) (v : MapView)
-      → length v.list ≤ CODES_MAX → AllGo es buttons axes → length (puts_into (all es) v.list) ≤ CODES_MAX
-      → (effect_of f buttons axes).goes ≡ true → CODES_MAX < length (puts_into (all es ++ put_by f) v.list)
+      → length v.list ≤ codes_max → AllGo es buttons axes → length (puts_into (all es) v.list) ≤ codes_max
+      → (effect_of f buttons axes).goes ≡ true → codes_max < length (puts_into (all es ++ put_by f) v.list)
       → Eleven (place_after p es) (pairs_from p (es ++ f ∷ fs) (to_map v) buttons axes)
   unfolding pairs_from AllGo entries_of place_after
   over_says [] f fs p v k go fit g o = rw (pair_over f p (p + length f + 1) v k g o)
   over_says (e ∷ es) f fs p v k go fit g o =
-      let fit' : length (puts_into (all es) (puts_into (put_by e) v.list)) ≤ CODES_MAX =
+      let fit' : length (puts_into (all es) (puts_into (put_by e) v.list)) ≤ codes_max =
       rw (puts_append (put_by e) (all es) v.list) at fit in
-      let o' : CODES_MAX < length (puts_into (all es ++ put_by f) (puts_into (put_by e) v.list)) =
+      let o' : codes_max < length (puts_into (all es ++ put_by f) (puts_into (put_by e) v.list)) =
       rw (append_assoc (put_by e) (all es) (put_by f), puts_append (put_by e) (all es ++ put_by f) v.list) at o in
-      let j : length (puts_into (put_by e) v.list) ≤ CODES_MAX =
+      let j : length (puts_into (put_by e) v.list) ≤ codes_max =
       omega (arith, puts_grow (all es) (puts_into (put_by e) v.list), fit') in
       rw (pair_fits buttons axes e p (p + length e + 1) v go.0 j)
       (over_says es f fs (p + length e + 1) (next v e) j go.1 fit' g o')

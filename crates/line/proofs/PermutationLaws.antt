@@ -21,6 +21,7 @@ module _ {A : Type 0} where
   permuted_back (then p q) = then (permuted_back q) (permuted_back p)
 
   pub in_permuted : {x : A} {xs ys : List A} → Permuted xs ys → In x xs → In x ys
+  in_permuted none i = elim i [ ]
   in_permuted (keep p) here = here
   in_permuted (keep p) (there i) = there (in_permuted p i)
   in_permuted swap here = there here

@@ -20,12 +20,12 @@ use Rattle.text.proofs.ListLaws.{lt_or_le}
 use Rattle.text.proofs.BytesLaws.{same-lengths}
 use Rattle.text.proofs.UuidLaws.{uuid_back, uuid_text-length}
 use Rattle.line.specs.declared.reading.SdlMapping.{SdlMapping}
-use Rattle.line.specs.Maps.{CODES_MAX, MapView, to_map, empty_map, puts_into}
+use Rattle.line.specs.Maps.{codes_max, MapView, to_map, empty_map, puts_into}
 use Rattle.line.specs.Fields.{fields_of, first_field, later_fields}
 use Rattle.line.specs.Walker.{guid_of}
 use Rattle.line.specs.Refusals.{refusal_at}
 use Rattle.line.specs.Tiles.{tiled}
-use Rattle.line.specs.Reading.{LIST_MAX, refuses, accepted_of, pairs_from, named_from, headed, read_line}
+use Rattle.line.specs.Reading.{list_max, refuses, accepted_of, pairs_from, named_from, headed, read_line}
 use Rattle.line.specs.Reading.{reading_of}
 use Rattle.line.specs.Effects.{entries_of, AllGo}
 use Rattle.line.specs.Folds.{flags_of, after}
@@ -78,8 +78,8 @@ module _ (buttons axes : List ℕ) where
 module _ (buttons axes : List ℕ) (u n : List ℕ) (fs : List (List ℕ)) (free-u : Free (byte ",") u)
     (free : AllFree (n ∷ fs)) where
   pub reads_back : (id : Spelled) → guid_of u ≡ Up.Parsed id → is_utf8 (line_of u n fs) ≡ true
-      → length buttons ≤ LIST_MAX → length axes ≤ LIST_MAX
-      → AllGo fs buttons axes → length (puts_into (entries_of fs buttons axes) []) ≤ CODES_MAX
+      → length buttons ≤ list_max → length axes ≤ list_max
+      → AllGo fs buttons axes → length (puts_into (entries_of fs buttons axes) []) ≤ codes_max
       → reading_of (line_of u n fs) buttons axes
       ≡ accepted_of (to_map (after (named (length u) n) (entries_of fs buttons axes) (flags_of fs buttons axes)))
   unfolding reading_of
@@ -88,5 +88,5 @@ module _ (buttons axes : List ℕ) (u n : List ℕ) (fs : List (List ℕ)) (free
       let shape = line_shape buttons axes s n fs (later_fields_lem u n fs free-u free) in
       let first = take-before (byte ",") u (tiled (n ∷ fs)) free-u in
       let k = first-after (byte ",") u (tiled (n ∷ fs)) free-u in
-      rw (v, le-leb (length buttons) LIST_MAX b, le-leb (length axes) LIST_MAX a, shape, first, k, g)
+      rw (v, le-leb (length buttons) list_max b, le-leb (length axes) list_max a, shape, first, k, g)
       (pairs_fit buttons axes fs (0 + length u + 1 + length n + 1) (named (length u) n) go fits)

@@ -20,7 +20,7 @@ use Rattle.line.specs.declared.mapping.Entry.{Entry}
 use Rattle.line.specs.declared.parser.ErrorKind.TheVariants as Ek
 use Rattle.line.specs.declared.reading.ParseSdlMappingError.TheVariants as Pe
 use Rattle.line.specs.declared.reading.SdlAnswer.TheVariants.{Accepted}
-use Rattle.line.specs.Maps.{CODES_MAX, MapView, to_map, put_entry, puts_into}
+use Rattle.line.specs.Maps.{codes_max, MapView, to_map, put_entry, puts_into}
 use Rattle.line.specs.Fields.{first_field, later_fields}
 use Rattle.line.specs.Walker.{guid_of}
 use Rattle.line.specs.Refusals.{refusal}
@@ -95,7 +95,7 @@ module _ (buttons axes : List ℕ) where
   go_permuted (then p q) g = go_permuted q (go_permuted p g)
 
   pub pairs_regrouped : (fs gs : List (List ℕ)) (p : ℕ) (v : MapView) → Permuted fs gs
-      → Alike (entries_of fs buttons axes) → length v.list ≤ CODES_MAX
+      → Alike (entries_of fs buttons axes) → length v.list ≤ codes_max
       → (pairs_from p fs (to_map v) buttons axes).answer ≡ Accepted
       → pairs_from p gs (to_map v) buttons axes ≡ pairs_from p fs (to_map v) buttons axes
   pairs_regrouped fs gs p v o a h ok =

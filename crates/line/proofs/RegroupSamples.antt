@@ -20,7 +20,7 @@ use Rattle.line.specs.Buttons as B
 use Rattle.line.specs.Axes as A
 use Rattle.line.specs.Elements.{code_of}
 use Rattle.line.specs.Maps.{entry_of, MapView, to_map, empty_map, put_entry, put_of, map_of}
-use Rattle.line.specs.Tables.{AXES_SDL, AXES, row_from, key_row}
+use Rattle.line.specs.Tables.{axes_sdl, axes_table, row_from, key_row}
 use Rattle.line.specs.Fields.{count_of, fields_of}
 use Rattle.line.specs.Values.{axis_value_of, signed_of, hat_of, value_of}
 use Rattle.line.specs.Pairs.{half_of, keyed_of, pair_of}
@@ -32,14 +32,14 @@ use Rattle.line.specs.Regrouping.{swap, In, here, there, Alike, Regrouped}
 use Rattle.line.proofs.RegroupLaws.{regrouped}
 use Rattle.line.proofs.Samples.{U, button}
 
-abbrev BUTTONS : List ℕ
-BUTTONS = 0x10130 ∷ []
+abbrev sample_buttons : List ℕ
+sample_buttons = 0x10130 ∷ []
 
 abbrev pad_axes : List ℕ
 pad_axes = 0x30000 ∷ []
 
 abbrev read : List ℕ → SdlMapping
-read s = reading_of s BUTTONS pad_axes
+read s = reading_of s sample_buttons pad_axes
 
 -- accepted, with these entries, the name T and no flags
 abbrev accepted : List Entry → SdlMapping
@@ -74,9 +74,9 @@ same_pairs =
     }
 
 -- what the two pairs put
-pub both_put : entries_of (ascii "a:b0" ∷ ascii "leftx:a0" ∷ []) BUTTONS pad_axes ≡ south ∷ left_stick ∷ []
+pub both_put : entries_of (ascii "a:b0" ∷ ascii "leftx:a0" ∷ []) sample_buttons pad_axes ≡ south ∷ left_stick ∷ []
 unfolding entries_of answer_effect puts_of listed pair_of keyed_of half_of value_of signed_of axis_value_of count_of first_of same
-    read_digits unsigned index_number AXES_SDL AXES row_from key_row
+    read_digits unsigned index_number axes_sdl axes_table row_from key_row
 both_put = refl
 
 abbrev code_in : Entry → ℕ
@@ -112,7 +112,7 @@ two_alike e f i j c = two-by e f c (member i) (member j)
 pub button_first_lem : read button_first ≡ accepted (south ∷ left_stick ∷ [])
 unfolding reading_of read_line line_from named_from pairs_from taken put_one puts_of hat_puts dpad_axis hat_codes listed fields_of
     pair_of keyed_of half_of value_of hat_of signed_of axis_value_of guid_of count_of first_of empty_map put_entry put_of to_map same
-    read_digits unsigned index_number begins first_length char_length run_of valid_run is_utf8 AXES_SDL AXES row_from key_row
+    read_digits unsigned index_number begins first_length char_length run_of valid_run is_utf8 axes_sdl axes_table row_from key_row
     hex_digit read_hex hyphenated uuid_of
 button_first_lem = refl
 
@@ -122,7 +122,7 @@ unfolding same_pairs
 axis_first_lem =
     let alike = subst (λ (es : List Entry). Alike es) (sym both_put) two_alike in
     let ok = ap (λ (r : SdlMapping). r.answer) button_first_lem in
-    regrouped button_first axis_first BUTTONS pad_axes same_pairs alike ok ∙ button_first_lem
+    regrouped button_first axis_first sample_buttons pad_axes same_pairs alike ok ∙ button_first_lem
 
 -- ---- other maps: `U,T,a:b0,b:b0` and `U,T,b:b0,a:b0`, where 10130 is put to South and to East
 abbrev south_first : List ℕ
@@ -148,7 +148,7 @@ pub the_later_stays : (read south_first ≡ accepted (button 0x10130 B.East ∷ 
     × (read east_first ≡ accepted (button 0x10130 B.South ∷ []))
 unfolding reading_of read_line line_from named_from pairs_from taken put_one puts_of hat_puts dpad_axis hat_codes listed fields_of
     pair_of keyed_of half_of value_of hat_of signed_of axis_value_of guid_of count_of first_of empty_map put_entry put_of to_map same
-    read_digits unsigned index_number begins first_length char_length run_of valid_run is_utf8 AXES_SDL AXES row_from key_row
+    read_digits unsigned index_number begins first_length char_length run_of valid_run is_utf8 axes_sdl axes_table row_from key_row
     hex_digit read_hex hyphenated uuid_of
 the_later_stays = (refl, refl)
 
@@ -174,5 +174,5 @@ unlike e = let z : ◌≡◌ {A = ℕ} 1 2 = ap (λ (r : SdlMapping). button0 r)
 pub premise_needed : WithoutPremise → ⊥
 premise_needed w =
     let east = the_later_stays.0 in
-    let same = w south_first east_first BUTTONS pad_axes same_pairs_too (ap (λ (r : SdlMapping). r.answer) east) in
+    let same = w south_first east_first sample_buttons pad_axes same_pairs_too (ap (λ (r : SdlMapping). r.answer) east) in
     unlike (sym the_later_stays.1 ∙ same ∙ east)

@@ -27,7 +27,7 @@ use Rattle.line.specs.declared.reading.SdlAnswer.{SdlAnswer}
 use Rattle.line.specs.declared.reading.SdlAnswer.TheVariants.{Accepted, Refused}
 use Rattle.line.specs.declared.reading.SdlMapping.{SdlMapping}
 use Rattle.line.specs.Fields.{fields_of, first_field}
-use Rattle.line.specs.Maps.{CODES_MAX, MapView, to_map, empty_view, empty_map, Ascending, put_entry, put_of}
+use Rattle.line.specs.Maps.{codes_max, MapView, to_map, empty_view, empty_map, Ascending, put_entry, put_of}
 use Rattle.line.specs.Pairs.{pair_of}
 use Rattle.line.specs.Puts.{puts_of}
 use Rattle.line.specs.Refusals.{refusal, refusal_at}
@@ -43,18 +43,18 @@ pub shaped_empty : Shaped empty_map
 unfolding empty_map Ascending
 shaped_empty = record { view = empty_view; is = refl; few = omega arith; ascends = tt }
 
-put_into : (v : MapView) (e : Entry) → length v.list ≤ CODES_MAX → Ascending v.list
+put_into : (v : MapView) (e : Entry) → length v.list ≤ codes_max → Ascending v.list
     → Shaped (put_of (to_map v) e).map
-put_into v e l a = rw (put_to_map v e) (by (leb (length (put_entry e v.list)) CODES_MAX) refl)
+put_into v e l a = rw (put_to_map v e) (by (leb (length (put_entry e v.list)) codes_max) refl)
   where
-    by : (b : Bool) → leb (length (put_entry e v.list)) CODES_MAX ≡ b
+    by : (b : Bool) → leb (length (put_entry e v.list)) codes_max ≡ b
         → Shaped (pick {A = PutAnswer} b (record { answer = Stored; map = to_map (with v (put_entry e v.list)) })
         (record { answer = Full; map = to_map v })).map
     by true q =
         record {
           view = with v (put_entry e v.list);
           is = refl;
-          few = leb-true (length (put_entry e v.list)) CODES_MAX q;
+          few = leb-true (length (put_entry e v.list)) codes_max q;
           ascends = put_ascending e v.list a;
         }
     by false q = record { view = v; is = refl; few = l; ascends = a }
@@ -68,7 +68,7 @@ unfolding to_map
 shaped_name m start len s =
     subst (λ (x : Mapping). Shaped (with_name x start len)) (sym s.is) (by s.view s.few s.ascends)
   where
-    by : (v : MapView) → length v.list ≤ CODES_MAX → Ascending v.list → Shaped (with_name (to_map v) start len)
+    by : (v : MapView) → length v.list ≤ codes_max → Ascending v.list → Shaped (with_name (to_map v) start len)
     by v l a = record {
       view = record {
         list = v.list;
@@ -87,7 +87,7 @@ unfolding to_map
 shaped_hat m d s =
     subst (λ (x : Mapping). Shaped (with_hat x d)) (sym s.is) (by s.view s.few s.ascends)
   where
-    by : (v : MapView) → length v.list ≤ CODES_MAX → Ascending v.list → Shaped (with_hat (to_map v) d)
+    by : (v : MapView) → length v.list ≤ codes_max → Ascending v.list → Shaped (with_hat (to_map v) d)
     by v l a = record {
       view = record {
         list = v.list;

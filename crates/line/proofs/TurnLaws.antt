@@ -26,7 +26,7 @@ use Rattle.line.specs.declared.reading.SdlAnswer.TheVariants.{Accepted, Refused}
 use Rattle.line.specs.declared.reading.SdlMapping.{SdlMapping}
 use Rattle.line.specs.declared.reading.Turn.{Turn}
 use Rattle.line.specs.declared.mapping.draft.Draft.{Draft}
-use Rattle.line.specs.Maps.{CODES_MAX, MapView, to_map, unused_entry, put_entry}
+use Rattle.line.specs.Maps.{codes_max, MapView, to_map, unused_entry, put_entry}
 use Rattle.line.specs.Refusals.{refusal_at}
 use Rattle.line.specs.Reading.{accepted_of, refused_of, refuses, with_name, with_hat, stored_at, put_one, then_put}
 use Rattle.line.specs.Reading.{flagged, put_all, skips, taken}
@@ -46,10 +46,10 @@ answer_of_lem true m n p = refl
 answer_of_lem false m n p = refl
 
 one_of : (v : MapView) (e : Entry) (p : ℕ) → put_one (to_map v) e p
-    ≡ pick (leb (length (put_entry e v.list)) CODES_MAX) (accepted_of (to_map (with v (put_entry e v.list))))
+    ≡ pick (leb (length (put_entry e v.list)) codes_max) (accepted_of (to_map (with v (put_entry e v.list))))
     (refuses (refusal_at 11 p))
 unfolding put_one
-one_of v e p = rw (put_to_map v e) (answer_of_lem (leb (length (put_entry e v.list)) CODES_MAX) _ _ p)
+one_of v e p = rw (put_to_map v e) (answer_of_lem (leb (length (put_entry e v.list)) codes_max) _ _ p)
 
 -- the draft with another count
 abbrev pub counted : Draft → ℕ → Draft
@@ -63,16 +63,16 @@ abbrev pub stops : Draft → ParseSdlMappingError → Turn
 stops d e = record { answer = Refused e; draft = d }
 
 module _ (d : Draft) (xs : List ℕ) (e : Entry) (p n : ℕ) (ys : List ℕ) (put : PutIn d.count xs e n ys) where
-  pub one_stored : (t : Turn) → n ≤ CODES_MAX → t ≡ goes_on_at (counted d n)
+  pub one_stored : (t : Turn) → n ≤ codes_max → t ≡ goes_on_at (counted d n)
       → Turned (put_one (to_map (view_in d xs)) e p) t ys
   one_stored t h f =
-      let fits = le-leb (length (put_entry e (entries_in d.count xs))) CODES_MAX (omega (arith, put.many)) in
+      let fits = le-leb (length (put_entry e (entries_in d.count xs))) codes_max (omega (arith, put.many)) in
       rw f (record { is = one_of (view_in d xs) e p ∙ rw (fits, ← put.are h); room = (h, put.long) })
 
-  pub one_full : (t : Turn) → CODES_MAX < n → d.count ≤ CODES_MAX → t ≡ stops d (Pe.TooManyCodes p)
+  pub one_full : (t : Turn) → codes_max < n → d.count ≤ codes_max → t ≡ stops d (Pe.TooManyCodes p)
       → Turned (put_one (to_map (view_in d xs)) e p) t ys
   one_full t h m f =
-      let over = lt-leb (length (put_entry e (entries_in d.count xs))) CODES_MAX (omega (arith, put.many)) in
+      let over = lt-leb (length (put_entry e (entries_in d.count xs))) codes_max (omega (arith, put.many)) in
       rw f (record { is = one_of (view_in d xs) e p ∙ rw over; room = (m, put.long) })
 
 -- ---- what a turn leaves
@@ -118,7 +118,7 @@ pub flag_one : (v : MapView) (e : Entry) (p flags : ℕ) → flagged (put_one (t
     ≡ put_one (to_map (flagged_view v flags)) e p
 flag_one v e p flags =
     ap (λ (y : SdlMapping). flagged y flags) (one_of v e p)
-    ∙ flag_answer (leb (length (put_entry e v.list)) CODES_MAX) (with v (put_entry e v.list)) p flags
+    ∙ flag_answer (leb (length (put_entry e v.list)) codes_max) (with v (put_entry e v.list)) p flags
     ∙ sym (one_of (flagged_view v flags) e p)
 
 flag_two_answer : (t : Bool) (v : MapView) (f : Entry) (p flags : ℕ)
@@ -131,7 +131,7 @@ pub flag_two : (v : MapView) (e f : Entry) (p flags : ℕ) → flagged (then_put
     ≡ then_put (put_one (to_map (flagged_view v flags)) e p) f p
 flag_two v e f p flags =
     ap (λ (y : SdlMapping). flagged (then_put y f p) flags) (one_of v e p)
-    ∙ flag_two_answer (leb (length (put_entry e v.list)) CODES_MAX) (with v (put_entry e v.list)) f p flags
+    ∙ flag_two_answer (leb (length (put_entry e v.list)) codes_max) (with v (put_entry e v.list)) f p flags
     ∙ ap (λ (y : SdlMapping). then_put y f p) (sym (one_of (flagged_view v flags) e p))
 
 pub name_view : (d : Draft) (xs : List ℕ) (start len : ℕ) → with_name (to_map (view_in d xs)) start len
@@ -141,7 +141,7 @@ name_view d xs start len = refl
 
 -- ---- the map that is made at the end
 pub draft_map : (d : Draft) (xs : List ℕ) (es : List Entry) → Roomy d.count xs
-    → es ≡ entries_in d.count xs ++ drop d.count (replicate CODES_MAX unused_entry)
+    → es ≡ entries_in d.count xs ++ drop d.count (replicate codes_max unused_entry)
     → ◌≡◌ {A = Mapping} (record {
       count = d.count;
       entries = es;
@@ -154,7 +154,7 @@ pub draft_map : (d : Draft) (xs : List ℕ) (es : List Entry) → Roomy d.count 
 unfolding to_map
 draft_map d xs es room e =
     let h : d.count ≤ length xs = omega (arith, room.0, room.1) in
-    rw (e, many_in d.count xs h, drop-replicate d.count CODES_MAX unused_entry)
+    rw (e, many_in d.count xs h, drop-replicate d.count codes_max unused_entry)
 
 -- ---- the puts of a field, and what the walker answers
 module _ (d : Draft) (xs : List ℕ) (p : ℕ) where

@@ -14,7 +14,7 @@ use Rattle.line.specs.declared.mapping.PutAnswer.{PutAnswer}
 use Rattle.line.specs.declared.mapping.PutResult.TheVariants.{Stored, Full}
 use Rattle.text.specs.Bytes.{pick}
 use Rattle.line.proofs.PickLaws.{picked}
-use Rattle.line.specs.Maps.{CODES_MAX, unused_entry, MapView, to_map, held, put_entry, put_of}
+use Rattle.line.specs.Maps.{codes_max, unused_entry, MapView, to_map, held, put_entry, put_of}
 
 -- the map with other entries
 abbrev pub with : MapView → List Entry → MapView
@@ -30,7 +30,7 @@ with v es = record {
 -- a put into such a map
 abbrev pub put_view : MapView → Entry → PutAnswer
 put_view v e =
-    pick (leb (length (put_entry e v.list)) CODES_MAX)
+    pick (leb (length (put_entry e v.list)) codes_max)
     (record { answer = Stored; map = to_map (with v (put_entry e v.list)) })
     (record { answer = Full; map = to_map v })
 
@@ -69,7 +69,7 @@ unfolding put_of to_map
 put_to_map v e =
     rw (
       held-to_map v,
-      padded_rest v.list CODES_MAX (length (put_entry e v.list)) unused_entry
+      padded_rest v.list codes_max (length (put_entry e v.list)) unused_entry
           (put_grows e v.list),
     )
 
@@ -86,10 +86,10 @@ by_full true x y e = cc
 by_full false x y e = refl
 
 module _ (v : MapView) (e : Entry) where
-  pub stored_fits : (put_of (to_map v) e).answer ≡ Stored → leb (length (put_entry e v.list)) CODES_MAX ≡ true
+  pub stored_fits : (put_of (to_map v) e).answer ≡ Stored → leb (length (put_entry e v.list)) codes_max ≡ true
   stored_fits p = by-stored _ _ _ (rw (put_to_map v e) at p)
 
-  pub full_over : (put_of (to_map v) e).answer ≡ Full → leb (length (put_entry e v.list)) CODES_MAX ≡ false
+  pub full_over : (put_of (to_map v) e).answer ≡ Full → leb (length (put_entry e v.list)) codes_max ≡ false
   full_over p = by_full _ _ _ (rw (put_to_map v e) at p)
 
   pub stored-map : (put_of (to_map v) e).answer ≡ Stored → (put_of (to_map v) e).map ≡ to_map (with v (put_entry e v.list))
@@ -104,8 +104,8 @@ put_adds e (x ∷ xs) =
     (picked (λ (l : List Entry). length l ≤ suc (length xs) + 1) (eqb x.code.0 e.code.0) (omega arith)
     (omega (arith, put_adds e xs)))
 
-pub put_map : (v : MapView) (e : Entry) → length v.list < CODES_MAX → (put_of (to_map v) e).map
+pub put_map : (v : MapView) (e : Entry) → length v.list < codes_max → (put_of (to_map v) e).map
     ≡ to_map (with v (put_entry e v.list))
 put_map v e h =
-    let fits = le-leb (length (put_entry e v.list)) CODES_MAX (omega (arith, put_adds e v.list)) in
+    let fits = le-leb (length (put_entry e v.list)) codes_max (omega (arith, put_adds e v.list)) in
     rw (put_to_map v e, fits)

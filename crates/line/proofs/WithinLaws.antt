@@ -33,7 +33,7 @@ use Rattle.line.specs.declared.reading.SdlAnswer.{SdlAnswer}
 use Rattle.line.specs.declared.reading.SdlAnswer.TheVariants.{Accepted, Refused}
 use Rattle.line.specs.declared.reading.SdlMapping.{SdlMapping}
 use Rattle.line.specs.Fields.{find_from, field}
-use Rattle.line.specs.Maps.{CODES_MAX, empty_map, to_map, held, put_entry, with_entries, put_of}
+use Rattle.line.specs.Maps.{codes_max, empty_map, to_map, held, put_entry, with_entries, put_of}
 use Rattle.line.specs.Pairs.{refuse, pair_of}
 use Rattle.line.specs.Puts.{listed, hat_puts, puts_of}
 use Rattle.line.specs.Refusals.{refusal, refusal_at, reading_outcome}
@@ -64,7 +64,7 @@ empty_named n = omega arith
 module _ (n : ℕ) where
   put_named : (m : Mapping) (e : Entry) → NameIn n m → NameIn n (put_of m e).map
   unfolding put_of
-  put_named m e h = by (leb (length (put_entry e (held m))) CODES_MAX)
+  put_named m e h = by (leb (length (put_entry e (held m))) codes_max)
     where
       by : (t : Bool) → NameIn n (pick {A = PutAnswer} t
           (record { answer = Stored; map = with_entries m (put_entry e (held m)) })

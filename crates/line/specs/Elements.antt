@@ -27,31 +27,31 @@ button_code k = code_of (pick (leb k 15) (0x10130 + k - 1) (0x10220 + k - 16))
 abbrev pub axis_code : ℕ → Code
 axis_code k = code_of (0x30000 + k - 1)
 
--- "AXIS_DPADX 30010, AXIS_DPADY 30011, AXIS_RT 30012, AXIS_LT 30013, AXIS_RT2 30014, AXIS_LT2 30015."
-abbrev pub AXIS_DPADX : Code
-AXIS_DPADX = code_of 0x30010
+-- "axis_dpadx 30010, axis_dpady 30011, axis_rt 30012, axis_lt 30013, axis_rt2 30014, axis_lt2 30015."
+abbrev pub axis_dpadx : Code
+axis_dpadx = code_of 0x30010
 
-abbrev pub AXIS_DPADY : Code
-AXIS_DPADY = code_of 0x30011
+abbrev pub axis_dpady : Code
+axis_dpady = code_of 0x30011
 
-abbrev pub AXIS_RT : Code
-AXIS_RT = code_of 0x30012
+abbrev pub axis_rt : Code
+axis_rt = code_of 0x30012
 
-abbrev pub AXIS_LT : Code
-AXIS_LT = code_of 0x30013
+abbrev pub axis_lt : Code
+axis_lt = code_of 0x30013
 
-abbrev pub AXIS_RT2 : Code
-AXIS_RT2 = code_of 0x30014
+abbrev pub axis_rt2 : Code
+axis_rt2 = code_of 0x30014
 
-abbrev pub AXIS_LT2 : Code
-AXIS_LT2 = code_of 0x30015
+abbrev pub axis_lt2 : Code
+axis_lt2 = code_of 0x30015
 
 -- ---- "buttons 0..19, axes 0..8"
-abbrev pub BUTTON_LAST : ℕ
-BUTTON_LAST = 19
+abbrev pub button_last : ℕ
+button_last = 19
 
-abbrev pub AXIS_LAST : ℕ
-AXIS_LAST = 8
+abbrev pub axis_last : ℕ
+axis_last = 8
 
 -- ---- the element calls: "a number over 19 or 8 counts as 0 in them"
 abbrev pub counted_of : ℕ → ℕ → ℕ
@@ -63,10 +63,10 @@ one_of n [] = false
 one_of n (x ∷ xs) = pick (eqb n x) true (one_of n xs)
 
 abbrev pub counted_button : Button → ℕ
-counted_button b = counted_of BUTTON_LAST b.0
+counted_button b = counted_of button_last b.0
 
 abbrev pub counted_axis : Axis → ℕ
-counted_axis a = counted_of AXIS_LAST a.0
+counted_axis a = counted_of axis_last a.0
 
 -- `to_nec`: Unknown has no native code
 unfoldable pub to_nec_of : Button → ToNec

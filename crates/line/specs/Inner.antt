@@ -17,10 +17,10 @@ use Rattle.line.specs.declared.reading.SdlAnswer.TheVariants as Sd
 use Rattle.line.specs.declared.reading.SdlMapping.{SdlMapping}
 use Rattle.line.specs.declared.reading.Turn.{Turn}
 use Rattle.line.specs.declared.mapping.draft.Draft.{Draft}
-use Rattle.line.specs.Maps.{CODES_MAX, MapView, to_map, put_entry}
+use Rattle.line.specs.Maps.{codes_max, MapView, to_map, put_entry}
 use Rattle.line.specs.Numbers.{entry_in}
 use Rattle.line.specs.Reading.{accepted_of, refused_of}
-use Rattle.line.specs.Tables.{name_rows, AXES}
+use Rattle.line.specs.Tables.{name_rows, axes_table}
 
 -- the bytes before the first 0: the name that a row of the program's table holds
 unfoldable pub until_zero : List ℕ → List ℕ
@@ -32,9 +32,9 @@ abbrev pub kind_and_number : AxisOrBtn → List ℕ
 kind_and_number (El.Axis a) = 1 ∷ a.0 ∷ []
 kind_and_number (El.Btn b) = 0 ∷ b.0 ∷ []
 
--- `AXES` so
+-- `axes_table` so
 unfoldable pub kind_rows : List (List ℕ)
-kind_rows = map kind_and_number AXES
+kind_rows = map kind_and_number axes_table
 
 -- both tables, as they are lent to a search
 abbrev pub Lent : List (List ℕ) → List (List ℕ) → Type 0
@@ -60,13 +60,13 @@ numbers_with k x xs = take k xs ++ x ∷ drop k xs
 
 -- the array holds as many numbers as a map has codes at most, n of them in use
 abbrev pub Roomy : ℕ → List ℕ → Type 0
-Roomy n xs = (n ≤ CODES_MAX) × (length xs ≡ CODES_MAX)
+Roomy n xs = (n ≤ codes_max) × (length xs ≡ codes_max)
 
 -- e put among the first n of xs: r is the new count, and ys has the entries if there is room for them
 pub record PutIn (n : ℕ) (xs : List ℕ) (e : Entry) (r : ℕ) (ys : List ℕ) : Type 0 where
   pub many : r ≡ length (put_entry e (entries_in n xs))
-  pub are : r ≤ CODES_MAX → entries_in r ys ≡ put_entry e (entries_in n xs)
-  pub long : length ys ≡ CODES_MAX
+  pub are : r ≤ codes_max → entries_in r ys ≡ put_entry e (entries_in n xs)
+  pub long : length ys ≡ codes_max
 
 abbrev pub view_in : Draft → List ℕ → MapView
 view_in d xs =

@@ -23,8 +23,8 @@ use Rattle.line.specs.Elements.{code_of, same_element}
 use Rattle.line.specs.Refusals.{refusal, put_result_of}
 
 -- ---- "A map is a count of at most 256 and as many entries (code, element), ascending by code"
-abbrev pub CODES_MAX : ℕ
-CODES_MAX = 256
+abbrev pub codes_max : ℕ
+codes_max = 256
 
 -- an entry: a code and its element, and with document 02, P2, "input range, output range and inverted flag"
 abbrev pub ranged_entry : Code → AxisOrBtn → Ranges → Entry
@@ -54,7 +54,7 @@ unfoldable pub to_map : MapView → Mapping
 to_map v =
     record {
       count = length v.list;
-      entries = v.list ++ replicate (CODES_MAX - length v.list) unused_entry;
+      entries = v.list ++ replicate (codes_max - length v.list) unused_entry;
       name_start = v.name_start_of;
       name_len = v.name_len_of;
       is_default = v.is_default;
@@ -110,7 +110,7 @@ with_entries m es =
 -- "257 codes in a map": 11, the map unchanged
 unfoldable pub put_of : Mapping → Entry → PutAnswer
 put_of m e =
-    pick (leb (length (put_entry e (held m))) CODES_MAX)
+    pick (leb (length (put_entry e (held m))) codes_max)
     (record { answer = Stored; map = with_entries m (put_entry e (held m)) })
     (record { answer = put_result_of (Refuses (refusal 11)); map = m })
 

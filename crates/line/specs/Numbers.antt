@@ -9,14 +9,14 @@ use Rattle.line.specs.declared.parser.AxisRange.TheVariants as Ar
 use Rattle.line.specs.declared.parser.Ranges.{Ranges}
 use Rattle.line.specs.declared.mapping.Entry.{Entry}
 use Rattle.line.specs.Elements.{code_of}
-use Rattle.line.specs.Maps.{CODES_MAX, MapView, ranged_entry, puts_into}
+use Rattle.line.specs.Maps.{codes_max, MapView, ranged_entry, puts_into}
 
 -- what a code counts in the number of an entry, and what its shape does
-abbrev pub CODE_UNIT : ℕ
-CODE_UNIT = 4294967296
+abbrev pub code_unit : ℕ
+code_unit = 4294967296
 
-abbrev pub SHAPE_UNIT : ℕ
-SHAPE_UNIT = 65536
+abbrev pub shape_unit : ℕ
+shape_unit = 65536
 
 -- ---- a number of an entry; 0 is the unused entry
 -- a half: full 0, upper 1, lower 2
@@ -34,8 +34,8 @@ ranges_number r = pick r.inverted (halves_number r + 16) (halves_number r)
 
 -- the shape: twice the ranges, and 1 for an axis
 abbrev pub packed_number : ℕ → AxisOrBtn → ℕ → ℕ
-packed_number c (El.Btn b) k = c * CODE_UNIT + k * 2 * SHAPE_UNIT + b.0
-packed_number c (El.Axis a) k = c * CODE_UNIT + (k * 2 + 1) * SHAPE_UNIT + a.0
+packed_number c (El.Btn b) k = c * code_unit + k * 2 * shape_unit + b.0
+packed_number c (El.Axis a) k = c * code_unit + (k * 2 + 1) * shape_unit + a.0
 
 unfoldable pub entry_number : Entry → ℕ
 entry_number e = packed_number e.code.0 e.element (ranges_number e.ranges)
@@ -54,13 +54,13 @@ unfoldable pub shaped_entry : ℕ → ℕ → ℕ → Entry
 shaped_entry c shape n = ranged_entry (code_of c) (element_of_kind (shape % 2) n) (ranges_in (shape / 2))
 
 unfoldable pub entry_in : ℕ → Entry
-entry_in x = shaped_entry (x / CODE_UNIT) (x / SHAPE_UNIT % SHAPE_UNIT) (x % SHAPE_UNIT)
+entry_in x = shaped_entry (x / code_unit) (x / shape_unit % shape_unit) (x % shape_unit)
 
 -- ---- the map of numbers: the entries of the first 256, put one after the other, and the place of its name
 unfoldable pub puts_view : List ℕ → ℕ → ℕ → MapView
 puts_view xs start len =
     record {
-      list = puts_into (take CODES_MAX (map entry_in xs)) [];
+      list = puts_into (take codes_max (map entry_in xs)) [];
       name_start_of = start;
       name_len_of = len;
       is_default = false;

@@ -7,7 +7,7 @@ use Rattle.text.specs.declared.uuid.Spelled.{Spelled}
 use Rattle.text.specs.declared.uuid.UuidParse.TheVariants as Up
 use Rattle.line.specs.declared.mapping.Entry.{Entry}
 use Rattle.line.specs.declared.refusal.Outcome.TheVariants.{Refuses}
-use Rattle.line.specs.Maps.{CODES_MAX, puts_into}
+use Rattle.line.specs.Maps.{codes_max, puts_into}
 use Rattle.line.specs.Fields.{first_field, later_fields}
 use Rattle.line.specs.Walker.{guid_of}
 use Rattle.line.specs.Effects.{effect_of, entries_of, AllGo}
@@ -32,9 +32,9 @@ pub record Overfull (start : ℕ) (pairs : List (List ℕ)) (buttons axes : List
   pub are : pairs ≡ earlier ++ pair ∷ later
   pub place : place_after start earlier ≡ p
   pub go : AllGo earlier buttons axes
-  pub fit : unlike_codes (entries_of earlier buttons axes) ≤ CODES_MAX
+  pub fit : unlike_codes (entries_of earlier buttons axes) ≤ codes_max
   pub goes : (effect_of pair buttons axes).goes ≡ true
-  pub over : CODES_MAX < unlike_codes (entries_of earlier buttons axes ++ (effect_of pair buttons axes).puts)
+  pub over : codes_max < unlike_codes (entries_of earlier buttons axes ++ (effect_of pair buttons axes).puts)
 
 -- a line whose pairs are read: none of 10, 12, 1 and 2 comes before them, and it has a name; one of them, at p, is such
 pub record PutsTooMany (s buttons axes : List ℕ) (p : ℕ) : Type 0 where

@@ -18,7 +18,7 @@ use Rattle.line.specs.declared.reading.puts.Beside.{Beside}
 use Rattle.line.specs.declared.reading.puts.Beside.TheVariants as Bs
 use Rattle.line.specs.Buttons as B
 use Rattle.line.specs.Axes as A
-use Rattle.line.specs.Elements.{code_of, button_code, AXIS_DPADX, AXIS_DPADY}
+use Rattle.line.specs.Elements.{code_of, button_code, axis_dpadx, axis_dpady}
 use Rattle.line.specs.Maps.{entry_of, ranged_entry}
 
 -- "`a`N and `b`N put (axis or button list at N, element); N past the list does nothing"
@@ -31,10 +31,10 @@ listed codes n to ranges =
 unfoldable pub hat_codes : ℕ → HatCodes
 hat_codes d =
     pick (eqb d 0) Hc.Centre
-    (pick (eqb d 1) (Hc.Codes AXIS_DPADY (button_code (B.DPadUp).0) 1)
-    (pick (eqb d 4) (Hc.Codes AXIS_DPADY (button_code (B.DPadDown).0) 4)
-    (pick (eqb d 2) (Hc.Codes AXIS_DPADX (button_code (B.DPadRight).0) 2)
-    (pick (eqb d 8) (Hc.Codes AXIS_DPADX (button_code (B.DPadLeft).0) 8)
+    (pick (eqb d 1) (Hc.Codes axis_dpady (button_code (B.DPadUp).0) 1)
+    (pick (eqb d 4) (Hc.Codes axis_dpady (button_code (B.DPadDown).0) 4)
+    (pick (eqb d 2) (Hc.Codes axis_dpadx (button_code (B.DPadRight).0) 2)
+    (pick (eqb d 8) (Hc.Codes axis_dpadx (button_code (B.DPadLeft).0) 8)
     Hc.Unknown))))
 
 -- "To a DPad left/right (up/down) button: that axis code is put to axis 7 (8)"

@@ -134,11 +134,11 @@ unfoldable pub read_line : List ℕ → List ℕ → List ℕ → SdlMapping
 read_line s buttons axes = line_from 0 s empty_map buttons axes
 
 -- "a list over 1024 codes": 12
-abbrev pub LIST_MAX : ℕ
-LIST_MAX = 1024
+abbrev pub list_max : ℕ
+list_max = 1024
 
 abbrev pub lists_fit : List ℕ → List ℕ → Bool
-lists_fit buttons axes = leb (length buttons) LIST_MAX && leb (length axes) LIST_MAX
+lists_fit buttons axes = leb (length buttons) list_max && leb (length axes) list_max
 
 -- "Order: reading 10, 12, then line order."
 unfoldable pub reading_of : List ℕ → List ℕ → List ℕ → SdlMapping

@@ -15,17 +15,17 @@ use Rattle.line.specs.Buttons as B
 use Rattle.line.specs.Axes as A
 use Rattle.line.specs.Elements.{same_element}
 
--- "`AXES_SDL` and `AXES`, 35 rows each in byte order of the names"
-abbrev pub ROWS : ℕ
-ROWS = 35
+-- "`axes_sdl` and `axes_table`, 35 rows each in byte order of the names"
+abbrev pub row_count : ℕ
+row_count = 35
 
 -- the longest name, and the bytes of a row
-abbrev pub IDENT_MAX : ℕ
-IDENT_MAX = 13
+abbrev pub ident_max : ℕ
+ident_max = 13
 
--- `AXES_SDL`, row by row
-unfoldable pub AXES_SDL : List (List ℕ)
-AXES_SDL =
+-- `axes_sdl`, row by row
+unfoldable pub axes_sdl : List (List ℕ)
+axes_sdl =
     map ascii
     (
     "a" ∷ "b" ∷ "back" ∷ "c" ∷ "dpdown" ∷ "dpleft" ∷ "dpright" ∷
@@ -34,9 +34,9 @@ AXES_SDL =
     "paddle2" ∷ "paddle3" ∷ "paddle4" ∷ "rightshoulder" ∷ "rightstick" ∷ "righttrigger" ∷ "rightx" ∷
     "righty" ∷ "rightz" ∷ "start" ∷ "touchpad" ∷ "x" ∷ "y" ∷ "z" ∷ [])
 
--- `AXES`, row by row
-unfoldable pub AXES : List AxisOrBtn
-AXES =
+-- `axes_table`, row by row
+unfoldable pub axes_table : List AxisOrBtn
+axes_table =
     Btn B.South ∷ Btn B.East ∷ Btn B.Select ∷ Btn B.C ∷ Btn B.DPadDown ∷
     Btn B.DPadLeft ∷ Btn B.DPadRight ∷ Btn B.DPadUp ∷ Btn B.Mode ∷ Btn B.LeftTrigger ∷
     Btn B.LeftThumb ∷ Btn B.LeftTrigger2 ∷ Axis A.LeftStickX ∷ Axis A.LeftStickY ∷ Axis A.LeftZ ∷
@@ -47,33 +47,33 @@ AXES =
 
 -- the name in a row
 abbrev pub name_at : ℕ → List ℕ
-name_at i = get_or AXES_SDL i []
+name_at i = get_or axes_sdl i []
 
--- ---- "the key is sought in `AXES_SDL` and `AXES`"
+-- ---- "the key is sought in `axes_sdl` and `axes_table`"
 -- the first of the names, counted from i, that is the key
 unfoldable pub row_from : ℕ → List (List ℕ) → List ℕ → KeyRow
 row_from i [] key = Nowhere
 row_from i (n ∷ ns) key = pick (same n key) (At i) (row_from (suc i) ns key)
 
 unfoldable pub key_row : List ℕ → KeyRow
-key_row key = row_from 0 AXES_SDL key
+key_row key = row_from 0 axes_sdl key
 
 -- the element that stands in a row
 abbrev pub element_in : KeyRow → KeyElement
-element_in (At i) = Is (get_or AXES i (Btn B.Unknown))
+element_in (At i) = Is (get_or axes_table i (Btn B.Unknown))
 element_in Nowhere = Missing
 
 abbrev pub key_element : List ℕ → KeyElement
 key_element key = element_in (key_row key)
 
--- ---- "its ident (the one name in `AXES_SDL` whose row in `AXES` is that element)"
+-- ---- "its ident (the one name in `axes_sdl` whose row in `axes_table` is that element)"
 -- the first of the elements, counted from i, that is e
 unfoldable pub element_from : ℕ → List AxisOrBtn → AxisOrBtn → KeyRow
 element_from i [] e = Nowhere
 element_from i (x ∷ xs) e = pick (same_element x e) (At i) (element_from (suc i) xs e)
 
 unfoldable pub element_row : AxisOrBtn → KeyRow
-element_row e = element_from 0 AXES e
+element_row e = element_from 0 axes_table e
 
 abbrev pub name_in_line : KeyRow → List ℕ
 name_in_line (At i) = name_at i
@@ -89,7 +89,7 @@ how_many e (x ∷ xs) = pick (same_element x e) 1 0 + how_many e xs
 
 unfoldable pub one_row : (ℕ → AxisOrBtn) → ℕ → ℕ → Bool
 one_row f k zero = true
-one_row f k (suc n) = eqb (how_many (f k) AXES) 1 && one_row f (suc k) n
+one_row f k (suc n) = eqb (how_many (f k) axes_table) 1 && one_row f (suc k) n
 
 abbrev pub as_button : ℕ → AxisOrBtn
 as_button k = Btn (record { 0 = k })
@@ -99,11 +99,11 @@ as_axis k = Axis (record { 0 = k })
 
 -- as the program hands it out: the name, filled with zeros, and its length
 abbrev pub padded_name : List ℕ → List ℕ
-padded_name n = n ++ replicate (IDENT_MAX - length n) 0
+padded_name n = n ++ replicate (ident_max - length n) 0
 
--- `AXES_SDL` as the program holds it: each name, filled with zeros
+-- `axes_sdl` as the program holds it: each name, filled with zeros
 unfoldable pub name_rows : List (List ℕ)
-name_rows = map padded_name AXES_SDL
+name_rows = map padded_name axes_sdl
 
 abbrev pub named : List ℕ → Ident
 named n = record { name = padded_name n; len = length n }

@@ -1,6 +1,6 @@
 // The key names of mapping lines and the elements that they name, searched by key and by element.
 ghost use Rattle.std.specs.Prelude.{◌≡◌, ◌<◌, length, get_or};
-ghost use Rattle.line.specs.Tables.{ROWS, AXES, name_at, named, byte_order, key_row, element_row, key_element};
+ghost use Rattle.line.specs.Tables.{row_count, axes_table, name_at, named, byte_order, key_row, element_row, key_element};
 ghost use Rattle.line.specs.Tables.{name_rows, ident_of};
 ghost use Rattle.line.specs.Inner.{until_zero, kind_and_number, kind_rows, Lent};
 
@@ -128,7 +128,7 @@ pub fn key_names() -> [[u8; IDENT_MAX]; ROWS]
 
 // The elements as one value.
 fn key_elements() -> [AxisOrBtn; ROWS]
-    ensures { result ≡ AXES }
+    ensures { result ≡ axes_table }
 {
     AXES
 }
@@ -141,7 +141,7 @@ pub(crate) fn key_kinds() -> [[u16; 2]; ROWS]
 }
 
 fn kinds_of(elements: [AxisOrBtn; ROWS]) -> [[u16; 2]; ROWS]
-    requires { elements ≡ AXES }
+    requires { elements ≡ axes_table }
     ensures { result ≡ kind_rows }
 {
     let mut kinds = [[0u16; 2]; ROWS];
@@ -269,7 +269,7 @@ fn order_of(row: [u8; IDENT_MAX], key: &[u8]) -> Order
 }
 
 fn row_in(elements: [AxisOrBtn; ROWS], e: AxisOrBtn) -> KeyRow
-    requires { elements ≡ AXES }
+    requires { elements ≡ axes_table }
     ensures { result ≡ element_row e }
 {
     let mut i = 0;
@@ -284,8 +284,8 @@ fn row_in(elements: [AxisOrBtn; ROWS], e: AxisOrBtn) -> KeyRow
 }
 
 fn element_at(kinds: &[[u16; 2]; ROWS], i: usize) -> AxisOrBtn
-    requires { (kinds.now ≡ kind_rows) × (i < ROWS) }
-    ensures { result ≡ get_or AXES i (AxisOrBtn.Btn (record { 0 = 0 })) }
+    requires { (kinds.now ≡ kind_rows) × (i < row_count) }
+    ensures { result ≡ get_or axes_table i (AxisOrBtn.Btn (record { 0 = 0 })) }
 {
     let row = kinds[i];
     if row[0] == 0 {
@@ -295,7 +295,7 @@ fn element_at(kinds: &[[u16; 2]; ROWS], i: usize) -> AxisOrBtn
 }
 
 fn ident_at(names: &[[u8; IDENT_MAX]; ROWS], i: usize) -> Ident
-    requires { (names.now ≡ name_rows) × (i < ROWS) }
+    requires { (names.now ≡ name_rows) × (i < row_count) }
     ensures { result ≡ named (name_at i) }
 {
     let name = names[i];

@@ -14,8 +14,8 @@ use Rattle.text.specs.declared.uuid.Uuid.{Uuid}
 use Rattle.line.specs.declared.ev.AxisOrBtn.{AxisOrBtn}
 use Rattle.line.specs.declared.mapping.Entry.{Entry}
 use Rattle.line.specs.Maps.{entry_of}
-use Rattle.line.specs.Reading.{LIST_MAX}
-use Rattle.line.specs.Tables.{AXES_SDL, AXES, element_from, element_row, as_button, as_axis}
+use Rattle.line.specs.Reading.{list_max}
+use Rattle.line.specs.Tables.{axes_sdl, axes_table, element_from, element_row, as_button, as_axis}
 use Rattle.map.specs.declared.error.MappingAnswer.{MappingAnswer}
 use Rattle.map.specs.declared.error.MappingAnswer.TheVariants.{Accepted, Refused}
 use Rattle.map.specs.declared.mapping_data.MappingData.{MappingData}
@@ -26,7 +26,7 @@ use Rattle.map.specs.Slots.{button_of, axis_of}
 use Rattle.map.specs.Build.{also, filled_from, filled_buttons, filled_axes, missing_of, checks_of, built_line}
 use Rattle.map.specs.Build.{answer_of}
 use Rattle.map.specs.Inner.{pair_max, pairs_max, built_max}
-use Rattle.map.specs.Inner.{pair_length, pairs_length, line_length, BUILT_MAX, short_of}
+use Rattle.map.specs.Inner.{pair_length, pairs_length, line_length, built_line_max, short_of}
 use Rattle.map.proofs.CheckLaws.{Passed, passed}
 use Rattle.map.proofs.LengthLaws.{decimal_grows, line_length_lem}
 use Rattle.map.proofs.PlainLaws.{AllPlain, buttons_plain, axes_plain, named_buttons, named_axes, buttons_named}
@@ -44,11 +44,11 @@ first-listed e es codes h = by (in_list e.code codes) refl h
     by false p q = let z : ◌≡◌ {A = ℕ} 0 1 = cc in absurd (omega arith)
 
 -- ---- the length
-pair_most : (codes : List ℕ) (e : Entry) → place_of e.code codes < length codes → length codes ≤ LIST_MAX
+pair_most : (codes : List ℕ) (e : Entry) → place_of e.code codes < length codes → length codes ≤ list_max
     → pair_length codes e ≤ pair_max e.element
-pair_most codes e h l = omega (arith, decimal_grows (place_of e.code codes) (LIST_MAX - 1) (omega arith))
+pair_most codes e h l = omega (arith, decimal_grows (place_of e.code codes) (list_max - 1) (omega arith))
 
-module _ (code : ℕ → SlotCode) (to : ℕ → AxisOrBtn) (codes : List ℕ) (fit : length codes ≤ LIST_MAX) where
+module _ (code : ℕ → SlotCode) (to : ℕ → AxisOrBtn) (codes : List ℕ) (fit : length codes ≤ list_max) where
   also_most : (s : SlotCode) (e : AxisOrBtn) (es : List Entry) (n : ℕ) → missing_of (also s e es) codes ≡ Nothing
       → (missing_of es codes ≡ Nothing → pairs_length codes es ≤ n) → pairs_length codes (also s e es) ≤ pair_max e + n
   unfolding pairs_length
@@ -96,7 +96,7 @@ module _ (d : MappingData) (buttons axes name : List ℕ) (p : Passed d buttons 
 
 -- 34 + 8192 + 143 + 25 × 7
 pub built_max_lem : built_max ≡ 8544
-unfolding built_max pairs_max decimal digits AXES_SDL AXES element_row element_from
+unfolding built_max pairs_max decimal digits axes_sdl axes_table element_row element_from
 built_max_lem = refl
 
 module _ (d : MappingData) (buttons axes name : List ℕ) (uuid : Uuid) where
@@ -120,7 +120,7 @@ module _ (d : MappingData) (buttons axes name : List ℕ) (uuid : Uuid) where
 
 -- ---- whether an output is too short: one that holds every line is not
 pub short_so : (room n : ℕ) → short_of room n ≡ true → room < n
-short_so room n h = by (leb BUILT_MAX room) h
+short_so room n h = by (leb built_line_max room) h
   where
     by : (t : Bool) → pick t false (ltb room n) ≡ true → room < n
     by true q = let z : ◌≡◌ {A = ℕ} 0 1 = cc in absurd (omega arith)
@@ -128,14 +128,14 @@ short_so room n h = by (leb BUILT_MAX room) h
 
 pub fits_so : (d : MappingData) (buttons axes name : List ℕ) (uuid : Uuid) → checks_of d buttons axes name ≡ Accepted
     → (room n : ℕ) → n ≡ line_length d buttons axes name → short_of room n ≡ false → n ≤ room
-fits_so d buttons axes name uuid c room n e h = by (leb BUILT_MAX room) refl h
+fits_so d buttons axes name uuid c room n e h = by (leb built_line_max room) refl h
   where
-    by : (t : Bool) → leb BUILT_MAX room ≡ t → pick t false (ltb room n) ≡ false → n ≤ room
+    by : (t : Bool) → leb built_line_max room ≡ t → pick t false (ltb room n) ≡ false → n ≤ room
     by true p q =
         omega (
           arith,
           e,
-          leb-true BUILT_MAX room p,
+          leb-true built_line_max room p,
           built_length d buttons axes name uuid c,
           built_max_lem,
           line_length_lem d buttons axes name uuid,

@@ -14,7 +14,7 @@ use Rattle.text.specs.declared.uuid.Uuid.{Uuid}
 use Rattle.text.proofs.ListLaws.{both_parts}
 use Rattle.line.specs.Buttons as B
 use Rattle.line.specs.Axes as A
-use Rattle.line.specs.Reading.{LIST_MAX}
+use Rattle.line.specs.Reading.{list_max}
 use Rattle.map.specs.declared.error.MappingError.{MappingError}
 use Rattle.map.specs.declared.error.MappingError.TheVariants as Me
 use Rattle.map.specs.declared.error.MappingAnswer.{MappingAnswer}
@@ -23,7 +23,7 @@ use Rattle.map.specs.declared.mapping_data.MappingData.{MappingData}
 use Rattle.map.specs.declared.mapping_data.SlotCode.{SlotCode}
 use Rattle.map.specs.declared.mapping_data.SlotCode.TheVariants.{Is, Nothing}
 use Rattle.map.specs.Slots.{has_code_in, button_of, axis_of}
-use Rattle.map.specs.Build.{NAME_MAX, comma_free, missing_of, when_missing, axis_checks, slot_checks}
+use Rattle.map.specs.Build.{name_max, comma_free, missing_of, when_missing, axis_checks, slot_checks}
 use Rattle.map.specs.Build.{filled_buttons, filled_axes, checks_of, built_line, built_map, answer_of, build_of, output_of}
 use Rattle.map.specs.Build.{refused_build, Builds}
 use Rattle.map.specs.Inner.{line_length}
@@ -56,9 +56,9 @@ empty Nothing h = refl
 -- ---- all checks pass
 pub record Passed (d : MappingData) (buttons axes name : List ℕ) : Type 0 where
   pub utf8 : is_utf8 name ≡ true
-  pub short : length name ≤ NAME_MAX
-  pub buttons_fit : length buttons ≤ LIST_MAX
-  pub axes_fit : length axes ≤ LIST_MAX
+  pub short : length name ≤ name_max
+  pub buttons_fit : length buttons ≤ list_max
+  pub axes_fit : length axes ≤ list_max
   pub comma_free_lem : comma_free name ≡ true
   pub no_button : button_of d B.Unknown ≡ Nothing
   pub buttons_listed : missing_of (filled_buttons d) buttons ≡ Nothing
@@ -81,12 +81,12 @@ passed_all d buttons axes name h =
     let m = missing_passes _ _ a.1 in
     let x = when_passes _ _ _ m.1 in
     let y = when_passes _ _ _ x.1 in
-    let fit = both_parts (leb (length buttons) LIST_MAX) (leb (length axes) LIST_MAX) l.0 in
+    let fit = both_parts (leb (length buttons) list_max) (leb (length axes) list_max) l.0 in
     record {
       utf8 = u.0;
-      short = leb-true (length name) NAME_MAX n.0;
-      buttons_fit = leb-true (length buttons) LIST_MAX fit.0;
-      axes_fit = leb-true (length axes) LIST_MAX fit.1;
+      short = leb-true (length name) name_max n.0;
+      buttons_fit = leb-true (length buttons) list_max fit.0;
+      axes_fit = leb-true (length axes) list_max fit.1;
       comma_free_lem = c.0;
       no_button = empty _ b.0;
       buttons_listed = bs.0;

@@ -18,13 +18,13 @@ use Rattle.line.specs.declared.ev.AxisOrBtn.TheVariants.{Btn}
 use Rattle.line.specs.declared.mapping.Entry.{Entry}
 use Rattle.line.specs.declared.mapping.Mapping.{Mapping}
 use Rattle.line.specs.Buttons as B
-use Rattle.line.specs.Elements.{code_of, BUTTON_LAST}
+use Rattle.line.specs.Elements.{code_of, button_last}
 use Rattle.line.specs.declared.parser.Ranges.{Ranges}
 use Rattle.line.specs.Maps.{full_ranges, ranged_entry, entry_of, unused_entry, put_entry, to_map, empty_map}
 use Rattle.line.specs.Tables.{as_button}
 use Rattle.line.proofs.TableLaws.{get_d_any}
 use Rattle.line.proofs.ViewLaws.{put_adds}
-use Rattle.map.specs.Keys.{KEY_FIRST, KEYS, key_number}
+use Rattle.map.specs.Keys.{key_first, key_count, key_number}
 use Rattle.map.specs.Default.{button_rows, axis_rows, axis_row_count, in_its_list, put_kept, flagged_map}
 
 -- ---- the rows
@@ -71,17 +71,17 @@ key_rows (suc n) c = pick (eqb (key_number c) 0) (key_rows n (suc c)) (key_row c
 
 -- from place i of the table on
 abbrev pub rows_from : ℕ → List Entry
-rows_from i = key_rows (KEYS - i) (KEY_FIRST + i)
+rows_from i = key_rows (key_count - i) (key_first + i)
 
 pub rows-first : rows_from 0 ≡ button_rows
 unfolding key_rows button_rows
 rows-first = refl
 
-pub rows_last : (i : ℕ) → i ≡ KEYS → rows_from i ≡ []
+pub rows_last : (i : ℕ) → i ≡ key_count → rows_from i ≡ []
 unfolding key_rows
 rows_last i e = rw e
 
-pub buttons_many : length button_rows ≡ BUTTON_LAST
+pub buttons_many : length button_rows ≡ button_last
 unfolding button_rows
 buttons_many = refl
 
@@ -90,19 +90,19 @@ rows_step : (n c : ℕ) → key_rows (suc n) c
 unfolding key_rows
 rows_step n c = refl
 
-module _ (i : ℕ) (h : i < KEYS) where
+module _ (i : ℕ) (h : i < key_count) where
   rows_next : rows_from i
-      ≡ pick (eqb (key_number (KEY_FIRST + i)) 0) (rows_from (i + 1)) (key_row (KEY_FIRST + i) ∷ rows_from (i + 1))
+      ≡ pick (eqb (key_number (key_first + i)) 0) (rows_from (i + 1)) (key_row (key_first + i) ∷ rows_from (i + 1))
   rows_next =
-      let p : KEYS - i ≡ suc (KEYS - (i + 1)) = omega arith in
-      let q : KEY_FIRST + (i + 1) ≡ suc (KEY_FIRST + i) = omega arith in
-      rw (p, q) (rows_step (KEYS - (i + 1)) (KEY_FIRST + i))
+      let p : key_count - i ≡ suc (key_count - (i + 1)) = omega arith in
+      let q : key_first + (i + 1) ≡ suc (key_first + i) = omega arith in
+      rw (p, q) (rows_step (key_count - (i + 1)) (key_first + i))
 
-  pub rows_none : key_number (KEY_FIRST + i) ≡ 0 → rows_from i ≡ rows_from (i + 1)
-  rows_none e = rows_next ∙ rw (eq-eqb (key_number (KEY_FIRST + i)) 0 e)
+  pub rows_none : key_number (key_first + i) ≡ 0 → rows_from i ≡ rows_from (i + 1)
+  rows_none e = rows_next ∙ rw (eq-eqb (key_number (key_first + i)) 0 e)
 
-  pub rows-some : (key_number (KEY_FIRST + i) ≡ 0 → ⊥) → rows_from i ≡ key_row (KEY_FIRST + i) ∷ rows_from (i + 1)
-  rows-some e = rows_next ∙ rw (ne_eqb (key_number (KEY_FIRST + i)) 0 e)
+  pub rows-some : (key_number (key_first + i) ≡ 0 → ⊥) → rows_from i ≡ key_row (key_first + i) ∷ rows_from (i + 1)
+  rows-some e = rows_next ∙ rw (ne_eqb (key_number (key_first + i)) 0 e)
 
 -- ---- the fold
 module _ (b a : List ℕ) (es xs : List Entry) (i : ℕ) (d : Entry) (h : i < length xs) where

@@ -19,8 +19,8 @@ use Rattle.line.specs.declared.ev.AxisOrBtn.{AxisOrBtn}
 use Rattle.line.specs.declared.mapping.Entry.{Entry}
 use Rattle.line.specs.declared.tables.KeyRow.{KeyRow}
 use Rattle.line.specs.declared.tables.KeyRow.TheVariants.{At, Nowhere}
-use Rattle.line.specs.Reading.{LIST_MAX}
-use Rattle.line.specs.Tables.{IDENT_MAX, AXES_SDL, name_in_line, element_row, ident_text}
+use Rattle.line.specs.Reading.{list_max}
+use Rattle.line.specs.Tables.{ident_max, axes_sdl, name_in_line, element_row, ident_text}
 use Rattle.line.proofs.KeyLaws.{element_bound}
 use Rattle.line.proofs.TableLaws.{every_at}
 use Rattle.map.specs.declared.from_data.filled.Filled.{Filled}
@@ -34,20 +34,20 @@ use Rattle.map.proofs.OutputLaws.{line_parts}
 
 -- ---- an ident
 short : ℕ → List ℕ → Bool
-short k n = leb (length n) IDENT_MAX
+short k n = leb (length n) ident_max
 
 is_true : (t : Bool) → T t → t ≡ true
 is_true true h = refl
 is_true false h = absurd h
 
-name_short : (i : ℕ) → i < 35 → length (name_in_line (At i)) ≤ IDENT_MAX
-unfolding AXES_SDL short
-name_short i h = leb-true (length (name_in_line (At i))) IDENT_MAX (is_true _ (every_at short [] AXES_SDL tt i h))
+name_short : (i : ℕ) → i < 35 → length (name_in_line (At i)) ≤ ident_max
+unfolding axes_sdl short
+name_short i h = leb-true (length (name_in_line (At i))) ident_max (is_true _ (every_at short [] axes_sdl tt i h))
 
-pub ident_short : (e : AxisOrBtn) → length (ident_text e) ≤ IDENT_MAX
+pub ident_short : (e : AxisOrBtn) → length (ident_text e) ≤ ident_max
 ident_short e = go (element_row e) refl
   where
-    go : (r : KeyRow) → element_row e ≡ r → length (name_in_line r) ≤ IDENT_MAX
+    go : (r : KeyRow) → element_row e ≡ r → length (name_in_line r) ≤ ident_max
     go (At i) p = name_short i (element_bound e i p)
     go Nowhere p = omega arith
 
@@ -74,12 +74,12 @@ decimal_grows a b h = digits_grow a a b (omega arith) h
 pub place_le : (codes : List ℕ) (e : Entry) → place_of e.code codes ≤ length codes
 place_le codes e = first_le e.code.0 codes
 
-limit_digits : length (decimal LIST_MAX) ≡ 4
+limit_digits : length (decimal list_max) ≡ 4
 unfolding decimal digits
 limit_digits = refl
 
-pub index_short : (n : ℕ) → n ≤ LIST_MAX → length (decimal n) ≤ 4
-index_short n h = omega (arith, limit_digits, decimal_grows n LIST_MAX h)
+pub index_short : (n : ℕ) → n ≤ list_max → length (decimal n) ≤ 4
+index_short n h = omega (arith, limit_digits, decimal_grows n list_max h)
 
 pub pair_short : (codes : List ℕ) (e : Entry) → ListFits codes → pair_length codes e ≤ 20
 pair_short codes e h =

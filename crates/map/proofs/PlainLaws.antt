@@ -15,7 +15,7 @@ use Rattle.line.specs.declared.mapping.Entry.{Entry}
 use Rattle.line.specs.Buttons as B
 use Rattle.line.specs.Axes as A
 use Rattle.line.specs.Maps.{full_ranges}
-use Rattle.line.specs.Tables.{AXES_SDL, AXES, element_from, element_row, ident_text, as_button, as_axis}
+use Rattle.line.specs.Tables.{axes_sdl, axes_table, element_from, element_row, ident_text, as_button, as_axis}
 use Rattle.line.proofs.IdentLaws.{Named, button_named, axis_named}
 use Rattle.map.specs.declared.mapping_data.MappingData.{MappingData}
 use Rattle.map.specs.declared.mapping_data.SlotCode.{SlotCode}
@@ -37,11 +37,11 @@ all_letters to k zero = true
 all_letters to k (suc n) = both (every is_ident_byte (ident_text (to k))) (all_letters to (suc k) n)
 
 buttons_letters : T (all_letters as_button 1 19)
-unfolding all_letters every AXES_SDL AXES element_row element_from
+unfolding all_letters every axes_sdl axes_table element_row element_from
 buttons_letters = tt
 
 axes_letters : T (all_letters as_axis 1 6)
-unfolding all_letters every AXES_SDL AXES element_row element_from
+unfolding all_letters every axes_sdl axes_table element_row element_from
 axes_letters = tt
 
 both-T : (a b : Bool) → T (both a b) → (a ≡ true) × T b

@@ -9,7 +9,7 @@ use native.Mathlib.Numerals.{add-one}
 use lib.ListN.{length, take, get_or, set, length-take, length-append, length-set}
 use lib.Seq.{take_all, take-suc, take-suc-set}
 use Rattle.line.specs.declared.mapping.Entry.{Entry}
-use Rattle.line.specs.Maps.{CODES_MAX, Ascending, put_entry, to_map, puts_into}
+use Rattle.line.specs.Maps.{codes_max, Ascending, put_entry, to_map, puts_into}
 use Rattle.line.specs.Numbers.{entry_in, puts_view}
 use Rattle.line.proofs.PutLaws.{put_ascending}
 use Rattle.line.proofs.ViewLaws.{put_adds}
@@ -89,11 +89,11 @@ pub put_map : (f g : Filled) (xs ys zs : List ℕ) (n m k : ℕ) → Few f → F
 unfolding put_map_of puts_view
 put_map f g xs ys zs n m k b a p q =
     let l : map entry_in (take m zs) ≡ held_in f ++ held_in g = q.are ∙ ap (λ (es : List Entry). es ++ held_in g) p.are in
-    let few : length (held_in f ++ held_in g) ≤ CODES_MAX =
+    let few : length (held_in f ++ held_in g) ≤ codes_max =
     simp (length-append, length-take) (omega arith) in
     ap (λ (es : List Entry).
     to_map (record { list = puts_into es []; name_start_of = name_start_of; name_len_of = k; is_default = false; hat_flags = 0 }))
-    (ap (λ (es : List Entry). take CODES_MAX es) l ∙ take_all CODES_MAX (held_in f ++ held_in g) few)
+    (ap (λ (es : List Entry). take codes_max es) l ∙ take_all codes_max (held_in f ++ held_in g) few)
 
 pub map-held : (d : MappingData) (name buttons axes : List ℕ) (f g : Filled) → Holds buttons f (filled_buttons d)
     → Holds axes g (filled_axes d) → put_map_of f g (length name) ≡ built_map d name

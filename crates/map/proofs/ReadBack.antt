@@ -16,10 +16,10 @@ use Rattle.text.proofs.UuidLaws.{uuid_text-length}
 use Rattle.line.specs.declared.mapping.Entry.{Entry}
 use Rattle.line.specs.Elements.{code_of}
 use Rattle.line.specs.declared.parser.Ranges.{Ranges}
-use Rattle.line.specs.Maps.{CODES_MAX, MapView, full_ranges, ranged_entry, entry_of, to_map, puts_into}
+use Rattle.line.specs.Maps.{codes_max, MapView, full_ranges, ranged_entry, entry_of, to_map, puts_into}
 use Rattle.line.specs.Effects.{does, effect_of, entries_of, Effect, AllGo}
 use Rattle.line.specs.Folds.{flags_of, or_all, after}
-use Rattle.line.specs.Reading.{LIST_MAX, accepted_of, reading_of}
+use Rattle.line.specs.Reading.{list_max, accepted_of, reading_of}
 use Rattle.line.specs.Tables.{ident_text}
 use Rattle.line.proofs.CountLaws.{count_none}
 use Rattle.line.proofs.IdentLaws.{button_pair, axis_pair}
@@ -92,7 +92,7 @@ module _ (buttons axes : List ℕ) where
         (count_none is_plain_byte (byte ",") refl (pair_text letter codes e) (pair_plain letter codes e m p.0))
         (pair e p.0 p.1 w.0) (reads_pairs es fs gs p.2 w.1 r)
 
-  button_reads : length buttons ≤ LIST_MAX → (e : Entry) → Plain e.element → e.ranges ≡ full_ranges
+  button_reads : length buttons ≤ list_max → (e : Entry) → Plain e.element → e.ranges ≡ full_ranges
       → place_of e.code buttons < length buttons
       → effect_of (pair_text (byte "b") buttons e) buttons axes ≡ does (e ∷ []) (0 ∷ [])
   button_reads fit e p full h =
@@ -100,7 +100,7 @@ module _ (buttons axes : List ℕ) where
       axes h
       ∙ ap (λ (x : Entry). does (x ∷ []) (0 ∷ [])) (entry_at e buttons full h)
 
-  axis_reads : length axes ≤ LIST_MAX → (e : Entry) → Plain e.element → e.ranges ≡ full_ranges
+  axis_reads : length axes ≤ list_max → (e : Entry) → Plain e.element → e.ranges ≡ full_ranges
       → place_of e.code axes < length axes
       → effect_of (pair_text (byte "a") axes e) buttons axes ≡ does (e ∷ []) (0 ∷ [])
   axis_reads fit e p full h =
@@ -133,7 +133,7 @@ module _ (d : MappingData) (buttons axes name : List ℕ) (uuid : Uuid) where
         p.buttons_listed
         (rw (append-nil (pair_texts (byte "a") axes (filled_axes d)), append-nil (filled_axes d)) at last)
 
-    pairs_few : length (puts_into (entries_of (pairs_of d buttons axes) buttons axes) []) ≤ CODES_MAX
+    pairs_few : length (puts_into (entries_of (pairs_of d buttons axes) buttons axes) []) ≤ codes_max
     pairs_few =
         let es = filled_buttons d ++ filled_axes d in
         rw pairs_read.puts

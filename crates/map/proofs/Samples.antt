@@ -11,10 +11,10 @@ use Rattle.text.specs.Utf8.{begins, first_length, char_length, run_of, valid_run
 use Rattle.text.specs.Uuid.{hex_text}
 use Rattle.text.specs.declared.uuid.Uuid.{Uuid}
 use Rattle.line.specs.Buttons as B
-use Rattle.line.specs.Elements.{AXIS_DPADY, code_of}
+use Rattle.line.specs.Elements.{axis_dpady, code_of}
 use Rattle.line.specs.Maps.{MapView, entry_of, put_entry, puts_into, to_map}
 use Rattle.line.specs.Reading.{reading_of}
-use Rattle.line.specs.Tables.{AXES_SDL, AXES, element_from, element_row, as_axis}
+use Rattle.line.specs.Tables.{axes_sdl, axes_table, element_from, element_row, as_axis}
 use Rattle.line.proofs.Samples.{Sample, Gives, Holds, samples, samples_hold, U, button}
 use Rattle.map.specs.declared.error.MappingAnswer.TheVariants.{Accepted}
 use Rattle.map.specs.declared.mapping_data.MappingData.{MappingData}
@@ -63,7 +63,7 @@ followed_shown (x ∷ xs) ys h s = (h.0, followed_shown xs ys h.1 s)
 
 l_shown : Shown (sample_l ∷ [])
 unfolding build_of output_of answer_of checks_of slot_checks axis_checks missing_of filled_from button_of axis_of insert_btn_of
-    built_line built_map ended pair_texts puts_into put_entry first_of written decimal digits hex_text AXES_SDL AXES element_row
+    built_line built_map ended pair_texts puts_into put_entry first_of written decimal digits hex_text axes_sdl axes_table element_row
     element_from begins first_length char_length run_of valid_run is_utf8
 l_shown = (refl, refl, tt)
 
@@ -87,11 +87,11 @@ pub east_listed : default_of (0x10131 ∷ []) []
 unfolding default_of button_rows axis_rows put_kept in_its_list first_of put_entry
 east_listed = refl
 
--- South and AXIS_DPADY listed
+-- South and axis_dpady listed
 pub two-listed : default_of (0x10130 ∷ []) (0x30011 ∷ [])
     ≡ record {
       answer = Accepted;
-      map = to_map (flagged_map (button_row 1 ∷ entry_of AXIS_DPADY (as_axis 8) ∷ []));
+      map = to_map (flagged_map (button_row 1 ∷ entry_of axis_dpady (as_axis 8) ∷ []));
     }
 unfolding default_of button_rows axis_rows put_kept in_its_list first_of put_entry
 two-listed = refl

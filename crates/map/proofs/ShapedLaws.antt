@@ -7,7 +7,7 @@ use native.Mathlib.Omega.{arith}
 use lib.ListN.{length, length-append}
 use Rattle.line.specs.declared.mapping.Entry.{Entry}
 use Rattle.line.specs.declared.mapping.Mapping.{Mapping}
-use Rattle.line.specs.Maps.{CODES_MAX, to_map, Ascending, put_entry}
+use Rattle.line.specs.Maps.{codes_max, to_map, Ascending, put_entry}
 use Rattle.line.specs.Reading.{lists_fit}
 use Rattle.line.specs.Shapes.{Shaped}
 use Rattle.line.proofs.PickLaws.{picked}
@@ -25,7 +25,7 @@ use Rattle.map.proofs.PutsLaws.{puts_few, none_ascending, built_ascending}
 use Rattle.map.proofs.DefaultLaws.{buttons_many, kept_many}
 
 -- ---- build
-built_few : (d : MappingData) (name : List ℕ) → length (built_view d name).list ≤ CODES_MAX
+built_few : (d : MappingData) (name : List ℕ) → length (built_view d name).list ≤ codes_max
 built_few d name =
     omega (
       arith,
@@ -63,7 +63,7 @@ module _ (buttons axes : List ℕ) where
   unfolding axis_rows
   axes_many = refl
 
-  kept_few : length (put_kept buttons axes [] rows) ≤ CODES_MAX
+  kept_few : length (put_kept buttons axes [] rows) ≤ codes_max
   kept_few =
       omega (arith, kept_many buttons axes [] rows, length-append button_rows axis_rows, buttons_many, axes_many)
 

@@ -49,7 +49,7 @@ unfoldable pub ended : List (List ℕ) → List ℕ
 ended [] = []
 ended (f ∷ fs) = f ++ byte "," ∷ ended fs
 
--- "its ident (the one name in `AXES_SDL` whose row in `AXES` is that element), `:b` or `:a`, index";
+-- "its ident (the one name in `axes_sdl` whose row in `axes_table` is that element), `:b` or `:a`, index";
 -- "The index is a code's first place in its list."
 abbrev pub pair_text : ℕ → List ℕ → Entry → List ℕ
 pair_text letter codes e = ident_text e.element ++ byte ":" ∷ letter ∷ decimal (place_of e.code codes)
@@ -86,8 +86,8 @@ built_map d name = to_map (built_view d name)
 -- ---- the checks: "Build 10, 17, 12, 13, 14 for the button, 15 for buttons ascending, 14 for the axis, 15 ascending,
 -- 16, 18", one line for each below; 18 stands in `answer_of`
 -- 17, "name over 2048 bytes"; P6: "the name limit from 2048 to 8192"
-abbrev pub NAME_MAX : ℕ
-NAME_MAX = 8192
+abbrev pub name_max : ℕ
+name_max = 8192
 
 -- a check: refused as r says unless (when) the test holds, else as the rest says
 abbrev pub unless : Bool → Refusal → MappingAnswer → MappingAnswer
@@ -130,7 +130,7 @@ slot_checks d buttons axes =
 unfoldable pub checks_of : MappingData → List ℕ → List ℕ → List ℕ → MappingAnswer
 checks_of d buttons axes name =
     unless (is_utf8 name) (refusal_at 10 (valid_run name))
-    (unless (leb (length name) NAME_MAX) (refusal 17)
+    (unless (leb (length name) name_max) (refusal 17)
     (unless (lists_fit buttons axes) (refusal 12)
     (unless (comma_free name) (refusal 13)
     (slot_checks d buttons axes))))

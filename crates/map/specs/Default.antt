@@ -7,8 +7,8 @@ use Rattle.line.specs.declared.ev.AxisOrBtn.TheVariants.{Axis, Btn}
 use Rattle.line.specs.declared.mapping.Entry.{Entry}
 use Rattle.line.specs.Buttons as B
 use Rattle.line.specs.Axes as A
-use Rattle.line.specs.Elements.{button_code, axis_code, AXIS_DPADX, AXIS_DPADY, AXIS_LT, AXIS_RT, AXIS_LT2, AXIS_RT2}
-use Rattle.line.specs.Elements.{BUTTON_LAST}
+use Rattle.line.specs.Elements.{button_code, axis_code, axis_dpadx, axis_dpady, axis_lt, axis_rt, axis_lt2, axis_rt2}
+use Rattle.line.specs.Elements.{button_last}
 use Rattle.line.specs.Maps.{MapView, entry_of, put_entry, to_map, empty_map}
 use Rattle.line.specs.Reading.{lists_fit}
 use Rattle.line.specs.Refusals.{refusal}
@@ -32,21 +32,21 @@ abbrev pub axis_row : ℕ → Entry
 axis_row k = entry_of (axis_code k) (as_axis k)
 
 unfoldable pub button_rows : List Entry
-button_rows = numbered button_row BUTTON_LAST 1
+button_rows = numbered button_row button_last 1
 
--- "(AXIS_DPADX to axis 7, AXIS_DPADY to axis 8), AXIS_LT, AXIS_RT, AXIS_LT2, AXIS_RT2 to buttons 7, 8, 9, 10"
+-- "(axis_dpadx to axis 7, axis_dpady to axis 8), axis_lt, axis_rt, axis_lt2, axis_rt2 to buttons 7, 8, 9, 10"
 abbrev pub axis_row_count : ℕ
 axis_row_count = 12
 
 unfoldable pub axis_rows : List Entry
 axis_rows =
     numbered axis_row 6 1
-    ++ (entry_of AXIS_DPADX (Axis A.DPadX)
-    ∷ entry_of AXIS_DPADY (Axis A.DPadY)
-    ∷ entry_of AXIS_LT (Btn B.LeftTrigger)
-    ∷ entry_of AXIS_RT (Btn B.RightTrigger)
-    ∷ entry_of AXIS_LT2 (Btn B.LeftTrigger2)
-    ∷ entry_of AXIS_RT2 (Btn B.RightTrigger2)
+    ++ (entry_of axis_dpadx (Axis A.DPadX)
+    ∷ entry_of axis_dpady (Axis A.DPadY)
+    ∷ entry_of axis_lt (Btn B.LeftTrigger)
+    ∷ entry_of axis_rt (Btn B.RightTrigger)
+    ∷ entry_of axis_lt2 (Btn B.LeftTrigger2)
+    ∷ entry_of axis_rt2 (Btn B.RightTrigger2)
     ∷ [])
 
 abbrev pub rows : List Entry

@@ -12,14 +12,14 @@ use Rattle.line.specs.declared.mapping.Entry.{Entry}
 use Rattle.line.specs.declared.mapping.Mapping.{Mapping}
 use Rattle.line.specs.Maps.{unused_entry, puts_into, to_map}
 use Rattle.line.specs.Numbers.{entry_in}
-use Rattle.line.specs.Reading.{LIST_MAX}
+use Rattle.line.specs.Reading.{list_max}
 use Rattle.line.specs.declared.ev.AxisOrBtn.{AxisOrBtn}
 use Rattle.line.specs.Tables.{ident_text, as_button, as_axis}
 use Rattle.map.specs.declared.from_data.filled.Filled.{Filled}
 use Rattle.map.specs.declared.mapping_data.MappingData.{MappingData}
 use Rattle.map.specs.Lists.{place_of}
 use Rattle.map.specs.Slots.{button_slots}
-use Rattle.map.specs.Build.{NAME_MAX, filled_buttons, filled_axes, name_start_of}
+use Rattle.map.specs.Build.{name_max, filled_buttons, filled_axes, name_start_of}
 
 -- ---- the filled slots that the program has gathered
 abbrev pub held_in : Filled → List Entry
@@ -79,7 +79,7 @@ WritesPairs letter codes f out at next after = Put out at (pair_fields letter co
 
 -- ---- lengths
 abbrev pub ListFits : List ℕ → Type 0
-ListFits codes = length codes ≤ LIST_MAX
+ListFits codes = length codes ≤ list_max
 
 -- the filled slots can be counted
 abbrev pub Ready : List ℕ → Filled → Type 0
@@ -104,11 +104,11 @@ length_of buttons first axes last name =
     name_start_of + length name + 1 + pairs_length buttons (held_in first) + pairs_length axes (held_in last)
 
 -- an output of `room` bytes is too short for n, unless it holds every line
-abbrev pub BUILT_MAX : ℕ
-BUILT_MAX = 8544
+abbrev pub built_line_max : ℕ
+built_line_max = 8544
 
 abbrev pub short_of : ℕ → ℕ → Bool
-short_of room n = pick (leb BUILT_MAX room) false (ltb room n)
+short_of room n = pick (leb built_line_max room) false (ltb room n)
 
 -- ---- the place after what was written
 abbrev pub upto_of : Written → ℕ
@@ -135,7 +135,7 @@ put_map_of first last n =
 -- ---- how long a built line is at most
 -- a pair: its ident, `:b` or `:a`, the digits of the greatest place in a list, a comma
 abbrev pub pair_max : AxisOrBtn → ℕ
-pair_max e = length (ident_text e) + 2 + length (decimal (LIST_MAX - 1)) + 1
+pair_max e = length (ident_text e) + 2 + length (decimal (list_max - 1)) + 1
 
 -- the pairs of n elements from number k on
 unfoldable pub pairs_max : (ℕ → AxisOrBtn) → ℕ → ℕ → ℕ
@@ -144,4 +144,4 @@ pairs_max to (suc n) k = pair_max (to k) + pairs_max to n (suc k)
 
 -- the UUID and the longest name, each with a comma, and the 19 buttons and six axes that have an ident
 unfoldable pub built_max : ℕ
-built_max = name_start_of + NAME_MAX + 1 + pairs_max as_button 19 1 + pairs_max as_axis 6 1
+built_max = name_start_of + name_max + 1 + pairs_max as_button 19 1 + pairs_max as_axis 6 1

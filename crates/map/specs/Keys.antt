@@ -7,11 +7,11 @@ use Rattle.line.specs.declared.ev.Button.{Button}
 use Rattle.map.specs.declared.keys.KeyTable.{KeyTable}
 
 -- ---- "512 numbers for key codes 10100 to 102ff"
-abbrev pub KEY_FIRST : ℕ
-KEY_FIRST = 0x10100
+abbrev pub key_first : ℕ
+key_first = 0x10100
 
-abbrev pub KEYS : ℕ
-KEYS = 512
+abbrev pub key_count : ℕ
+key_count = 512
 
 -- "each the button number or 0", "from document 01's two button rules": "Button k of 1..15: 10130 + k - 1. Button k of
 -- 16..19: 10220 + k - 16.", from the code to the number
@@ -28,7 +28,7 @@ key_numbers (suc n) c = key_number c ∷ key_numbers n (suc c)
 
 -- the table
 unfoldable pub keys : List ℕ
-keys = key_numbers KEYS KEY_FIRST
+keys = key_numbers key_count key_first
 
 abbrev pub key_table : KeyTable
 key_table = record { buttons = keys }

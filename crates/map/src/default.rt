@@ -3,7 +3,7 @@ ghost use Rattle.std.specs.Prelude.{◌≡◌, [], ◌+◌, ◌<◌, get_or};
 ghost use Rattle.line.specs.Elements.{code_of};
 ghost use Rattle.line.specs.Maps.{unused_entry, entry_of, to_map};
 ghost use Rattle.line.specs.Tables.{as_button};
-ghost use Rattle.map.specs.Keys.{KEYS as keyCount, KEY_FIRST as keyFirst};
+ghost use Rattle.map.specs.Keys.{key_count, key_first};
 ghost use Rattle.map.specs.Default.{button_rows, axis_rows, axis_row_count, in_its_list, put_kept, flagged_map, kept_map};
 ghost use Rattle.map.specs.Default.{default_of};
 
@@ -78,8 +78,8 @@ fn in_its_list(buttons: &[u32], axes: &[u32], code: Code) -> bool
 
 // The row of a key code's place in the table and of the button's number there.
 fn key_row(i: usize, n: u8) -> Entry
-    requires { i < keyCount }
-    ensures { result ≡ entry_of (code_of (keyFirst + i)) (as_button n) }
+    requires { i < key_count }
+    ensures { result ≡ entry_of (code_of (key_first + i)) (as_button n) }
 {
     Entry::new(Code(KEY_FIRST + i as u32), AxisOrBtn::Btn(Button(n as u16)))
 }

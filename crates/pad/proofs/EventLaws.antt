@@ -19,7 +19,7 @@ use Rattle.line.specs.Elements.{same_element}
 use Rattle.line.specs.Maps.{entry_at}
 use Rattle.pad.specs.declared.events.Held.{Held}
 use Rattle.pad.specs.declared.events.Event.{Event}
-use Rattle.pad.specs.Pads.{ELEMENTS, put_held, choose, value_in, value_of, values_of, element_at, place_of, sameℤ}
+use Rattle.pad.specs.Pads.{element_count, put_held, choose, value_in, value_of, values_of, element_at, place_of, sameℤ}
 use Rattle.pad.specs.Pads.{changes}
 use Rattle.pad.specs.declared.telling.Change.{Change}
 use Rattle.pad.specs.Inner.{shifted, unshifted, one_event, OnlyOf, Touched}
@@ -138,11 +138,11 @@ module _ (hs ks : List Held) (es : List Entry) (r : Change) where
   Tells =
       (changes 0 (values_of hs es) (values_of ks es)
       ≡ pick (eqb r.before r.later) [] (one_event r.element (unshifted r.later) ∷ []))
-      × (unshifted r.before ≡ pick (ltb (place_of r.element) ELEMENTS) (value_of hs es r.element) (pos 0))
+      × (unshifted r.before ≡ pick (ltb (place_of r.element) element_count) (value_of hs es r.element) (pos 0))
       × (r.before < 65536)
       × (r.later < 65536)
 
-  pub still : changes 0 (values_of hs es) (values_of ks es) ≡ [] → place_of r.element ≡ ELEMENTS → r.before ≡ 32768
+  pub still : changes 0 (values_of hs es) (values_of ks es) ≡ [] → place_of r.element ≡ element_count → r.before ≡ 32768
       → r.later ≡ 32768 → Tells
   still e at b l = (
     unchanged (changes 0 (values_of hs es) (values_of ks es)) _ r.before r.later e (b ∙ sym l),

@@ -11,11 +11,11 @@ use Rattle.text.specs.Bytes.{pick}
 use Rattle.line.specs.declared.ev.AxisOrBtn.{AxisOrBtn}
 use Rattle.line.specs.declared.ev.AxisOrBtn.TheVariants as El
 use Rattle.line.specs.declared.mapping.Entry.{Entry}
-use Rattle.line.specs.Numbers.{SHAPE_UNIT, element_of_kind, shaped_entry, entry_in}
+use Rattle.line.specs.Numbers.{shape_unit, element_of_kind, shaped_entry, entry_in}
 use Rattle.pad.specs.PadGuarantee.{ShortElement, ShortAll}
 
 -- ---- an entry that its number gives back
-short_kind : (t : Bool) (n : ℕ) → n < SHAPE_UNIT
+short_kind : (t : Bool) (n : ℕ) → n < shape_unit
     → ShortElement (pick t (El.Btn (record { 0 = n })) (El.Axis (record { 0 = n })))
 short_kind true n l = l
 short_kind false n l = l
@@ -23,8 +23,8 @@ short_kind false n l = l
 short_in : (x : ℕ) → ShortElement (entry_in x).element
 unfolding entry_in shaped_entry
 short_in x =
-    let l : x % SHAPE_UNIT < SHAPE_UNIT = omega arith in
-    short_kind (eqb (x / SHAPE_UNIT % SHAPE_UNIT % 2) 0) (x % SHAPE_UNIT) l
+    let l : x % shape_unit < shape_unit = omega arith in
+    short_kind (eqb (x / shape_unit % shape_unit % 2) 0) (x % shape_unit) l
 
 pub short_back : (e : Entry) (x : ℕ) → entry_in x ≡ e → ShortElement e.element
 short_back e x q = subst (λ (y : Entry). ShortElement y.element) q (short_in x)

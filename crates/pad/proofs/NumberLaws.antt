@@ -20,7 +20,7 @@ use Rattle.line.specs.declared.mapping.Entered.{Entered}
 use Rattle.line.specs.declared.mapping.Entered.TheVariants as En
 use Rattle.line.specs.Elements.{same_element}
 use Rattle.line.specs.Maps.{entry_at}
-use Rattle.line.specs.Numbers.{CODE_UNIT, entry_in, shaped_entry}
+use Rattle.line.specs.Numbers.{code_unit, entry_in, shaped_entry}
 use Rattle.pad.specs.declared.value.ElementValue.{ElementValue}
 use Rattle.pad.specs.declared.value.ElementValue.TheVariants as Ev
 use Rattle.pad.specs.declared.events.Raw.{Raw}
@@ -54,7 +54,7 @@ many f xs n l =
     length-take-le n (map f xs) k
 
 -- ---- the first entry of a code
-code_in : (x : ℕ) → (entry_in x).code.0 ≡ x / CODE_UNIT
+code_in : (x : ℕ) → (entry_in x).code.0 ≡ x / code_unit
 unfolding entry_in shaped_entry
 code_in x = refl
 
@@ -71,12 +71,12 @@ module _ (ys : List ℕ) (m k : ℕ) (c : Code) (l : m ≤ length ys) where
     front : entry_at (entry_in (get_or ys k 0) ∷ drop (k + 1) (entries_in m ys)) c ≡ entry_at (entries_in m ys) c
     front = ap (λ (es : List Entry). entry_at es c) (sym (next entry_in ys m k lt l)) ∙ inv
 
-    pub found : get_or ys k 0 / CODE_UNIT ≡ c.0 → entry_at (entries_in m ys) c ≡ En.Is (entry_in (get_or ys k 0))
+    pub found : get_or ys k 0 / code_unit ≡ c.0 → entry_at (entries_in m ys) c ≡ En.Is (entry_in (get_or ys k 0))
     found q =
         sym front
         ∙ at_here (entry_in (get_or ys k 0)) (drop (k + 1) (entries_in m ys)) c (code_in (get_or ys k 0) ∙ q)
 
-    pub passed : (get_or ys k 0 / CODE_UNIT ≡ c.0 → ⊥) → entry_at (drop (k + 1) (entries_in m ys)) c
+    pub passed : (get_or ys k 0 / code_unit ≡ c.0 → ⊥) → entry_at (drop (k + 1) (entries_in m ys)) c
         ≡ entry_at (entries_in m ys) c
     passed q =
         sym (at_later (entry_in (get_or ys k 0)) (drop (k + 1) (entries_in m ys)) c
@@ -118,7 +118,7 @@ given_fit En.Absent raw el f = tt
 gives_fit : (es : List Entry) (x : ℕ) (el : AxisOrBtn) → ValueFits (gives es (held_in x) el)
 unfolding held_in
 gives_fit es x el =
-    given_fit (entry_at es (held_in x).code) (raw_in (x % CODE_UNIT)) el (raw_in_fits (x % CODE_UNIT))
+    given_fit (entry_at es (held_in x).code) (raw_in (x % code_unit)) el (raw_in_fits (x % code_unit))
 
 -- ---- the preferred of two
 pub far : (v : ℤ) → SFits w16 v → distance_of (shifted v) ≡ nat_abs v

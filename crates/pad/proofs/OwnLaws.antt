@@ -16,7 +16,7 @@ use Rattle.line.specs.declared.mapping.Entered.{Entered}
 use Rattle.line.specs.declared.mapping.Entered.TheVariants as En
 use Rattle.line.specs.Elements.{code_of, same_element}
 use Rattle.line.specs.Maps.{entry_at}
-use Rattle.line.specs.Numbers.{CODE_UNIT, shaped_entry, entry_in}
+use Rattle.line.specs.Numbers.{code_unit, shaped_entry, entry_in}
 use Rattle.pad.specs.declared.events.Raw.{Raw}
 use Rattle.pad.specs.declared.events.Held.{Held}
 use Rattle.pad.specs.declared.value.ElementValue.{ElementValue}
@@ -26,10 +26,10 @@ use Rattle.pad.proofs.StateLaws.{map-take}
 
 -- ---- numbers that were seen
 unseen_more : (c : ℕ) (seen : List ℕ) (x : ℕ)
-    → unseen c (seen ++ x ∷ []) ≡ pick (eqb (x / CODE_UNIT) c) false (unseen c seen)
+    → unseen c (seen ++ x ∷ []) ≡ pick (eqb (x / code_unit) c) false (unseen c seen)
 unfolding unseen
 unseen_more c [] x = refl
-unseen_more c (y ∷ ys) x = by (eqb (y / CODE_UNIT) c) (eqb (x / CODE_UNIT) c) (unseen c ys) (unseen_more c ys x)
+unseen_more c (y ∷ ys) x = by (eqb (y / code_unit) c) (eqb (x / code_unit) c) (unseen c ys) (unseen_more c ys x)
   where
     by : (s t u : Bool) → unseen c (ys ++ x ∷ []) ≡ pick t false u
         → pick s false (unseen c (ys ++ x ∷ [])) ≡ pick t false (pick s false u)
@@ -48,7 +48,7 @@ suc-eqb a b = by (eqb a b) refl
 pub place-unseen : (c : ℕ) (ys : List ℕ) → unseen c ys ≡ eqb (place_in c ys) (length ys)
 unfolding unseen place_in
 place-unseen c [] = refl
-place-unseen c (y ∷ ys) = by (eqb (y / CODE_UNIT) c) (place-unseen c ys)
+place-unseen c (y ∷ ys) = by (eqb (y / code_unit) c) (place-unseen c ys)
   where
     by : (t : Bool) → unseen c ys ≡ eqb (place_in c ys) (length ys)
         → pick t false (unseen c ys) ≡ eqb (pick t 0 (suc (place_in c ys))) (suc (length ys))
@@ -56,23 +56,23 @@ place-unseen c (y ∷ ys) = by (eqb (y / CODE_UNIT) c) (place-unseen c ys)
     by false e = e ∙ sym (suc-eqb (place_in c ys) (length ys))
 
 -- ---- the first entry of a code among those that count
-code_in : (x : ℕ) → (entry_in x).code.0 ≡ x / CODE_UNIT
+code_in : (x : ℕ) → (entry_in x).code.0 ≡ x / code_unit
 unfolding entry_in shaped_entry
 code_in x = refl
 
-at_other : (x c : ℕ) (es : List Entry) → eqb (x / CODE_UNIT) c ≡ false
+at_other : (x c : ℕ) (es : List Entry) → eqb (x / code_unit) c ≡ false
     → entry_at (entry_in x ∷ es) (code_of c) ≡ entry_at es (code_of c)
 unfolding entry_at
 at_other x c es e = rw (code_in x, e)
 
-at_this : (x c : ℕ) (es : List Entry) → eqb (x / CODE_UNIT) c ≡ true
+at_this : (x c : ℕ) (es : List Entry) → eqb (x / code_unit) c ≡ true
     → entry_at (entry_in x ∷ es) (code_of c) ≡ En.Is (entry_in x)
 unfolding entry_at
 at_this x c es e = rw (code_in x, e)
 
-seen_other : (x c : ℕ) (seen : List ℕ) → unseen c seen ≡ false → unseen (x / CODE_UNIT) seen ≡ true
-    → eqb (x / CODE_UNIT) c ≡ false
-seen_other x c seen s u = ne_eqb (x / CODE_UNIT) c (λ e. clash (sym u ∙ ap (λ (k : ℕ). unseen k seen) e ∙ s))
+seen_other : (x c : ℕ) (seen : List ℕ) → unseen c seen ≡ false → unseen (x / code_unit) seen ≡ true
+    → eqb (x / code_unit) c ≡ false
+seen_other x c seen s u = ne_eqb (x / code_unit) c (λ e. clash (sym u ∙ ap (λ (k : ℕ). unseen k seen) e ∙ s))
   where
     clash : true ≡ false → ⊥
     clash e = let z : ◌≡◌ {A = ℕ} 0 1 = cc in absurd (omega arith)
@@ -82,9 +82,9 @@ module _ (el : AxisOrBtn) (ys : List ℕ) (x : ℕ) (e : Entry) (is : e ≡ entr
   element_is : same_element e.element el ≡ same_element (entry_in x).element el
   element_is = ap (λ (y : Entry). same_element y.element el) is
 
-  first_is : unseen (x / CODE_UNIT) ys ≡ eqb (place_in e.code.0 ys) (length ys)
+  first_is : unseen (x / code_unit) ys ≡ eqb (place_in e.code.0 ys) (length ys)
   first_is =
-      place-unseen (x / CODE_UNIT) ys
+      place-unseen (x / code_unit) ys
       ∙ ap (λ (c : ℕ). eqb (place_in c ys) (length ys)) (sym (ap (λ (y : Entry). y.code.0) is ∙ code_in x))
 
   pub counted-first : (p j : ℕ) → same_element e.element el ≡ true → p ≡ place_in e.code.0 ys → p ≡ j
@@ -92,7 +92,7 @@ module _ (el : AxisOrBtn) (ys : List ℕ) (x : ℕ) (e : Entry) (is : e ≡ entr
   unfolding counted
   counted-first p j s q f l =
       let a : same_element (entry_in x).element el ≡ true = sym element_is ∙ s in
-      let b : unseen (x / CODE_UNIT) ys ≡ true =
+      let b : unseen (x / code_unit) ys ≡ true =
       first_is ∙ eq-eqb (place_in e.code.0 ys) (length ys) (sym q ∙ f ∙ sym l) in
       rw (a, b)
 
@@ -101,7 +101,7 @@ module _ (el : AxisOrBtn) (ys : List ℕ) (x : ℕ) (e : Entry) (is : e ≡ entr
   unfolding counted
   counted-later p j s q f l =
       let a : same_element (entry_in x).element el ≡ true = sym element_is ∙ s in
-      let b : unseen (x / CODE_UNIT) ys ≡ false =
+      let b : unseen (x / code_unit) ys ≡ false =
       first_is ∙ ne_eqb (place_in e.code.0 ys) (length ys) (λ w. f (q ∙ w ∙ l)) in
       rw (a, b)
 
@@ -117,15 +117,15 @@ own_absent : (el : AxisOrBtn) (seen xs : List ℕ) (c : ℕ) → unseen c seen �
 unfolding own_from entry_at counted
 own_absent el seen [] c s = refl
 own_absent el seen (x ∷ xs) c s =
-    by (same_element (entry_in x).element el) (unseen (x / CODE_UNIT) seen) refl
+    by (same_element (entry_in x).element el) (unseen (x / code_unit) seen) refl
     (own_absent el (seen ++ x ∷ []) xs c
-    (unseen_more c seen x ∙ ap (λ (t : Bool). pick (eqb (x / CODE_UNIT) c) false t) s ∙ kept (eqb (x / CODE_UNIT) c)))
+    (unseen_more c seen x ∙ ap (λ (t : Bool). pick (eqb (x / code_unit) c) false t) s ∙ kept (eqb (x / code_unit) c)))
   where
     kept : (t : Bool) → pick t false false ≡ false
     kept true = refl
     kept false = refl
 
-    by : (t u : Bool) → unseen (x / CODE_UNIT) seen ≡ u
+    by : (t u : Bool) → unseen (x / code_unit) seen ≡ u
         → entry_at (map entry_in (own_from el (seen ++ x ∷ []) xs)) (code_of c) ≡ En.Absent
         → entry_at
         (map entry_in (pick (both t u) (x ∷ own_from el (seen ++ x ∷ []) xs) (own_from el (seen ++ x ∷ []) xs)))
@@ -153,7 +153,7 @@ module _ (el : AxisOrBtn) (seen : List ℕ) (x : ℕ) (xs : List ℕ) where
     given ys = given_by (entry_at (map entry_in ys) (code_of c)) raw el
 
     -- another code: it is passed over on both sides
-    gives_other : eqb (x / CODE_UNIT) c ≡ false → given later ≡ given xs
+    gives_other : eqb (x / code_unit) c ≡ false → given later ≡ given xs
         → given (own_from el seen (x ∷ xs)) ≡ given (x ∷ xs)
     gives_other e ih = by (counted el seen x) refl ∙ ih ∙ sym (skip xs)
       where
@@ -165,13 +165,13 @@ module _ (el : AxisOrBtn) (seen : List ℕ) (x : ℕ) (xs : List ℕ) where
         by false q = ap given (own_passed q)
 
     -- this code, for the first time
-    gives_this : eqb (x / CODE_UNIT) c ≡ true → unseen c seen ≡ true
+    gives_this : eqb (x / code_unit) c ≡ true → unseen c seen ≡ true
         → given (own_from el seen (x ∷ xs)) ≡ given (x ∷ xs)
     unfolding counted
     gives_this e u = by (same_element (entry_in x).element el) refl
       where
-        first : unseen (x / CODE_UNIT) seen ≡ true
-        first = ap (λ (k : ℕ). unseen k seen) (eqb-true (x / CODE_UNIT) c e) ∙ u
+        first : unseen (x / code_unit) seen ≡ true
+        first = ap (λ (k : ℕ). unseen k seen) (eqb-true (x / code_unit) c e) ∙ u
 
         here : (ys : List ℕ) → given (x ∷ ys) ≡ given_by (En.Is (entry_in x)) raw el
         here ys = ap (λ (r : Entered). given_by r raw el) (at_this x c (map entry_in ys) e)
@@ -186,10 +186,10 @@ module _ (el : AxisOrBtn) (seen : List ℕ) (x : ℕ) (xs : List ℕ) where
         by : (t : Bool) → same_element (entry_in x).element el ≡ t
             → given (own_from el seen (x ∷ xs)) ≡ given (x ∷ xs)
         by true q =
-            ap given (own_taken (ap (λ (t : Bool). both t (unseen (x / CODE_UNIT) seen)) q ∙ first))
+            ap given (own_taken (ap (λ (t : Bool). both t (unseen (x / code_unit) seen)) q ∙ first))
             ∙ here later ∙ sym (here xs)
         by false q =
-            ap given (own_passed (ap (λ (t : Bool). both t (unseen (x / CODE_UNIT) seen)) q))
+            ap given (own_passed (ap (λ (t : Bool). both t (unseen (x / code_unit) seen)) q))
             ∙ ap (λ (r : Entered). given_by r raw el) (own_absent el (seen ++ x ∷ []) xs c seen_now)
             ∙ sym (here xs ∙ nothing q)
 
@@ -199,9 +199,9 @@ own_gives : (el : AxisOrBtn) (seen xs : List ℕ) (c : ℕ) (raw : Raw) → unse
 unfolding own_from
 own_gives el seen [] c raw u = refl
 own_gives el seen (x ∷ xs) c raw u =
-    by (eqb (x / CODE_UNIT) c) refl (λ w. own_gives el (seen ++ x ∷ []) xs c raw w)
+    by (eqb (x / code_unit) c) refl (λ w. own_gives el (seen ++ x ∷ []) xs c raw w)
   where
-    by : (t : Bool) → eqb (x / CODE_UNIT) c ≡ t
+    by : (t : Bool) → eqb (x / code_unit) c ≡ t
         → (unseen c (seen ++ x ∷ []) ≡ true
         → given el seen x xs c raw (later el seen x xs) ≡ given el seen x xs c raw xs)
         → given_by (entry_at (map entry_in (own_from el seen (x ∷ xs))) (code_of c)) raw el

@@ -19,7 +19,7 @@ use Rattle.line.specs.declared.mapping.Mapping.{Mapping}
 use Rattle.line.specs.Elements.{code_of}
 use Rattle.line.specs.Maps as M
 use Rattle.line.specs.Maps.{entry_at}
-use Rattle.line.specs.Numbers.{CODE_UNIT, entry_number, entry_in}
+use Rattle.line.specs.Numbers.{code_unit, entry_number, entry_in}
 use Rattle.line.proofs.NumberLaws.{number_back}
 use Rattle.pad.specs.declared.events.Raw.{Raw}
 use Rattle.pad.specs.declared.events.Raw.TheVariants as Rw
@@ -28,7 +28,7 @@ use Rattle.pad.specs.declared.events.Event.{Event}
 use Rattle.pad.specs.declared.state.Pad.{Pad}
 use Rattle.pad.specs.declared.state.Told.{Told}
 use Rattle.pad.specs.ValueClaims.{RawWithin}
-use Rattle.pad.specs.Pads.{HELD_MAX, put_held, choose, value_of, values_of, element_at, tabulate, changes, hears}
+use Rattle.pad.specs.Pads.{held_max, put_held, choose, value_of, values_of, element_at, tabulate, changes, hears}
 use Rattle.pad.specs.States.{raw_number, raw_in, held_number, held_in, held_of, entries_of, pad_values, new_pad, events_in}
 use Rattle.pad.specs.States.{told_of, put_number, with_held, held_after_event, refused_of, raw_event_of, entry_numbers}
 use Rattle.pad.specs.States.{with_map, change_map_of}
@@ -63,7 +63,7 @@ raw_back (Rw.AxisValueChanged v) w =
     let m : (shifted v + 2 - 2) % 65536 ≡ shifted v = omega arith in
     rw (s, p, q, m) (ap (λ (z : ℤ). Rw.AxisValueChanged z) (unshifted-shifted v f))
 
-raw_small : (raw : Raw) → RawWithin raw → raw_number raw < CODE_UNIT
+raw_small : (raw : Raw) → RawWithin raw → raw_number raw < code_unit
 raw_small Rw.ButtonReleased w = omega arith
 raw_small Rw.ButtonPressed w = omega arith
 raw_small (Rw.AxisValueChanged v) w =
@@ -77,8 +77,8 @@ unfolding held_in
 held_back c raw w =
     let r = raw_number raw in
     let l = raw_small raw w in
-    let p : (c.0 * CODE_UNIT + r) / CODE_UNIT ≡ c.0 = omega arith in
-    let q : (c.0 * CODE_UNIT + r) % CODE_UNIT ≡ r = omega arith in
+    let p : (c.0 * code_unit + r) / code_unit ≡ c.0 = omega arith in
+    let q : (c.0 * code_unit + r) % code_unit ≡ r = omega arith in
     rw (p, q, raw_back raw w)
 
 -- ---- what a state holds after a call
@@ -147,7 +147,7 @@ told_next : (p : Pad) (c : PadCall)
     → hears (pad_values p) (told_events (answered p c).events) ≡ pad_values (answered p c).pad
 unfolding raw_event_of change_map_of told_of
 told_next p (RawEvent c raw) =
-    raw_told p (with_held p (held_after_event p c raw)) (leb (length (held_after_event p c raw)) HELD_MAX)
+    raw_told p (with_held p (held_after_event p c raw)) (leb (length (held_after_event p c raw)) held_max)
 told_next p (NewMap m) = hears_told p (with_map p m)
 
 agrees_from : (p : Pad) (cs : List PadCall) → heard (pad_values p) p cs ≡ pad_values (pad_after p cs)
@@ -181,10 +181,10 @@ unfolding raw_event_of
 raw_step p c raw w =
     let x = held_number c raw in
     let n = length (held_after_event p c raw) in
-    let same : pick (leb n HELD_MAX) (put_held (held_in x) (held_of p)) (held_of p) ≡ held_with (held_in x) (held_of p) =
-    ap (λ (k : ℕ). pick (leb k HELD_MAX) (put_held (held_in x) (held_of p)) (held_of p)) (put_length p x) in
+    let same : pick (leb n held_max) (put_held (held_in x) (held_of p)) (held_of p) ≡ held_with (held_in x) (held_of p) =
+    ap (λ (k : ℕ). pick (leb k held_max) (put_held (held_in x) (held_of p)) (held_of p)) (put_length p x) in
     subst (λ (hs : List Held). Step (raw_event_of p c raw).pad hs (entries_of p))
-    (same ∙ ap (λ (h : Held). held_with h (held_of p)) (held_back c raw w)) (raw_picked p x (leb n HELD_MAX))
+    (same ∙ ap (λ (h : Held). held_with h (held_of p)) (held_back c raw w)) (raw_picked p x (leb n held_max))
 
 map_step : (p : Pad) (m : Mapping) → ShortAll (M.held m) → Step (change_map_of p m).pad (held_of p) (M.held m)
 unfolding change_map_of told_of
@@ -339,8 +339,8 @@ unfolding raw_event_of
 refuses_at_256 p c raw w h =
     let x = held_number c raw in
     let k : Held = record { code = c; raw = raw } in
-    answer_is p (with_held p (held_after_event p c raw)) (leb (length (held_after_event p c raw)) HELD_MAX)
-    ∙ ap (λ (n : ℕ). pick (leb n HELD_MAX) Pa.Done Pa.TooManyCodes)
+    answer_is p (with_held p (held_after_event p c raw)) (leb (length (held_after_event p c raw)) held_max)
+    ∙ ap (λ (n : ℕ). pick (leb n held_max) Pa.Done Pa.TooManyCodes)
     (put_length p x ∙ ap (λ (y : Held). length (put_held y (held_of p))) (held_back c raw w) ∙ put_longer k (held_of p))
     ∙ full_or (length (held_of p)) (holds_code c (held_of p)) h
 
@@ -357,5 +357,5 @@ one_event_lem p c raw =
     let x = held_number c raw in
     let t : Touched (held_of p) (held_of (with_held p (held_after_event p c raw))) (held_in x).code =
     record { put = held_in x; of = refl; is = held_after p x } in
-    count_few p (with_held p (held_after_event p c raw)) (leb (length (held_after_event p c raw)) HELD_MAX)
+    count_few p (with_held p (held_after_event p c raw)) (leb (length (held_after_event p c raw)) held_max)
     (few_changes (held_of p) (held_of (with_held p (held_after_event p c raw))) (entries_of p) (held_in x).code t)

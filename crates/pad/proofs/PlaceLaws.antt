@@ -15,8 +15,8 @@ use Rattle.line.specs.declared.ev.AxisOrBtn.{AxisOrBtn}
 use Rattle.line.specs.declared.ev.AxisOrBtn.TheVariants as El
 use Rattle.line.specs.Elements.{same_element}
 use Rattle.pad.specs.declared.events.Held.{Held}
-use Rattle.pad.specs.Pads.{ELEMENTS, put_held, element_at, counts, place_from, place_of}
-use Rattle.line.specs.Numbers.{CODE_UNIT}
+use Rattle.pad.specs.Pads.{element_count, put_held, element_at, counts, place_from, place_of}
+use Rattle.line.specs.Numbers.{code_unit}
 use Rattle.pad.specs.States.{held_in, put_number}
 use Rattle.pad.specs.Inner.{place_in}
 use Rattle.pad.proofs.BiasLaws.{lt_or_le}
@@ -103,24 +103,24 @@ other_element el j h d = by (same_element el (element_at j)) refl
 
 -- ---- numbers
 pub placed : (x : ℕ) (ys : List ℕ) → put_number x ys
-    ≡ take (place_in (x / CODE_UNIT) ys) ys ++ x ∷ drop (suc (place_in (x / CODE_UNIT) ys)) ys
+    ≡ take (place_in (x / code_unit) ys) ys ++ x ∷ drop (suc (place_in (x / code_unit) ys)) ys
 unfolding put_number place_in
 placed x [] = refl
-placed x (y ∷ ys) = by (eqb (y / CODE_UNIT) (x / CODE_UNIT)) refl (placed x ys)
+placed x (y ∷ ys) = by (eqb (y / code_unit) (x / code_unit)) refl (placed x ys)
   where
-    by : (t : Bool) → eqb (y / CODE_UNIT) (x / CODE_UNIT) ≡ t
-        → put_number x ys ≡ take (place_in (x / CODE_UNIT) ys) ys ++ x ∷ drop (suc (place_in (x / CODE_UNIT) ys)) ys
+    by : (t : Bool) → eqb (y / code_unit) (x / code_unit) ≡ t
+        → put_number x ys ≡ take (place_in (x / code_unit) ys) ys ++ x ∷ drop (suc (place_in (x / code_unit) ys)) ys
         → put_number x (y ∷ ys)
-        ≡ take (place_in (x / CODE_UNIT) (y ∷ ys)) (y ∷ ys) ++ x ∷ drop (suc (place_in (x / CODE_UNIT) (y ∷ ys))) (y ∷ ys)
+        ≡ take (place_in (x / code_unit) (y ∷ ys)) (y ∷ ys) ++ x ∷ drop (suc (place_in (x / code_unit) (y ∷ ys))) (y ∷ ys)
     by true e ih = rw e
     by false e ih = rw e (ap (λ (l : List ℕ). y ∷ l) ih)
 
 pub place_within : (c : ℕ) (ys : List ℕ) → place_in c ys ≤ length ys
 unfolding place_in
 place_within c [] = omega arith
-place_within c (y ∷ ys) = by (eqb (y / CODE_UNIT) c) refl (place_within c ys)
+place_within c (y ∷ ys) = by (eqb (y / code_unit) c) refl (place_within c ys)
   where
-    by : (t : Bool) → eqb (y / CODE_UNIT) c ≡ t → place_in c ys ≤ length ys → place_in c (y ∷ ys) ≤ suc (length ys)
+    by : (t : Bool) → eqb (y / code_unit) c ≡ t → place_in c ys ≤ length ys → place_in c (y ∷ ys) ≤ suc (length ys)
     by true e ih = rw e (omega arith)
     by false e ih = rw e (omega arith)
 
@@ -156,22 +156,22 @@ put_after xs n x h =
 pub held_put : (x : ℕ) (ys : List ℕ) → map held_in (put_number x ys) ≡ put_held (held_in x) (map held_in ys)
 unfolding put_number put_held held_in
 held_put x [] = refl
-held_put x (y ∷ ys) = by (eqb (y / CODE_UNIT) (x / CODE_UNIT)) refl (held_put x ys)
+held_put x (y ∷ ys) = by (eqb (y / code_unit) (x / code_unit)) refl (held_put x ys)
   where
-    by : (t : Bool) → eqb (y / CODE_UNIT) (x / CODE_UNIT) ≡ t
+    by : (t : Bool) → eqb (y / code_unit) (x / code_unit) ≡ t
         → map held_in (put_number x ys) ≡ put_held (held_in x) (map held_in ys)
         → map held_in (put_number x (y ∷ ys)) ≡ put_held (held_in x) (map held_in (y ∷ ys))
     by true e ih = rw e
     by false e ih = rw e (ap (λ (l : List Held). held_in y ∷ l) ih)
 
 -- ---- a code sought among the numbers
-place_here : (c y : ℕ) (ys : List ℕ) → y / CODE_UNIT ≡ c → place_in c (y ∷ ys) ≡ 0
+place_here : (c y : ℕ) (ys : List ℕ) → y / code_unit ≡ c → place_in c (y ∷ ys) ≡ 0
 unfolding place_in
-place_here c y ys e = rw (eq-eqb (y / CODE_UNIT) c e)
+place_here c y ys e = rw (eq-eqb (y / code_unit) c e)
 
-place-later : (c y : ℕ) (ys : List ℕ) → (y / CODE_UNIT ≡ c → ⊥) → place_in c (y ∷ ys) ≡ suc (place_in c ys)
+place-later : (c y : ℕ) (ys : List ℕ) → (y / code_unit ≡ c → ⊥) → place_in c (y ∷ ys) ≡ suc (place_in c ys)
 unfolding place_in
-place-later c y ys e = rw (ne_eqb (y / CODE_UNIT) c e)
+place-later c y ys e = rw (ne_eqb (y / code_unit) c e)
 
 module _ (xs : List ℕ) (n i c : ℕ) (l : n ≤ length xs) where
   next-number : i < n → drop i (take n xs) ≡ get_or xs i 0 ∷ drop (i + 1) (take n xs)
@@ -184,12 +184,12 @@ module _ (xs : List ℕ) (n i c : ℕ) (l : n ≤ length xs) where
     at_next : place_in c (take n xs) ≡ i + place_in c (get_or xs i 0 ∷ drop (i + 1) (take n xs))
     at_next = inv ∙ ap (λ (ys : List ℕ). i + place_in c ys) (next-number lt)
 
-    pub place_found : get_or xs i 0 / CODE_UNIT ≡ c → i ≡ place_in c (take n xs)
+    pub place_found : get_or xs i 0 / code_unit ≡ c → i ≡ place_in c (take n xs)
     place_found q =
         let z = place_here c (get_or xs i 0) (drop (i + 1) (take n xs)) q in
         omega (arith, at_next, z)
 
-    pub place_passed : (get_or xs i 0 / CODE_UNIT ≡ c → ⊥)
+    pub place_passed : (get_or xs i 0 / code_unit ≡ c → ⊥)
         → place_in c (take n xs) ≡ i + 1 + place_in c (drop (i + 1) (take n xs))
     place_passed q =
         let z = place-later c (get_or xs i 0) (drop (i + 1) (take n xs)) q in

@@ -17,7 +17,7 @@ use Rattle.line.specs.declared.mapping.Entry.{Entry}
 use Rattle.line.specs.declared.mapping.Mapping.{Mapping}
 use Rattle.line.specs.Elements.{code_of}
 use Rattle.line.specs.Maps as M
-use Rattle.line.specs.Numbers.{CODE_UNIT, entry_number, entry_in}
+use Rattle.line.specs.Numbers.{code_unit, entry_number, entry_in}
 use Rattle.pad.specs.declared.events.Raw.{Raw}
 use Rattle.pad.specs.declared.events.Held.{Held}
 use Rattle.pad.specs.declared.events.Event.{Event}
@@ -26,7 +26,7 @@ use Rattle.pad.specs.declared.state.Pad.{Pad}
 use Rattle.pad.specs.declared.state.Told.{Told}
 use Rattle.pad.specs.declared.state.PadAnswer.{PadAnswer}
 use Rattle.pad.specs.declared.state.PadAnswer.TheVariants as Pa
-use Rattle.pad.specs.Pads.{HELD_MAX, ELEMENTS, put_held, place_of, value_of, values_of, changes}
+use Rattle.pad.specs.Pads.{held_max, element_count, put_held, place_of, value_of, values_of, changes}
 use Rattle.pad.specs.States.{held_number, held_in, held_of, entries_of, pad_values, pad_value, events_in, told_of}
 use Rattle.pad.specs.States.{put_number}
 use Rattle.pad.specs.States.{with_held, held_after_event, refused_of, raw_event_of, entry_numbers, with_map, change_map_of}
@@ -96,10 +96,10 @@ module _ (p : Pad) (n m : ℕ) (lh : length p.held ≡ 256) (le : length p.entri
       ∙ ap (λ (es : List Entry). values_of (held_of p) es) entries_is
 
   pub value_is : (el : AxisOrBtn)
-      → pick (ltb (place_of el) ELEMENTS) (value_of (helds_in n p.held) (entries_in m p.entries) el) (pos 0)
+      → pick (ltb (place_of el) element_count) (value_of (helds_in n p.held) (entries_in m p.entries) el) (pos 0)
       ≡ pad_value p el
   unfolding pad_value
-  value_is el = ap (λ (z : ℤ). pick (ltb (place_of el) ELEMENTS) z (pos 0)) (values_is el)
+  value_is el = ap (λ (z : ℤ). pick (ltb (place_of el) element_count) z (pos 0)) (values_is el)
 
 -- ---- the value of an element
 pub value_none : (p : Pad) (el : AxisOrBtn) (k : ℕ) → k ≡ place_of el → k ≡ 27 → pos 0 ≡ pad_value p el
@@ -114,7 +114,7 @@ value_some p el l = rw (lt-ltb (place_of el) 27 l)
 
 -- ---- a raw event: a number put at place i of the first n
 module _ (xs : List ℕ) (n i x c : ℕ) (long : length xs ≡ 256) (few : n ≤ 256) (at : i ≡ place_in c (take n xs))
-    (code : x / CODE_UNIT ≡ c) where
+    (code : x / code_unit ≡ c) where
   abbrev put : List ℕ
   put = put_number x (take n xs)
 
@@ -178,7 +178,7 @@ not_full i n a b d = ⊎_elim (λ l. l) (λ l. absurd (d (omega arith))) (lt_or_
 -- ---- what a raw event answers
 module _ (p : Pad) (c : Code) (raw : Raw) (n i x : ℕ) (lh : length p.held ≡ 256) (le : length p.entries ≡ 256)
     (en : n ≡ capped_of p.count) (few : n ≤ 256) (at : i ≡ place_in c.0 (take n p.held))
-    (ex : x ≡ held_number c raw) (code : x / CODE_UNIT ≡ c.0) where
+    (ex : x ≡ held_number c raw) (code : x / code_unit ≡ c.0) where
   after_is : put_number x (take n p.held) ≡ held_after_event p c raw
   after_is =
       ap (λ (y : ℕ). put_number y (take n p.held)) ex

@@ -26,7 +26,7 @@ use Rattle.pad.specs.declared.state.PadAnswer.{PadAnswer}
 use Rattle.pad.specs.declared.state.Told.{Told}
 use Rattle.pad.specs.declared.two.Pads.{Pads}
 use Rattle.pad.specs.declared.two.PadsTold.{PadsTold}
-use Rattle.pad.specs.Pads.{HELD_MAX, place_of, element_at, tabulate, value_of, sameℤ, changes}
+use Rattle.pad.specs.Pads.{held_max, place_of, element_at, tabulate, value_of, sameℤ, changes}
 use Rattle.pad.specs.States.{held_of, entries_of, pad_values, pad_value, events_in, told_of, with_held, held_after_event}
 use Rattle.pad.specs.States.{unused_event, refused_of, raw_event_of, with_map, change_map_of}
 use Rattle.pad.specs.PadGuarantee.{told_events}
@@ -215,7 +215,7 @@ tells_picked p r false = ap (λ (es : List Event). events_in es) (sym (changes-n
 pub raw_tells : (p : Pad) (c : Code) (raw : Raw) → TellsItself p (raw_event_of p c raw)
 unfolding raw_event_of
 raw_tells p c raw =
-    tells_picked p (with_held p (held_after_event p c raw)) (leb (length (held_after_event p c raw)) HELD_MAX)
+    tells_picked p (with_held p (held_after_event p c raw)) (leb (length (held_after_event p c raw)) held_max)
 
 pub map_tells : (p : Pad) (m : Mapping) → TellsItself p (change_map_of p m)
 unfolding change_map_of told_of

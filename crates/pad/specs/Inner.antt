@@ -11,7 +11,7 @@ use Rattle.line.specs.declared.parser.AxisRange.TheVariants as Ar
 use Rattle.line.specs.declared.ev.Code.{Code}
 use Rattle.line.specs.declared.mapping.Entry.{Entry}
 use Rattle.line.specs.Elements.{same_element}
-use Rattle.line.specs.Numbers.{CODE_UNIT, entry_in}
+use Rattle.line.specs.Numbers.{code_unit, entry_in}
 use Rattle.pad.specs.declared.numbers.Part.{Part}
 use Rattle.pad.specs.declared.numbers.Part.TheVariants as Pt
 use Rattle.pad.specs.declared.value.ElementValue.{ElementValue}
@@ -26,7 +26,7 @@ use Rattle.pad.specs.declared.state.Told.{Told}
 use Rattle.pad.specs.declared.two.Pads.{Pads}
 use Rattle.pad.specs.declared.two.Which.TheVariants as Wh
 use Rattle.pad.specs.declared.two.PadsTold.{PadsTold}
-use Rattle.pad.specs.Pads.{HELD_MAX, put_held, Chosen, none, chosen, choose, tabulate, sameℤ, changes}
+use Rattle.pad.specs.Pads.{held_max, put_held, Chosen, none, chosen, choose, tabulate, sameℤ, changes}
 use Rattle.pad.specs.States.{held_in, pad_values, pad_value, unused_event, events_in}
 use Rattle.pad.specs.TwoPads.{farther, pads_told_of}
 
@@ -99,16 +99,16 @@ Holds b (chosen c v) = Some b c v
 -- the place of the first number of a code, or how many there are where there is none
 unfoldable pub place_in : ℕ → List ℕ → ℕ
 place_in c [] = 0
-place_in c (y ∷ ys) = pick (eqb (y / CODE_UNIT) c) 0 (suc (place_in c ys))
+place_in c (y ∷ ys) = pick (eqb (y / code_unit) c) 0 (suc (place_in c ys))
 
 -- no number of a code is among these
 unfoldable pub unseen : ℕ → List ℕ → Bool
 unseen c [] = true
-unseen c (y ∷ ys) = pick (eqb (y / CODE_UNIT) c) false (unseen c ys)
+unseen c (y ∷ ys) = pick (eqb (y / code_unit) c) false (unseen c ys)
 
 -- an entry counts for an element: it is of that element, and the first of its code
 unfoldable pub counted : AxisOrBtn → List ℕ → ℕ → Bool
-counted el seen x = same_element (entry_in x).element el && unseen (x / CODE_UNIT) seen
+counted el seen x = same_element (entry_in x).element el && unseen (x / code_unit) seen
 
 -- those that count, after the ones that were seen
 unfoldable pub own_from : AxisOrBtn → List ℕ → List ℕ → List ℕ
@@ -138,7 +138,7 @@ one_event el v = record { element = el; value = v }
 
 -- a count over the most is read as the most
 abbrev pub capped_of : ℕ → ℕ
-capped_of count = pick (ltb count HELD_MAX) count HELD_MAX
+capped_of count = pick (ltb count held_max) count held_max
 
 -- how many codes are held after a put at place i of n
 abbrev pub grown_of : ℕ → ℕ → ℕ

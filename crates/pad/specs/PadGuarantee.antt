@@ -8,7 +8,7 @@ use Rattle.line.specs.declared.ev.AxisOrBtn.TheVariants as El
 use Rattle.line.specs.declared.mapping.Entry.{Entry}
 use Rattle.line.specs.declared.mapping.Mapping.{Mapping}
 use Rattle.line.specs.Maps as M
-use Rattle.line.specs.Numbers.{SHAPE_UNIT}
+use Rattle.line.specs.Numbers.{shape_unit}
 use Rattle.pad.specs.declared.events.Raw.{Raw}
 use Rattle.pad.specs.declared.events.Held.{Held}
 use Rattle.pad.specs.declared.events.Event.{Event}
@@ -17,7 +17,7 @@ use Rattle.pad.specs.declared.state.Pad.{Pad}
 use Rattle.pad.specs.declared.state.Told.{Told}
 use Rattle.pad.specs.declared.state.PadAnswer.TheVariants as Pa
 use Rattle.pad.specs.ValueClaims.{RawWithin}
-use Rattle.pad.specs.Pads.{HELD_MAX, ELEMENTS, put_held, values_of, hears}
+use Rattle.pad.specs.Pads.{held_max, element_count, put_held, values_of, hears}
 use Rattle.pad.specs.States.{held_of, entries_of, pad_values, new_pad, raw_event_of, change_map_of}
 
 -- ---- "every list of raw events and map changes"
@@ -46,7 +46,7 @@ heard vs p [] = vs
 heard vs p (c ∷ cs) = heard (hears vs (told_events (answered p c).events)) (answered p c).pad cs
 
 abbrev pub zeros : List ℤ
-zeros = replicate ELEMENTS (pos 0)
+zeros = replicate element_count (pos 0)
 
 -- ---- the promise
 -- "For every list of raw events and map changes from a state with no codes and the empty map, an outside reader of the
@@ -58,7 +58,7 @@ ReaderAgrees = (cs : List PadCall) → heard zeros new_pad cs ≡ pad_values (pa
 -- ---- "the held raw values under the current map", by the calls alone
 -- a raw event: 27 where it were a 257th code, and nothing changes
 abbrev pub held_with : Held → List Held → List Held
-held_with h hs = pick (leb (length (put_held h hs)) HELD_MAX) (put_held h hs) hs
+held_with h hs = pick (leb (length (put_held h hs)) held_max) (put_held h hs) hs
 
 -- the codes with their last raw values
 unfoldable pub held_by : List Held → List PadCall → List Held
@@ -76,8 +76,8 @@ map_by es (NewMap m ∷ cs) = map_by (M.held m) cs
 -- `Pad::change_map` say it of each argument that a program can hand over, so no call is outside of it.
 -- an element's number
 abbrev pub ShortElement : AxisOrBtn → Type 0
-ShortElement (El.Btn b) = b.0 < SHAPE_UNIT
-ShortElement (El.Axis a) = a.0 < SHAPE_UNIT
+ShortElement (El.Btn b) = b.0 < shape_unit
+ShortElement (El.Axis a) = a.0 < shape_unit
 
 -- those of all entries of a map
 unfoldable pub ShortAll : List Entry → Type 0
@@ -107,14 +107,14 @@ NoneTwice (h ∷ hs) = (holds_code h.code hs ≡ false) × NoneTwice hs
 pub record PadHolds (cs : List PadCall) : Type 0 where
   pub codes : held_of (pad_after new_pad cs) ≡ held_by [] cs
   pub entries : entries_of (pad_after new_pad cs) ≡ map_by [] cs
-  pub most : length (held_by [] cs) ≤ HELD_MAX
+  pub most : length (held_by [] cs) ≤ held_max
   pub once : NoneTwice (held_by [] cs)
 
 -- "27, a raw event for a 257th code": a new code where 256 are held, and never else
 abbrev pub RefusesAt256 : Type 0
 RefusesAt256 =
-    (p : Pad) (c : Code) (raw : Raw) → RawWithin raw → length (held_of p) ≤ HELD_MAX → (raw_event_of p c raw).answer
-    ≡ pick (eqb (length (held_of p)) HELD_MAX && not (holds_code c (held_of p))) Pa.TooManyCodes Pa.Done
+    (p : Pad) (c : Code) (raw : Raw) → RawWithin raw → length (held_of p) ≤ held_max → (raw_event_of p c raw).answer
+    ≡ pick (eqb (length (held_of p)) held_max && not (holds_code c (held_of p))) Pa.TooManyCodes Pa.Done
 
 -- a raw event tells one event at most
 abbrev pub OneEvent : Type 0

@@ -7,7 +7,7 @@ use Rattle.line.specs.declared.ev.AxisOrBtn.TheVariants as El
 use Rattle.line.specs.declared.mapping.Entry.{Entry}
 use Rattle.line.specs.declared.mapping.Entered.{Entered}
 use Rattle.line.specs.declared.mapping.Entered.TheVariants as En
-use Rattle.line.specs.Elements.{BUTTON_LAST, AXIS_LAST, same_element}
+use Rattle.line.specs.Elements.{button_last, axis_last, same_element}
 use Rattle.line.specs.Maps.{entry_at}
 use Rattle.pad.specs.declared.events.Raw.{Raw}
 use Rattle.pad.specs.declared.events.Held.{Held}
@@ -17,8 +17,8 @@ use Rattle.pad.specs.declared.value.ElementValue.TheVariants as Ev
 use Rattle.pad.specs.Values.{entry_value}
 
 -- ---- "A pad state holds up to 256 codes with their last raw value, released buttons and axes at 0 included."
-abbrev pub HELD_MAX : ℕ
-HELD_MAX = 256
+abbrev pub held_max : ℕ
+held_max = 256
 
 -- a code with its last raw value among those that are held: in the place of the one with that code, else after all of
 -- them. Nothing is ever dropped.
@@ -71,25 +71,25 @@ value_of hs es el = value_in (choose hs es el)
 
 -- ---- "Elements other than buttons 1 to 19 and axes 1 to 8 are left out."
 -- Places 0 to 26 are those of the others: "buttons then axes, ascending"
-abbrev pub ELEMENTS : ℕ
-ELEMENTS = BUTTON_LAST + AXIS_LAST
+abbrev pub element_count : ℕ
+element_count = button_last + axis_last
 
 -- the element at a place
 abbrev pub element_at : ℕ → AxisOrBtn
-element_at k = pick (ltb k BUTTON_LAST) (El.Btn (record { 0 = k + 1 })) (El.Axis (record { 0 = k - BUTTON_LAST + 1 }))
+element_at k = pick (ltb k button_last) (El.Btn (record { 0 = k + 1 })) (El.Axis (record { 0 = k - button_last + 1 }))
 
 -- a number of 1 up to the last
 abbrev pub counts : ℕ → ℕ → Bool
 counts last n = leb 1 n && leb n last
 
--- the place of such a number, the first places passed over; ELEMENTS for one that is left out
+-- the place of such a number, the first places passed over; element_count for one that is left out
 abbrev pub place_from : ℕ → ℕ → ℕ → ℕ
-place_from first last n = pick (counts last n) (first + (n - 1)) ELEMENTS
+place_from first last n = pick (counts last n) (first + (n - 1)) element_count
 
--- the place of an element; ELEMENTS for one that is left out
+-- the place of an element; element_count for one that is left out
 abbrev pub place_of : AxisOrBtn → ℕ
-place_of (El.Btn b) = place_from 0 BUTTON_LAST b.0
-place_of (El.Axis a) = place_from BUTTON_LAST AXIS_LAST a.0
+place_of (El.Btn b) = place_from 0 button_last b.0
+place_of (El.Axis a) = place_from button_last axis_last a.0
 
 -- f of n places from k on
 unfoldable pub tabulate : (ℕ → ℤ) → ℕ → ℕ → List ℤ
@@ -98,7 +98,7 @@ tabulate f (suc n) k = f k ∷ tabulate f n (suc k)
 
 -- "the values worked out afresh from the held raw values" by the entries of a map: those of the 27 elements
 abbrev pub values_of : List Held → List Entry → List ℤ
-values_of hs es = tabulate (λ k. value_of hs es (element_at k)) ELEMENTS 0
+values_of hs es = tabulate (λ k. value_of hs es (element_at k)) element_count 0
 
 -- ---- "A raw event or a change of map yields one event per element whose value changed, buttons then axes, ascending."
 abbrev pub sameℤ : ℤ → ℤ → Bool

@@ -9,8 +9,8 @@ use Rattle.line.specs.declared.mapping.Entry.{Entry}
 use Rattle.line.specs.declared.mapping.Mapping.{Mapping}
 use Rattle.line.specs.Buttons as B
 use Rattle.line.specs.Elements.{code_of}
-use Rattle.line.specs.Maps.{CODES_MAX}
-use Rattle.line.specs.Numbers.{CODE_UNIT, entry_number, entry_in}
+use Rattle.line.specs.Maps.{codes_max}
+use Rattle.line.specs.Numbers.{code_unit, entry_number, entry_in}
 use Rattle.line.specs.Maps as M
 use Rattle.pad.specs.declared.events.Raw.{Raw}
 use Rattle.pad.specs.declared.events.Raw.TheVariants as Rw
@@ -20,7 +20,7 @@ use Rattle.pad.specs.declared.events.Events.{Events}
 use Rattle.pad.specs.declared.state.Pad.{Pad}
 use Rattle.pad.specs.declared.state.Told.{Told}
 use Rattle.pad.specs.declared.state.PadAnswer.TheVariants as Pa
-use Rattle.pad.specs.Pads.{HELD_MAX, ELEMENTS, place_of, value_of, values_of, changes}
+use Rattle.pad.specs.Pads.{held_max, element_count, place_of, value_of, values_of, changes}
 
 -- ---- a held code as a number: its code in the upper half, its last raw value in the lower
 -- a raw value as a number: 0 released, 1 pressed, from 2 on an axis value counted from -32768
@@ -37,11 +37,11 @@ raw_in y =
 
 -- a code with its last raw value as a number
 abbrev pub held_number : Code → Raw → ℕ
-held_number c raw = c.0 * CODE_UNIT + raw_number raw
+held_number c raw = c.0 * code_unit + raw_number raw
 
 -- the held code that a number is
 unfoldable pub held_in : ℕ → Held
-held_in x = record { code = code_of (x / CODE_UNIT); raw = raw_in (x % CODE_UNIT) }
+held_in x = record { code = code_of (x / code_unit); raw = raw_in (x % code_unit) }
 
 -- ---- what a state holds: counts over 256 are read as 256, since there are 256 numbers
 -- the held codes, in the order of their first events
@@ -58,12 +58,12 @@ pad_values p = values_of (held_of p) (entries_of p)
 
 -- `value` of an element: "Elements other than buttons 1 to 19 and axes 1 to 8 are left out"
 unfoldable pub pad_value : Pad → AxisOrBtn → ℤ
-pad_value p el = pick (ltb (place_of el) ELEMENTS) (value_of (held_of p) (entries_of p) el) (pos 0)
+pad_value p el = pick (ltb (place_of el) element_count) (value_of (held_of p) (entries_of p) el) (pos 0)
 
 -- "a state with no codes and the empty map"
 unfoldable pub new_pad : Pad
 new_pad =
-    record { count = 0; held = replicate HELD_MAX 0; entry_count = 0; entries = replicate CODES_MAX 0 }
+    record { count = 0; held = replicate held_max 0; entry_count = 0; entries = replicate codes_max 0 }
 
 -- ---- what a call answers
 -- what stands where no event is
@@ -72,7 +72,7 @@ unused_event = record { element = El.Btn B.Unknown; value = pos 0 }
 
 -- events as the program holds them
 unfoldable pub events_in : List Event → Events
-events_in es = record { count = length es; list = es ++ replicate (ELEMENTS - length es) unused_event }
+events_in es = record { count = length es; list = es ++ replicate (element_count - length es) unused_event }
 
 -- from a state to a state: "one event per element whose value changed"
 unfoldable pub told_of : Pad → Pad → Told
@@ -82,7 +82,7 @@ told_of p q = record { answer = Pa.Done; pad = q; events = events_in (changes 0 
 -- a number among those of the held codes: in the place of the first one of its code, else after all of them
 unfoldable pub put_number : ℕ → List ℕ → List ℕ
 put_number x [] = x ∷ []
-put_number x (y ∷ ys) = pick (eqb (y / CODE_UNIT) (x / CODE_UNIT)) (x ∷ ys) (y ∷ put_number x ys)
+put_number x (y ∷ ys) = pick (eqb (y / code_unit) (x / code_unit)) (x ∷ ys) (y ∷ put_number x ys)
 
 -- p with the held codes xs, the later numbers as they were
 abbrev pub with_held : Pad → List ℕ → Pad
@@ -105,12 +105,12 @@ refused_of p = record { answer = Pa.TooManyCodes; pad = p; events = events_in []
 -- a raw value of a code
 unfoldable pub raw_event_of : Pad → Code → Raw → Told
 raw_event_of p c raw =
-    pick (leb (length (held_after_event p c raw)) HELD_MAX) (told_of p (with_held p (held_after_event p c raw))) (refused_of p)
+    pick (leb (length (held_after_event p c raw)) held_max) (told_of p (with_held p (held_after_event p c raw))) (refused_of p)
 
 -- ---- a change of map
 -- entries as numbers, and 0 up to 256 of them
 unfoldable pub entry_numbers : List Entry → List ℕ
-entry_numbers es = map entry_number es ++ replicate (CODES_MAX - length es) 0
+entry_numbers es = map entry_number es ++ replicate (codes_max - length es) 0
 
 -- p with the entries of a map
 abbrev pub with_map : Pad → Mapping → Pad

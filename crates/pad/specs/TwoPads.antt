@@ -12,7 +12,7 @@ use Rattle.pad.specs.declared.two.Pads.{Pads}
 use Rattle.pad.specs.declared.two.Which.{Which}
 use Rattle.pad.specs.declared.two.Which.TheVariants as Wh
 use Rattle.pad.specs.declared.two.PadsTold.{PadsTold}
-use Rattle.pad.specs.Pads.{ELEMENTS, element_at, tabulate, changes}
+use Rattle.pad.specs.Pads.{element_count, element_at, tabulate, changes}
 use Rattle.pad.specs.States.{pad_value, new_pad, events_in, raw_event_of, change_map_of}
 
 -- ---- "Each element takes, of the two pads' values, the one farther from zero, and the first pad's between equals."
@@ -26,7 +26,7 @@ pads_value p el = farther (pad_value p.first el) (pad_value p.second el)
 
 -- the values of the 27 elements
 abbrev pub pads_values : Pads → List ℤ
-pads_values p = tabulate (λ k. pads_value p (element_at k)) ELEMENTS 0
+pads_values p = tabulate (λ k. pads_value p (element_at k)) element_count 0
 
 -- two pads "from a state with no codes" and the empty map
 unfoldable pub new_pads : Pads

@@ -2,7 +2,7 @@
 ghost use Rattle.std.specs.Prelude.{◌≡◌, [], ◌∷◌, ◌≤◌, ◌<◌, length, eqb, ltb, pos};
 ghost use Rattle.text.specs.Bytes.{pick};
 ghost use Rattle.pad.specs.ValueClaims.{RawWithin};
-ghost use Rattle.pad.specs.Pads.{HELD_MAX, ELEMENTS, place_of, value_of};
+ghost use Rattle.pad.specs.Pads.{held_max, element_count, place_of, value_of};
 ghost use Rattle.pad.specs.States.{raw_event_of, events_in};
 ghost use Rattle.pad.specs.Inner.{unshifted, helds_in, entries_in, one_event, capped_of, grown_of};
 
@@ -30,7 +30,7 @@ pub fn value_of(
     element: AxisOrBtn,
 ) -> i16
     requires { (length held.now ≡ 256) × (length entries.now ≡ 256) }
-    ensures { result ≡ pick (ltb (place_of element) ELEMENTS)
+    ensures { result ≡ pick (ltb (place_of element) element_count)
         (value_of (helds_in count held.now) (entries_in entry_count entries.now) element)
         (pos 0) }
 {
@@ -95,7 +95,7 @@ pub fn put_code(
 
 // A count over the most is read as the most.
 pub fn capped(count: usize) -> usize
-    ensures { (result ≡ capped_of count) × (result ≤ HELD_MAX) }
+    ensures { (result ≡ capped_of count) × (result ≤ held_max) }
 {
     if count < HELD_MAX {
         return count;
@@ -105,7 +105,7 @@ pub fn capped(count: usize) -> usize
 
 // How many codes are held after a put at place i of n.
 fn grown(i: usize, n: usize) -> usize
-    requires { n ≤ HELD_MAX }
+    requires { n ≤ held_max }
     ensures { result ≡ grown_of i n }
 {
     if i < n {

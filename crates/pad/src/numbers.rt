@@ -2,7 +2,7 @@
 ghost use Rattle.std.specs.Prelude.{◌≡◌, ◌<◌, ◌/◌};
 ghost use Rattle.pad.specs.Values.{part_of, output_of};
 ghost use Rattle.pad.specs.ValueClaims.{RawWithin};
-ghost use Rattle.line.specs.Numbers.{CODE_UNIT};
+ghost use Rattle.line.specs.Numbers.{code_unit};
 ghost use Rattle.pad.specs.States.{raw_number, raw_in, held_number, held_in};
 ghost use Rattle.pad.specs.Inner.{shifted, unshifted, share_of, output_at, Proper, ProperPart, value_number};
 
@@ -128,7 +128,7 @@ pub fn held_of(x: u64) -> Held
 
 // A code with its last raw value as a number.
 pub fn held_number(code: Code, raw: Raw) -> u64
-    ensures { (result ≡ held_number code raw) × (result / CODE_UNIT ≡ code.0) × RawWithin raw }
+    ensures { (result ≡ held_number code raw) × (result / code_unit ≡ code.0) × RawWithin raw }
 {
     code.0 as u64 * CODE_UNIT + raw_number(raw) as u64
 }

@@ -1,7 +1,7 @@
 // The events between two states of a pad.
 ghost use Rattle.std.specs.Prelude.{◌≡◌, [], ◌∷◌, map, ◌≤◌, ◌<◌, length, set, eqb, ltb, pos};
 ghost use Rattle.text.specs.Bytes.{pick};
-ghost use Rattle.pad.specs.Pads.{ELEMENTS, place_from, place_of, element_at, value_of, values_of, changes};
+ghost use Rattle.pad.specs.Pads.{element_count, place_from, place_of, element_at, value_of, values_of, changes};
 ghost use Rattle.pad.specs.States.{events_in};
 ghost use Rattle.pad.specs.Inner.{unshifted, helds_in, entries_in, one_event, Touched, Small};
 
@@ -80,7 +80,7 @@ pub fn one_event(e: Event) -> Events
 
 // No element takes another value.
 pub fn no_change() -> Change
-    ensures { (place_of result.element ≡ ELEMENTS) × (result.before ≡ 32768) × (result.later ≡ 32768) }
+    ensures { (place_of result.element ≡ element_count) × (result.before ≡ 32768) × (result.later ≡ 32768) }
 {
     Change {
         element: AxisOrBtn::Btn(Button::Unknown),
@@ -108,7 +108,7 @@ pub fn code_change(
         × (changes 0 (values_of (helds_in n held.old) (entries_in m entries.now))
         (values_of (helds_in many (set held.old i x)) (entries_in m entries.now))
         ≡ pick (eqb result.before result.later) [] (one_event result.element (unshifted result.later) ∷ []))
-        × (unshifted result.before ≡ pick (ltb (place_of result.element) ELEMENTS)
+        × (unshifted result.before ≡ pick (ltb (place_of result.element) element_count)
         (value_of (helds_in n held.old) (entries_in m entries.now) result.element) (pos 0))
         × (result.before < 65536) × (result.later < 65536) }
 {

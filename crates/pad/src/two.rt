@@ -2,7 +2,7 @@
 ghost use Rattle.std.specs.Prelude.{◌≡◌, [], ◌≤◌, ◌<◌, length, eqb, ltb, pos};
 ghost use Rattle.text.specs.Bytes.{pick};
 ghost use Rattle.pad.specs.declared.value.Emitted.TheVariants as Em;
-ghost use Rattle.pad.specs.Pads.{ELEMENTS, place_of, value_of, sameℤ};
+ghost use Rattle.pad.specs.Pads.{element_count, place_of, value_of, sameℤ};
 ghost use Rattle.line.specs.Maps.{held};
 ghost use Rattle.pad.specs.ValueClaims.{RawWithin};
 ghost use Rattle.pad.specs.States.{events_in, raw_event_of};
@@ -140,7 +140,7 @@ fn joined_event(leads: bool, own: Pad, beside: Pad, e: Event) -> Emitted
 // The value of an element on the other pad, whose state is lent; it is not asked for where nothing changed.
 fn value_beside(c: Change, held: &[u64], count: usize, entries: &[u64], entry_count: usize) -> i16
     requires { (length held.now ≡ 256) × (length entries.now ≡ 256) }
-    ensures { result ≡ pick (eqb c.before c.later) (pos 0) (pick (ltb (place_of c.element) ELEMENTS)
+    ensures { result ≡ pick (eqb c.before c.later) (pos 0) (pick (ltb (place_of c.element) element_count)
         (value_of (helds_in count held.now) (entries_in entry_count entries.now) c.element)
         (pos 0)) }
 {

@@ -1,7 +1,7 @@
 // Answers as text, written piece by piece into a buffer: each function returns where the next piece goes. A piece that does
 // not fit is left out, and the answer is then not the expected one.
 ghost use Rattle.std.specs.Prelude.{◌≤◌};
-ghost use Rattle.line.specs.Maps.{CODES_MAX};
+ghost use Rattle.line.specs.Maps.{codes_max};
 
 use line::ev::AxisOrBtn;
 use line::mapping::{CODES_MAX, Mapping};
@@ -84,7 +84,7 @@ pub fn put_map(out: &mut [u8], at: usize, map: Mapping) -> usize {
 
 // A count over the most is read as the most.
 fn held(count: usize) -> usize
-    ensures { result ≤ CODES_MAX }
+    ensures { result ≤ codes_max }
 {
     if count < CODES_MAX {
         return count;

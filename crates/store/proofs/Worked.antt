@@ -19,9 +19,9 @@ use Rattle.line.specs.declared.parser.value.Value.TheVariants as Vl
 use Rattle.line.specs.declared.reading.puts.Puts.TheVariants.{Two}
 use Rattle.line.specs.Buttons as B
 use Rattle.line.specs.Axes as A
-use Rattle.line.specs.Elements.{code_of, AXIS_DPADY, button_code}
+use Rattle.line.specs.Elements.{code_of, axis_dpady, button_code}
 use Rattle.line.specs.Maps.{entry_of, to_map, empty_map, put_entry, put_of}
-use Rattle.line.specs.Tables.{AXES_SDL, AXES, row_from, key_row}
+use Rattle.line.specs.Tables.{axes_sdl, axes_table, row_from, key_row}
 use Rattle.line.specs.Fields.{count_of, fields_of}
 use Rattle.line.specs.Values.{hat_of, value_of}
 use Rattle.line.specs.Pairs.{ranges_of, half_of, keyed_of, pair_of}
@@ -58,12 +58,12 @@ nil = record { high = 0; low = 0 }
 
 -- the pair at place 35, and what it puts
 dpup_pair : pair_of (ascii "dpup:h0.1") 35 ≡ An.Found (Tk.HatMapping 0 1 (Btn B.DPadUp) (ranges_of Full Full false))
-unfolding pair_of keyed_of half_of value_of hat_of count_of first_of same read_digits unsigned index_number AXES_SDL AXES
+unfolding pair_of keyed_of half_of value_of hat_of count_of first_of same read_digits unsigned index_number axes_sdl axes_table
     row_from key_row
 dpup_pair = refl
 
 dpup_puts : puts_of (Tk.HatMapping 0 1 (Btn B.DPadUp) (ranges_of Full Full false)) 45 [] []
-    ≡ Two (entry_of AXIS_DPADY (Axis A.DPadY)) (entry_of (button_code 16) (Btn B.DPadUp)) 1
+    ≡ Two (entry_of axis_dpady (Axis A.DPadY)) (entry_of (button_code 16) (Btn B.DPadUp)) 1
 unfolding puts_of hat_puts hat_codes dpad_axis
 dpup_puts = refl
 
@@ -79,7 +79,7 @@ dpup_map : reading_of (u ++ ascii ",T,dpup:h0.1,") [] []
     }))
 unfolding reading_of read_line line_from named_from pairs_from taken put_one puts_of hat_puts dpad_axis hat_codes listed
     fields_of pair_of keyed_of half_of value_of hat_of guid_of count_of first_of empty_map put_entry put_of to_map same read_digits
-    unsigned index_number begins first_length char_length run_of valid_run is_utf8 AXES_SDL AXES row_from key_row hex_digit
+    unsigned index_number begins first_length char_length run_of valid_run is_utf8 axes_sdl axes_table row_from key_row hex_digit
     read_hex uuid_of u
 dpup_map = refl
 
@@ -92,7 +92,7 @@ dpright_value = refl
 dpright_place : reading_outcome (reading_of (u ++ ascii ",T,dpright:h0.q") [] []).answer ≡ Refuses (refusal_at 4 38)
 unfolding reading_of read_line line_from named_from pairs_from taken fields_of pair_of keyed_of half_of value_of hat_of guid_of
     count_of first_of empty_map to_map same read_digits unsigned index_number begins first_length char_length run_of valid_run
-    is_utf8 AXES_SDL AXES row_from key_row hex_digit read_hex uuid_of u
+    is_utf8 axes_sdl axes_table row_from key_row hex_digit read_hex uuid_of u
 dpright_place = refl
 
 -- ---- 3. a save of no slots under the name T: its line is `U,T,` of 35 bytes

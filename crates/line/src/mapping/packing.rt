@@ -1,6 +1,6 @@
 // The parts of an entry as parts of its number, and back.
 ghost use Rattle.std.specs.Prelude.{◌≡◌, ◌+◌, ◌*◌, ◌<◌};
-ghost use Rattle.line.specs.Numbers.{CODE_UNIT, SHAPE_UNIT, half_number, ranges_number, half_in, ranges_in};
+ghost use Rattle.line.specs.Numbers.{code_unit, shape_unit, half_number, ranges_number, half_in, ranges_in};
 ghost use Rattle.line.specs.Numbers.{element_of_kind, shaped_entry, entry_in};
 
 use crate::ev::{Axis, AxisOrBtn, Button};
@@ -62,7 +62,7 @@ pub fn ranges_of(k: u64) -> Ranges
 }
 
 pub fn pack(code: u32, shape: u16, number: u16) -> u64
-    ensures { (result ≡ code * CODE_UNIT + shape * SHAPE_UNIT + number) × (entry_in result ≡ shaped_entry code shape number) }
+    ensures { (result ≡ code * code_unit + shape * shape_unit + number) × (entry_in result ≡ shaped_entry code shape number) }
 {
     code as u64 * CODE_UNIT + shape as u64 * SHAPE_UNIT + number as u64
 }

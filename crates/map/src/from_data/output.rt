@@ -3,10 +3,10 @@ ghost use Rattle.std.specs.Prelude.{◌≡◌, ◌+◌, ◌≤◌, length};
 ghost use Rattle.text.specs.Decimal.{decimal};
 ghost use Rattle.text.specs.Uuid.{uuid_text};
 ghost use Rattle.text.specs.Inner.{Put};
-ghost use Rattle.line.specs.Reading.{LIST_MAX};
+ghost use Rattle.line.specs.Reading.{list_max};
 ghost use Rattle.line.specs.Tables.{name_rows, ident_text};
 ghost use Rattle.line.specs.Inner.{until_zero};
-ghost use Rattle.map.specs.Build.{NAME_MAX};
+ghost use Rattle.map.specs.Build.{name_max};
 ghost use Rattle.map.specs.Inner.{Few, Ready, PlacedIn, held_in, with_comma, value_text, pair_at, pair_fields};
 ghost use Rattle.map.specs.Inner.{head_text, line_text, Room, WritesPairs, length_at, pairs_length, length_of};
 ghost use Rattle.map.specs.Inner.{short_of, upto_of};
@@ -22,7 +22,7 @@ use text::uuid::Uuid;
 
 // How long the pair of an entry is, with its comma, where its code has the place n.
 fn pair_len(n: usize, e: Entry) -> usize
-    requires { n ≤ LIST_MAX }
+    requires { n ≤ list_max }
     ensures { result ≡ length_at n e }
 {
     let element = e.element;
@@ -46,7 +46,7 @@ fn pairs_len(list: &[u32], filled: Filled) -> usize
 
 // How long the line is.
 fn line_len(first: Filled, last: Filled, buttons: &[u32], axes: &[u32], name: &[u8]) -> usize
-    requires { Ready buttons.now first × Ready axes.now last × (length name.now ≤ NAME_MAX) }
+    requires { Ready buttons.now first × Ready axes.now last × (length name.now ≤ name_max) }
     ensures { result ≡ length_of buttons.now first axes.now last name.now }
 {
     NAME_START + name.len() + 1 + pairs_len(buttons, first) + pairs_len(axes, last)
@@ -61,7 +61,7 @@ pub fn too_short(
     axes: &[u32],
     name: &[u8],
 ) -> bool
-    requires { Ready buttons.now first × Ready axes.now last × (length name.now ≤ NAME_MAX) }
+    requires { Ready buttons.now first × Ready axes.now last × (length name.now ≤ name_max) }
     ensures { result ≡ short_of room (length_of buttons.now first axes.now last
         name.now) }
 {

@@ -12,13 +12,11 @@ use Rattle.exports.proofs.pad_calls.flat_emitted.Goals as goal
 
 pub returns-in-Is : goal.returns-in-Is
 returns-in-Is c =
-    let g = c.x-1.given in
-    let e = g.0.0 in
     let to = c.flat_element in
-    let f : SFits w16 e.value = record { sfits = c.struct_told-1.given.1.0.1 } in
-    ap (λ (z : ℤ). record { found = true; element = to.result; value = z }) (to_z-of_z w16 e.value f)
-    ∙ ap (λ (y : FlatElement). record { found = true; element = y; value = e.value }) to.ensures
-    ∙ ap (λ (x : Emitted). flat_emitted x) (sym g.1)
+    let f : SFits w16 c.in-Is.e.value = record { sfits = c.struct_told-1.given.1.0.1 } in
+    ap (λ (z : ℤ). record { found = true; element = to.result; value = z }) (to_z-of_z w16 c.in-Is.e.value f)
+    ∙ ap (λ (y : FlatElement). record { found = true; element = y; value = c.in-Is.e.value }) to.ensures
+    ∙ ap (λ (x : Emitted). flat_emitted x) (sym c.in-Is.is)
 
 pub returns-in-Nothing : goal.returns-in-Nothing
 returns-in-Nothing c = ap (λ (x : Emitted). flat_emitted x) (sym c.in-Nothing.is)

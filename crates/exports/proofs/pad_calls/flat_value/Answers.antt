@@ -10,10 +10,9 @@ use Rattle.exports.proofs.pad_calls.flat_value.Goals as goal
 
 pub returns-in-Is : goal.returns-in-Is
 returns-in-Is c =
-    let g = c.x-1.given in
     ap (λ (z : ℤ). record { found = true; value = z })
-    (to_z-of_z w16 g.0.0 (record { sfits = c.known_told-1.given.0.1 }))
-    ∙ ap (λ (w : ElementValue). flat_value w) (sym g.1)
+    (to_z-of_z w16 c.in-Is.value (record { sfits = c.known_told-1.given.0.1 }))
+    ∙ ap (λ (w : ElementValue). flat_value w) (sym c.in-Is.is)
 
 pub returns-in-Nothing : goal.returns-in-Nothing
 returns-in-Nothing c = simp c.in-Nothing.is

@@ -1,7 +1,6 @@
 use Prim.Native.Nat.{◌+◌, ◌≤◌, ◌<◌, ◌-◌}
 use mathlib.Core.Path.{◌≡◌, sym, ap, ◌∙◌}
 use mathlib.Core.List.{List, []}
-use mathlib.Core.Logic.{⊎_elim}
 use native.Mathlib.Omega.{arith}
 use lib.ListN.{length, get_or}
 use Rattle.line.specs.declared.mapping.Entry.{Entry}
@@ -12,6 +11,7 @@ use Rattle.map.specs.Default.{button_rows, axis_rows, axis_row_count, put_kept, 
 use Rattle.map.proofs.DefaultLaws.{kept_put, kept_not, kept_append, kept_many}
 use Rattle.map.proofs.DefaultLaws.{rows_long, rows-done, buttons_many}
 use Rattle.map.proofs.default.kept_map.Goals as goal
+use Rattle.map.proofs.default.kept_map.Goals.{then-in_its_list, else-in_its_list}
 
 pub loop-i-init : goal.loop-i-init
 loop-i-init c =
@@ -32,29 +32,29 @@ loop-i-preserved c =
     let row = c.row-e.ensures in
     let kept = rw row at c.in_its_list.ensures in
     let in_rows : i < length axis_rows = rows_long i (omega arith) in
-    ⊎_elim
-    (λ w.
-    let put = rw (row, inv.2) at w.1.ensures in (
-      omega arith,
-      (
-        put_entry x inv.0,
-        omega (arith, put_adds x inv.0),
-        w.3 ∙ ap (λ (r : PutAnswer). r.map) put ∙ put_map (flagged_map inv.0) x (omega arith),
-        sym (kept_put a.buttons.now a.axes.now inv.0 axis_rows i unused_entry in_rows (sym kept ∙ w.0.taken))
-            ∙ inv.3,
-      ),
-    ))
-    (λ w. (
-      omega arith,
-      (
-        inv.0,
+    elim c.if-in_its_list.branch [
+      | then-in_its_list w ↦
+          let put = rw (row, inv.2) at w.put-a.ensures in (
+            omega arith,
+            (
+              put_entry x inv.0,
+              omega (arith, put_adds x inv.0),
+              w.map-is ∙ ap (λ (r : PutAnswer). r.map) put ∙ put_map (flagged_map inv.0) x (omega arith),
+              sym (kept_put a.buttons.now a.axes.now inv.0 axis_rows i unused_entry in_rows (sym kept ∙ w.if-in_its_list.true))
+                  ∙ inv.3,
+            ),
+          )
+      | else-in_its_list w ↦ (
         omega arith,
-        w.1 ∙ inv.2,
-        sym (kept_not a.buttons.now a.axes.now inv.0 axis_rows i unused_entry in_rows (sym kept ∙ w.0.left))
-            ∙ inv.3,
-      ),
-    ))
-    c.if-in_its_list.branch
+        (
+          inv.0,
+          omega arith,
+          w.map-is ∙ inv.2,
+          sym (kept_not a.buttons.now a.axes.now inv.0 axis_rows i unused_entry in_rows (sym kept ∙ w.if-in_its_list.false))
+              ∙ inv.3,
+        ),
+      )
+    ]
 
 pub returns : goal.returns
 returns c =

@@ -43,16 +43,16 @@ put_line-len-requires c =
     let most = fits_so a.«data» a.buttons.now a.axes.now a.name.now a.uuid
     (sym c.checked.ensures ∙ c.in-Accepted.is) (length a.out.now) (length_of a.buttons.now
     c.filled_buttons-first.result a.axes.now c.filled_axes-last.result a.name.now) n h in
-    let same = line_held a.«data» a.buttons.now a.axes.now a.name.now a.uuid _ _ b x in (
-      (b.most, b.placed, x.most, x.placed),
-      omega (
+    let same = line_held a.«data» a.buttons.now a.axes.now a.name.now a.uuid _ _ b x in record {
+      few = (b.most, b.placed, x.most, x.placed);
+      room = omega (
         arith,
         most,
         n,
         ap length same,
         line_length_lem a.«data» a.buttons.now a.axes.now a.name.now a.uuid,
-      ),
-    )
+      );
+    }
 
 pub built_map-requires : goal.built_map-requires
 built_map-requires c = (c.filled_buttons-first.ensures.most, c.filled_axes-last.ensures.most)

@@ -6,8 +6,8 @@ use mir.Val.{Fits}
 use mir.Syntax.{w16}
 use lib.ListN.{get_or}
 use Rattle.line.specs.declared.ev.Button.{Button}
-use Rattle.line.specs.Elements.{BUTTON_LAST}
-use Rattle.map.specs.Keys.{KEY_FIRST, KEYS, key_number, keys}
+use Rattle.line.specs.Elements.{button_last}
+use Rattle.map.specs.Keys.{key_first, key_count, key_number, keys}
 use Rattle.map.proofs.KeyLaws.{key_rule, no_other, key_below, key_above}
 use Rattle.map.proofs.keys.key_button.Goals as goal
 
@@ -15,13 +15,13 @@ abbrev numbered : ℕ → Button
 numbered n = record { 0 = n }
 
 -- the number of a code's place
-placed : (k : ℕ) → KEY_FIRST ≤ k → k - KEY_FIRST < KEYS → get_or keys (k - KEY_FIRST) 0 ≡ key_number k
+placed : (k : ℕ) → key_first ≤ k → k - key_first < key_count → get_or keys (k - key_first) 0 ≡ key_number k
 placed k h l =
-    let e : KEY_FIRST + (k - KEY_FIRST) ≡ k = omega arith in
-    key_rule (k - KEY_FIRST) l ∙ ap (λ (j : ℕ). key_number j) e
+    let e : key_first + (k - key_first) ≡ k = omega arith in
+    key_rule (k - key_first) l ∙ ap (λ (j : ℕ). key_number j) e
 
-fitting : (i : ℕ) → i < KEYS → Fits w16 (get_or keys i 0)
-fitting i h = let small : get_or keys i 0 ≤ BUTTON_LAST = no_other i h in omega arith
+fitting : (i : ℕ) → i < key_count → Fits w16 (get_or keys i 0)
+fitting i h = let small : get_or keys i 0 ≤ button_last = no_other i h in omega arith
 
 pub returns-then-code-lt-KEY_FIRST : goal.returns-then-code-lt-KEY_FIRST
 returns-then-code-lt-KEY_FIRST c =
@@ -29,16 +29,16 @@ returns-then-code-lt-KEY_FIRST c =
 
 pub overflow_cast-result : goal.overflow_cast-result
 unfolding keys
-overflow_cast-result c = fitting (c.args.code.0 - KEY_FIRST) c.if-i-lt-KEYS.true
+overflow_cast-result c = fitting (c.args.code.0 - key_first) c.if-i-lt-KEYS.true
 
 pub returns-then-i-lt-KEYS : goal.returns-then-i-lt-KEYS
 unfolding keys
 returns-then-i-lt-KEYS c =
     ap (λ (n : ℕ). numbered n)
-    (placed c.args.code.0 c.if-i-lt-KEYS.false c.if-i-lt-KEYS.true)
+    (placed c.args.code.0 c.if-code-lt-KEY_FIRST.false c.if-i-lt-KEYS.true)
 
 pub returns : goal.returns
 returns c =
     let k = c.args.code.0 in
-    let over : KEY_FIRST + KEYS ≤ k = omega arith in
+    let over : key_first + key_count ≤ k = omega arith in
     ap (λ (n : ℕ). numbered n) (sym (key_above k over))

@@ -1,4 +1,5 @@
 -- By what is reported. Assumes nothing.
+use borrow.Author.Rules.{rules}
 use mathlib.Core.Path.{sym, ap, subst, ◌∙◌}
 use native.Mathlib.Omega.{arith}
 use Prim.Native.Nat.{ℕ, ◌+◌}
@@ -27,11 +28,10 @@ returns-in-ButtonPressed c =
 
 pub returns-in-AxisValueChanged : goal.returns-in-AxisValueChanged
 returns-in-AxisValueChanged c =
-    let g = c.raw-1.given in
-    let f : SFits w16 g.0.0 = record { sfits = c.known_told-1.given.0.1 } in
-    let e = c.biased.ensures.0 ∙ ap (λ (z : ℤ). shifted z) (to_z-of_z w16 g.0.0 f)
-    ∙ ap nat_abs (sym (sum_is g.0.0 f)) in (
-      ap (λ (k : ℕ). k + 2) e ∙ ap (λ (r : Raw). raw_number r) (sym g.1),
+    let f : SFits w16 c.in-AxisValueChanged.v = search rules in
+    let e = c.biased.ensures.0 ∙ ap (λ (z : ℤ). shifted z) (to_z-of_z w16 c.in-AxisValueChanged.v f)
+    ∙ ap nat_abs (sym (sum_is c.in-AxisValueChanged.v f)) in (
+      ap (λ (k : ℕ). k + 2) e ∙ ap (λ (r : Raw). raw_number r) (sym c.in-AxisValueChanged.is),
       omega (arith, c.biased.ensures.1),
-      subst (λ (r : Raw). RawWithin r) (sym g.1) (fits_within g.0.0 f),
+      subst (λ (r : Raw). RawWithin r) (sym c.in-AxisValueChanged.is) (fits_within c.in-AxisValueChanged.v f),
     )

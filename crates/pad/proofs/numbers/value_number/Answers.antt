@@ -1,4 +1,5 @@
 -- By whether there is a value. Assumes nothing.
+use borrow.Author.Rules.{rules}
 use mathlib.Core.Path.{sym, ap, ◌∙◌}
 use lib.IntN.{ℤ}
 use mir.Syntax.{w16}
@@ -10,7 +11,6 @@ use Rattle.pad.proofs.numbers.value_number.Goals as goal
 
 pub returns-in-Is : goal.returns-in-Is
 returns-in-Is c =
-    let g = c.v-1.given in
-    let f : SFits w16 g.0.0 = record { sfits = c.known_told-1.given.0.1 } in
-    c.biased.ensures.0 ∙ ap (λ (z : ℤ). shifted z) (to_z-of_z w16 g.0.0 f)
-    ∙ ap (λ (x : ElementValue). value_number x) (sym g.1)
+    let f : SFits w16 c.in-Is.x = search rules in
+    c.biased.ensures.0 ∙ ap (λ (z : ℤ). shifted z) (to_z-of_z w16 c.in-Is.x f)
+    ∙ ap (λ (x : ElementValue). value_number x) (sym c.in-Is.is)

@@ -24,6 +24,6 @@ returns c =
     let u = c.unbiased-value in
     c.one_event.ensures
     ∙ ap (λ (z : ℤ). events_in (one_event a.element z ∷ []))
-    (to_z-of_z w16 u.result (record { sfits = u.type-inv }) ∙ u.ensures)
+    (to_z-of_z w16 u.result (record { sfits = u.type_inv }) ∙ u.ensures)
     ∙ ap (λ (t : Bool). events_in (pick t [] (one_event a.element (unshifted a.later) ∷ [])))
     (sym (ne_eqb a.before a.later c.if-c.false))

@@ -16,7 +16,7 @@ returns-then-leads c =
     let beside = c.args.beside in
     let zo = to_z-of_z w16 own c.ranges.own in
     let zb = to_z-of_z w16 beside c.ranges.beside in
-    to_z-of_z w16 f.result (record { sfits = f.type-inv })
+    to_z-of_z w16 f.result (record { sfits = f.type_inv })
     ∙ f.ensures
     ∙ ap (λ (z : ℤ). farther z (to_z w16 (of_z w16 beside))) zo ∙ ap (λ (z : ℤ). farther own z) zb
     ∙ sym (ap (λ (t : Bool). joined_of t own beside) c.if-leads.true)
@@ -28,7 +28,7 @@ returns c =
     let beside = c.args.beside in
     let zo = to_z-of_z w16 own c.ranges.own in
     let zb = to_z-of_z w16 beside c.ranges.beside in
-    to_z-of_z w16 f.result (record { sfits = f.type-inv })
+    to_z-of_z w16 f.result (record { sfits = f.type_inv })
     ∙ f.ensures
     ∙ ap (λ (z : ℤ). farther z (to_z w16 (of_z w16 own))) zb ∙ ap (λ (z : ℤ). farther beside z) zo
     ∙ sym (ap (λ (t : Bool). joined_of t own beside) c.if-leads.false)

@@ -25,12 +25,11 @@ returns-in-Is c =
     let w : c.joined_values.result
     ≡ joint_event a.leads a.c.element (unshifted a.c.before) (unshifted a.c.later) a.other =
     joint_is a.leads a.c.element c.joined_values.ensures
-    (to_z-of_z w16 b.result (record { sfits = b.type-inv }) ∙ b.ensures)
-    (to_z-of_z w16 l.result (record { sfits = l.type-inv }) ∙ l.ensures) (to_z-of_z w16 a.other c.ranges.other) in
-    let g = c.e-1.given in
+    (to_z-of_z w16 b.result (record { sfits = b.type_inv }) ∙ b.ensures)
+    (to_z-of_z w16 l.result (record { sfits = l.type_inv }) ∙ l.ensures) (to_z-of_z w16 a.other c.ranges.other) in
     c.one_event.ensures
     ∙ ap (λ (es : List Event). events_in es)
-    (ap (λ (u : Emitted). caught u []) (sym g.1)
+    (ap (λ (u : Emitted). caught u []) (sym c.in-Is.is)
     ∙ joint_told a.c.before a.c.later c.joined_values.result _ w
     c.if-c.false)
 
@@ -42,8 +41,8 @@ returns-in-Nothing c =
     let w : c.joined_values.result
     ≡ joint_event a.leads a.c.element (unshifted a.c.before) (unshifted a.c.later) a.other =
     joint_is a.leads a.c.element c.joined_values.ensures
-    (to_z-of_z w16 b.result (record { sfits = b.type-inv }) ∙ b.ensures)
-    (to_z-of_z w16 l.result (record { sfits = l.type-inv }) ∙ l.ensures) (to_z-of_z w16 a.other c.ranges.other) in
+    (to_z-of_z w16 b.result (record { sfits = b.type_inv }) ∙ b.ensures)
+    (to_z-of_z w16 l.result (record { sfits = l.type_inv }) ∙ l.ensures) (to_z-of_z w16 a.other c.ranges.other) in
     c.no_events-in-Nothing.ensures
     ∙ ap (λ (es : List Event). events_in es)
     (ap (λ (u : Emitted). caught u []) (sym c.in-Nothing.is)

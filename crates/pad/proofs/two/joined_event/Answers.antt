@@ -15,5 +15,5 @@ returns c =
     let w = c.value-2 in
     let fe : SFits w16 a.e.value = record { sfits = c.struct_told-1.given.1.0.1 } in
     joint_is a.leads a.e.element c.joined_values.ensures
-    (to_z-of_z w16 v.result (record { sfits = v.type-inv }) ∙ v.ensures) (to_z-of_z w16 a.e.value fe)
-    (to_z-of_z w16 w.result (record { sfits = w.type-inv }) ∙ w.ensures)
+    (to_z-of_z w16 v.result (record { sfits = v.type_inv }) ∙ v.ensures) (to_z-of_z w16 a.e.value fe)
+    (to_z-of_z w16 w.result (record { sfits = w.type_inv }) ∙ w.ensures)

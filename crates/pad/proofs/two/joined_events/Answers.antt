@@ -54,14 +54,13 @@ loop-i-preserved-in-Is c =
     let l : List Event = a.told.list in
     let at = c.loop-i in
     let je = c.joined_event in
-    let g = c.e-1.given in
     let long : length l ≡ 27 = c.requires.1 in
     let lt : at.i < n = omega arith in
     let few : length (take n l) ≡ n = length-take-le n l (omega (arith, c.requires.0)) in
     refining_taken a.leads a.own a.beside (take n l) at.list at.count at.i _ at.invariant
-    (omega (arith, few, lt)) je.result g.0.0
+    (omega (arith, few, lt)) je.result c.in-Is.e
     (je.ensures ∙ ap (λ (x : Event). joined_event a.leads a.own a.beside x) (sym (get_or-take n l at.i _ lt)))
-    g.1 (omega (arith, c.requires.0, at.invariant.few, lt))
+    c.in-Is.is (omega (arith, c.requires.0, at.invariant.few, lt))
 
 pub overflow_add-i-in-Nothing : goal.overflow_add-i-in-Nothing
 overflow_add-i-in-Nothing c = omega (arith, c.requires.0)

@@ -17,8 +17,8 @@ returns-then-biased c =
     let now = c.joined-value in
     let x = c.biased in
     let y = c.biased-2 in
-    let fw : SFits w16 was.result = record { sfits = was.type-inv } in
-    let fn : SFits w16 now.result = record { sfits = now.type-inv } in
+    let fw : SFits w16 was.result = record { sfits = was.type_inv } in
+    let fn : SFits w16 now.result = record { sfits = now.type_inv } in
     let zb = to_z-of_z w16 a.before c.ranges.before in
     let zl = to_z-of_z w16 a.later c.ranges.later in
     let zo = to_z-of_z w16 a.other c.ranges.other in
@@ -45,8 +45,8 @@ returns c =
     let now = c.joined-value in
     let x = c.biased in
     let y = c.biased-2 in
-    let fw : SFits w16 was.result = record { sfits = was.type-inv } in
-    let fn : SFits w16 now.result = record { sfits = now.type-inv } in
+    let fw : SFits w16 was.result = record { sfits = was.type_inv } in
+    let fn : SFits w16 now.result = record { sfits = now.type_inv } in
     let zb = to_z-of_z w16 a.before c.ranges.before in
     let zl = to_z-of_z w16 a.later c.ranges.later in
     let zo = to_z-of_z w16 a.other c.ranges.other in

@@ -15,7 +15,7 @@ returns c =
     let v = c.value_beside-other in (
       second_put a.second a.first (raw_event_of a.second a.code a.raw) d.before d.later d.element
           (raw_tells a.second a.code a.raw) p.ensures.0 p.ensures.1
-          (to_z-of_z w16 v.result (record { sfits = v.type-inv }) ∙ v.ensures)
+          (to_z-of_z w16 v.result (record { sfits = v.type_inv }) ∙ v.ensures)
           c.joined_change-events.result c.joined_change-events.ensures,
       p.ensures.4,
     )

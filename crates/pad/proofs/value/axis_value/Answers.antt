@@ -23,22 +23,19 @@ proper p n d h e = subst ProperPart e h
 
 pub turn-requires : goal.turn-requires
 turn-requires c =
-    let g = c.n-1.given in
     let p = c.part_of in
-    proper p.result g.0.0 g.0.1.0 p.ensures.1 g.1
+    proper p.result c.in-Of.n c.in-Of.d p.ensures.1 c.in-Of.is
 
 pub returns-in-Nothing : goal.returns-in-Nothing
 returns-in-Nothing c =
     let p = c.part_of in
-    let e = c.in-Nothing.is in
-    simp (part_is c.args.v c.args.r.input p.result Pt.Nothing c.ranges.v p.ensures.0 e)
+    simp (part_is c.args.v c.args.r.input p.result Pt.Nothing c.ranges.v p.ensures.0 c.in-Nothing.is)
 
 pub returns-in-Of : goal.returns-in-Of
 returns-in-Of c =
-    let g = c.n-1.given in
     let p = c.part_of in
-    let f = part_is c.args.v c.args.r.input p.result (Pt.Of g.0.0 g.0.1.0) c.ranges.v
-    p.ensures.0 g.1 in
+    let f = part_is c.args.v c.args.r.input p.result (Pt.Of c.in-Of.n c.in-Of.d) c.ranges.v
+    p.ensures.0 c.in-Of.is in
     ap (λ (z : ℤ). Ev.Is z)
     (to_z-of_z w16 c.scaled.result (record { sfits = c.scaled.type_inv }) ∙ c.scaled.ensures)
     ∙ simp (f, c.turn.ensures.0)

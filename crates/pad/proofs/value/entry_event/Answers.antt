@@ -1,4 +1,5 @@
 -- By whether there is a value. Assumes nothing.
+use borrow.Author.Rules.{rules}
 use mathlib.Core.Path.{sym, ap, ◌∙◌}
 use lib.IntN.{ℤ}
 use mir.Syntax.{w16}
@@ -11,10 +12,9 @@ use Rattle.pad.proofs.value.entry_event.Goals as goal
 pub returns-in-Is : goal.returns-in-Is
 returns-in-Is c =
     let el = c.args.e.element in
-    let g = c.value-1.given in
     ap (λ (z : ℤ). Em.Is (record { element = el; value = z }))
-    (to_z-of_z w16 g.0.0 (record { sfits = c.known_told-1.given.0.1 }))
-    ∙ ap (λ (w : ElementValue). emitted_of el w) (sym g.1 ∙ c.entry_value.ensures)
+    (to_z-of_z w16 c.in-Is.value (search rules))
+    ∙ ap (λ (w : ElementValue). emitted_of el w) (sym c.in-Is.is ∙ c.entry_value.ensures)
 
 pub returns-in-Nothing : goal.returns-in-Nothing
 returns-in-Nothing c =

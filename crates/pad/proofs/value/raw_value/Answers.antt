@@ -1,4 +1,5 @@
 -- By what is reported. Assumes nothing.
+use borrow.Author.Rules.{rules}
 use mathlib.Core.Path.{ap, ◌∙◌}
 use lib.IntN.{ℤ}
 use mir.Syntax.{w16}
@@ -22,8 +23,7 @@ pub returns-in-AxisValueChanged : goal.returns-in-AxisValueChanged
 unfolding raw_value
 returns-in-AxisValueChanged c =
     let a = c.args in
-    let g = c.raw-1.given in
     c.axis_value.ensures
     ∙ ap (λ (z : ℤ). axis_value a.e a.r.output a.r.inverted (part_of z a.r.input))
-    (to_z-of_z w16 g.0.0 (record { sfits = c.known_told-1.given.0.1 }))
-    ∙ simp g.1
+    (to_z-of_z w16 c.in-AxisValueChanged.v (search rules))
+    ∙ simp c.in-AxisValueChanged.is

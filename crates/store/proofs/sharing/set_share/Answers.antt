@@ -131,15 +131,14 @@ returns-in-Fits c =
     let w = stocked i t _ _ _ _ stock.result
     (λ k. omega (arith, c.slice_known-1.given k)) stock.ensures
     c.if-not-stock.false in
-    let told = c.in-Fits.is in
     let writes = set_writes i t _ _ stock.result w args.owner args.bytes (omega (arith, c.ranges))
     c.share_size.result c.share_size-2.result c.share_size.ensures
     c.share_size-2.ensures (λ k. omega (arith, c.slice_known-1.given k))
     c.share_room-room.result (c.share_room-room.ensures w.all.held
-    w.used) told _ refl in
+    w.used) c.in-Fits.is _ refl in
     set-done i t _ _ stock.result w args.owner args.bytes (omega (arith, c.ranges))
     c.share_size.result c.share_size-2.result c.share_size.ensures
     c.share_size-2.ensures (λ k. omega (arith, c.slice_known-1.given k))
     c.share_room-room.result (c.share_room-room.ensures w.all.held
-    w.used) told _
+    w.used) c.in-Fits.is _
     (c.write_share.ensures _ w.all.held writes)

@@ -14,20 +14,20 @@ loop-i-init c = (omega arith, refl)
 pub returns-then-list-filled : goal.returns-then-list-filled
 returns-then-list-filled c =
     let a = c.args in
-    let n : length a.t1.entries ≡ button_slots = search (rules, entries_long) in
-    sym (missing_hit a.t1 a.list.now c.loop-i.i past (omega arith) (omega arith) c.requires.1
+    let n : length a.filled.entries ≡ button_slots = search (rules, entries_long) in
+    sym (missing_hit a.filled a.list.now c.loop-i.i past (omega arith) (omega arith) c.requires.1
     c.if-list-filled.true) ∙ c.loop-i.invariant.1
 
 pub loop-i-preserved : goal.loop-i-preserved
 loop-i-preserved c =
     let a = c.args in
-    let n : length a.t1.entries ≡ button_slots = search (rules, entries_long) in (
+    let n : length a.filled.entries ≡ button_slots = search (rules, entries_long) in (
       omega arith,
-      missing_on a.t1 a.list.now c.loop-i.i past (omega arith) (omega arith) c.requires.1 c.if-list-filled.false
+      missing_on a.filled a.list.now c.loop-i.i past (omega arith) (omega arith) c.requires.1 c.if-list-filled.false
           ∙ c.loop-i.invariant.1,
     )
 
 pub returns : goal.returns
 returns c =
     let a = c.args in
-    sym (missing_end a.t1 a.list.now c.loop-i.i (omega arith)) ∙ c.loop-i.invariant.1
+    sym (missing_end a.filled a.list.now c.loop-i.i (omega arith)) ∙ c.loop-i.invariant.1

@@ -10,7 +10,7 @@ pub loop-i-init : goal.loop-i-init
 loop-i-init c =
     let a = c.args in (
       omega arith,
-      gather_none a.list.now (codes a.t1) as_button button_slots c.new-filled.result c.new-filled.ensures,
+      gather_none a.list.now (codes a.slots) as_button button_slots c.new-filled.result c.new-filled.ensures,
     )
 
 pub offset_bounds-filled-n : goal.offset_bounds-filled-n
@@ -38,8 +38,8 @@ pub loop-i-preserved-in-Is : goal.loop-i-preserved-in-Is
 loop-i-preserved-in-Is c =
     let a = c.args in (
       omega arith,
-      gather_filled a.list.now (codes a.t1) as_button button_slots c.loop-i.i c.loop-i.filled _ (omega arith)
-          (button_at a.t1 c.loop-i.i _ (omega arith) c.code.ensures)
+      gather_filled a.list.now (codes a.slots) as_button button_slots c.loop-i.i c.loop-i.filled _ (omega arith)
+          (button_at a.slots c.loop-i.i _ (omega arith) c.code.ensures)
           c.loop-i.invariant.1 _ _ _ c.in-Is.is c.new.ensures
           c.find_code.ensures (omega arith),
     )
@@ -48,8 +48,8 @@ pub loop-i-preserved : goal.loop-i-preserved
 loop-i-preserved c =
     let a = c.args in (
       omega arith,
-      gather_empty a.list.now (codes a.t1) as_button button_slots c.loop-i.i c.loop-i.filled _ (omega arith)
-          (button_at a.t1 c.loop-i.i _ (omega arith) c.code.ensures)
+      gather_empty a.list.now (codes a.slots) as_button button_slots c.loop-i.i c.loop-i.filled _ (omega arith)
+          (button_at a.slots c.loop-i.i _ (omega arith) c.code.ensures)
           c.loop-i.invariant.1 c.in-Nothing.is,
     )
 
@@ -58,7 +58,7 @@ returns c =
     let a = c.args in
     let p = c.loop-i.invariant.1 in
     record {
-      are = gather_end a.list.now (codes a.t1) as_button button_slots c.loop-i.i _ (omega arith) p;
+      are = gather_end a.list.now (codes a.slots) as_button button_slots c.loop-i.i _ (omega arith) p;
       most = omega (arith, p.most);
       placed = p.placed;
     }

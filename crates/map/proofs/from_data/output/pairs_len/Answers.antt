@@ -17,7 +17,7 @@ pair_len-len-requires c =
     omega (
       arith,
       c.requires.1.at c.loop-i.i past (omega arith),
-      place_le a.list.now (get_or a.t2.entries c.loop-i.i past),
+      place_le a.list.now (get_or a.filled.entries c.loop-i.i past),
       c.requires.2,
     )
 
@@ -29,16 +29,16 @@ overflow_add-len c =
       arith,
       c.loop-i.invariant.2,
       r,
-      pair_short a.list.now (get_or a.t2.entries c.loop-i.i past) c.requires.2,
+      pair_short a.list.now (get_or a.filled.entries c.loop-i.i past) c.requires.2,
     )
 
 pub loop-i-preserved : goal.loop-i-preserved
 loop-i-preserved c =
     let a = c.args in
-    let n : length a.t2.entries ≡ button_slots = search (rules, entries_long) in
-    let w = lengths-next a.list.now a.t2 c.loop-i.i past (omega arith) (omega arith) in
+    let n : length a.filled.entries ≡ button_slots = search (rules, entries_long) in
+    let w = lengths-next a.list.now a.filled c.loop-i.i past (omega arith) (omega arith) in
     let r = rw (c.requires.1.at c.loop-i.i past (omega arith)) at c.pair_len-len.ensures in
-    let z = pair_short a.list.now (get_or a.t2.entries c.loop-i.i past) c.requires.2 in (
+    let z = pair_short a.list.now (get_or a.filled.entries c.loop-i.i past) c.requires.2 in (
       omega arith,
       omega (arith, r),
       omega (arith, r),
@@ -47,4 +47,4 @@ loop-i-preserved c =
 pub returns : goal.returns
 returns c =
     let a = c.args in
-    omega (arith, c.loop-i.invariant.1, lengths_end a.list.now a.t2 c.loop-i.i (omega arith))
+    omega (arith, c.loop-i.invariant.1, lengths_end a.list.now a.filled c.loop-i.i (omega arith))

@@ -11,7 +11,7 @@ put_head-pairs-requires c =
     let h = head_text a.uuid a.name.now in
     let x = pair_fields (byte "b") a.buttons.now (held_in a.first) in
     let y = pair_fields (byte "a") a.axes.now (held_in a.last) in
-    room_first l 0 h x y c.requires.1
+    room_first l 0 h x y c.requires.room
 
 pub put_pairs-more-requires : goal.put_pairs-more-requires
 put_pairs-more-requires c =
@@ -21,9 +21,9 @@ put_pairs-more-requires c =
     let x = pair_fields (byte "b") a.buttons.now (held_in a.first) in
     let y = pair_fields (byte "a") a.axes.now (held_in a.last) in (
       c.key_names-names.ensures,
-      c.requires.0.0,
-      c.requires.0.1,
-      room_second l 0 h x y c.requires.1 _ _ c.put_head-pairs.ensures,
+      c.requires.few.0,
+      c.requires.few.1,
+      room_second l 0 h x y c.requires.room _ _ c.put_head-pairs.ensures,
     )
 
 pub put_pairs-requires : goal.put_pairs-requires
@@ -34,9 +34,9 @@ put_pairs-requires c =
     let x = pair_fields (byte "b") a.buttons.now (held_in a.first) in
     let y = pair_fields (byte "a") a.axes.now (held_in a.last) in (
       c.key_names-names.ensures,
-      c.requires.0.2,
-      c.requires.0.3,
-      room_third l 0 h x y c.requires.1 _ _ c.put_head-pairs.ensures _ _ c.put_pairs-more.ensures,
+      c.requires.few.2,
+      c.requires.few.3,
+      room_third l 0 h x y c.requires.room _ _ c.put_head-pairs.ensures _ _ c.put_pairs-more.ensures,
     )
 
 pub returns : goal.returns
@@ -46,5 +46,5 @@ returns c =
     let h = head_text a.uuid a.name.now in
     let x = pair_fields (byte "b") a.buttons.now (held_in a.first) in
     let y = pair_fields (byte "a") a.axes.now (held_in a.last) in
-    three_put l 0 h x y c.requires.1 _ _ c.put_head-pairs.ensures _ _ c.put_pairs-more.ensures _ _
+    three_put l 0 h x y c.requires.room _ _ c.put_head-pairs.ensures _ _ c.put_pairs-more.ensures _ _
     c.put_pairs.ensures

@@ -9,7 +9,7 @@ use Rattle.map.proofs.PutsLaws.{add_none, add_turn, add_end}
 use Rattle.map.proofs.from_data.puts.add_numbers.Goals as goal
 
 pub loop-i-init : goal.loop-i-init
-loop-i-init c = let a = c.args in add_none a.n a.xs.now a.t3
+loop-i-init c = let a = c.args in add_none a.n a.xs.now a.filled
 
 pub offset_bounds-filled-i : goal.offset_bounds-filled-i
 offset_bounds-filled-i c = omega (arith, c.requires.0, c.loop-i-test.true)
@@ -35,8 +35,8 @@ loop-i-smaller c = omega (arith, c.loop-i-test.true)
 pub loop-i-preserved : goal.loop-i-preserved
 loop-i-preserved c =
     let a = c.args in
-    let long : length a.t3.entries ≡ button_slots = search (rules, entries_long) in
-    add_turn a.n a.xs.now a.t3 c.loop-i.i c.loop-i.xs c.loop-i.invariant past _ c.loop-i-test.true
+    let long : length a.filled.entries ≡ button_slots = search (rules, entries_long) in
+    add_turn a.n a.xs.now a.filled c.loop-i.i c.loop-i.xs c.loop-i.invariant past _ c.loop-i-test.true
     (omega (arith, c.requires.0)) c.requires.1 c.number.ensures.1
 
 pub overflow_add-result : goal.overflow_add-result
@@ -48,4 +48,4 @@ shape_of-xs c = c.loop-i.invariant.long
 pub returns : goal.returns
 returns c =
     let a = c.args in
-    add_end a.n a.xs.now a.t3 c.loop-i.i c.loop-i.xs c.loop-i.invariant c.loop-i-test.false
+    add_end a.n a.xs.now a.filled c.loop-i.i c.loop-i.xs c.loop-i.invariant c.loop-i-test.false

@@ -15,9 +15,9 @@ returns c =
     let w = c.value-2 in
     let f = c.farthest in
     let el = c.args.element in
-    to_z-of_z w16 f.result (record { sfits = f.type-inv })
+    to_z-of_z w16 f.result (record { sfits = f.type_inv })
     ∙ f.ensures
     ∙ ap (λ (z : ℤ). farther z (to_z w16 (of_z w16 w.result)))
-    (to_z-of_z w16 v.result (record { sfits = v.type-inv }) ∙ v.ensures)
+    (to_z-of_z w16 v.result (record { sfits = v.type_inv }) ∙ v.ensures)
     ∙ ap (λ (z : ℤ). farther (pad_value c.args.self.first el) z)
-    (to_z-of_z w16 w.result (record { sfits = w.type-inv }) ∙ w.ensures)
+    (to_z-of_z w16 w.result (record { sfits = w.type_inv }) ∙ w.ensures)

@@ -1,0 +1,8 @@
+-- The event stands first. Assumes nothing.
+use mathlib.Core.Path.{refl}
+use Rattle.pad.specs.States.{events_in}
+use Rattle.pad.proofs.telling.one_event.Goals as goal
+
+pub returns : goal.returns
+unfolding events_in
+returns c = refl
