@@ -10,7 +10,7 @@ use text::bytes::same_bytes;
 
 // `hub new STORE`
 pub fn new_store(rt: &HostRuntime, held: Held, store: &[u8]) -> u8 {
-    if !may_change(held) {
+    if !may_change(rt, held) {
         return TROUBLE;
     }
     if stands(rt, store) {
@@ -31,7 +31,7 @@ pub fn new_store(rt: &HostRuntime, held: Held, store: &[u8]) -> u8 {
 
 // `hub clear STORE`
 pub fn clear_store(rt: &HostRuntime, held: Held, store: &[u8]) -> u8 {
-    if !may_change(held) {
+    if !may_change(rt, held) {
         return TROUBLE;
     }
     let mut former_index = half();
@@ -95,7 +95,7 @@ fn restore(rt: &HostRuntime, held: Held, store: &[u8], index: &[u8], text: &[u8]
 
 // `hub undo STORE`
 pub fn undo(rt: &HostRuntime, held: Held, store: &[u8]) -> u8 {
-    if !may_change(held) {
+    if !may_change(rt, held) {
         return TROUBLE;
     }
     let mut old_index = half();
@@ -104,7 +104,7 @@ pub fn undo(rt: &HostRuntime, held: Held, store: &[u8]) -> u8 {
     if status != DONE {
         return status;
     }
-    if !stands(store) {
+    if !stands(rt, store) {
         return restore(rt, held, store, &old_index, &old_text);
     }
     let mut index = half();

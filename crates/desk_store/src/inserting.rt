@@ -291,7 +291,7 @@ fn insert_file(rt: &HostRuntime, held: Held, store: &[u8], party: Party, path: &
 
 // `hub insert STORE FILE ..`; the party stands from argument `from` on.
 pub fn insert_list(rt: &HostRuntime, held: Held, store: &[u8], path: &[u8], from: usize) -> u8 {
-    if !may_change(held) {
+    if !may_change(rt, held) {
         return TROUBLE;
     }
     let caller = caller_named(rt, from);

@@ -137,7 +137,7 @@ fn show_request(rt: &HostRuntime, store: &[u8], id: Uuid, asked: Request) -> u8 
 // `hub show STORE UUID ..`; the lists stand from argument `from` on.
 pub fn show_mapping(rt: &HostRuntime, store: &[u8], key: &[u8], from: usize) -> u8 {
     let asked = asked_from(rt, from);
-    if !may_show(asked) {
+    if !may_show(rt, asked) {
         return TROUBLE;
     }
     let parsed = Uuid::parse_str(key);
@@ -150,7 +150,7 @@ pub fn show_mapping(rt: &HostRuntime, store: &[u8], key: &[u8], from: usize) -> 
 // `hub default ..`
 pub fn default_mapping(rt: &HostRuntime, from: usize) -> u8 {
     let asked = asked_from(rt, from);
-    if !has_lists_only(asked) {
+    if !has_lists_only(rt, asked) {
         return TROUBLE;
     }
     let buttons = asked.buttons;

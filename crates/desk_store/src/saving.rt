@@ -234,7 +234,7 @@ fn save_request(
 
 // `hub save STORE UUID NAME ..`; the name is argument `at`.
 pub fn save_mapping(rt: &HostRuntime, held: Held, store: &[u8], key: &[u8], at: usize) -> u8 {
-    if !may_change(held) {
+    if !may_change(rt, held) {
         return TROUBLE;
     }
     let mut name = arg_space();

@@ -322,7 +322,7 @@ fn set_named(rt: &HostRuntime, held: Held, store: &[u8], owner: u8, size: &[u8])
 
 // `hub share STORE PARTY BYTES`; the bytes are argument `at`.
 pub fn give_share(rt: &HostRuntime, held: Held, store: &[u8], who: &[u8], at: usize) -> u8 {
-    if !may_change(held) {
+    if !may_change(rt, held) {
         return TROUBLE;
     }
     let mut size = arg_space();

@@ -7,9 +7,7 @@ use desk::fields::after;
 use desk::files::{arg_space, half, load};
 use desk::say::{DONE, TROUBLE, say};
 use desk::shown::say_shown;
-use desk::streams::{
-    Stream, Turn, close_stream, end_status, is_open, moved, no_stream, open_stream, turn_of,
-};
+use desk::streams::{Stream, Turn, end_status, is_open, moved, no_stream, open_stream, turn_of};
 use desk::system::argument;
 use desk::tally::{say_tally, tally_status};
 use desk_pads::playing::{NEVER, Play, Seat, new_play, new_seat, say_end};
@@ -41,8 +39,8 @@ fn worse(a: u8, b: u8) -> u8 {
 fn ended(
     rt: &HostRuntime,
     play: Play,
-    first: Stream,
-    second: Stream,
+    first: &Stream,
+    second: &Stream,
     from_arg: &[u8],
     with_arg: &[u8],
 ) -> u8 {
@@ -75,7 +73,7 @@ fn tell(
     let mut second = other;
     let mut i: usize = 0;
     while i < RECORDS_MAX {
-        let turn = turn_of(first, second);
+        let turn = turn_of(&first, &second);
         match turn {
             Turn::First(input) => {
                 play = with_input(rt, play, Which::First, input);
@@ -88,12 +86,12 @@ fn tell(
                 second = moved(second);
             }
             Turn::Over => {
-                return ended(rt, play, first, second, from_arg, with_arg);
+                return ended(rt, play, &first, &second, from_arg, with_arg);
             }
         }
         i += 1;
     }
-    ended(rt, play, first, second, from_arg, with_arg)
+    ended(rt, play, &first, &second, from_arg, with_arg)
 }
 
 // Two recordings, the first of them open.
@@ -108,10 +106,10 @@ fn test_both(
     with_arg: &[u8],
 ) -> u8 {
     let second = open_stream(rt, with_arg);
-    if !is_open(second) {
+    if !is_open(&second) {
         return TROUBLE;
     }
-    let status = tell(
+    tell(
         rt,
         index,
         text,
@@ -121,9 +119,7 @@ fn test_both(
         moved(second),
         from_arg,
         with_arg,
-    );
-    close_stream(second);
-    status
+    )
 }
 
 // The recordings that two arguments name.
@@ -137,27 +133,23 @@ fn test_streams(
     with_arg: &[u8],
 ) -> u8 {
     let first = open_stream(rt, from_arg);
-    if !is_open(first) {
+    if !is_open(&first) {
         return TROUBLE;
     }
-    let mut status = DONE;
     if play.two {
-        status = test_both(rt, index, text, asked, play, first, from_arg, with_arg);
-    } else {
-        status = tell(
-            rt,
-            index,
-            text,
-            asked,
-            play,
-            moved(first),
-            no_stream(),
-            from_arg,
-            with_arg,
-        );
+        return test_both(rt, index, text, asked, play, first, from_arg, with_arg);
     }
-    close_stream(first);
-    status
+    tell(
+        rt,
+        index,
+        text,
+        asked,
+        play,
+        moved(first),
+        no_stream(),
+        from_arg,
+        with_arg,
+    )
 }
 
 // The recordings of pads that have their maps.

@@ -179,7 +179,7 @@ fn all_have_room(rt: &HostRuntime) -> bool {
     let count = argument_count(rt);
     let mut i: usize = 1;
     while i < count {
-        if !has_room(i) {
+        if !has_room(rt, i) {
             return false;
         }
         i += 1;
