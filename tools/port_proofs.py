@@ -9,6 +9,7 @@ and proofs/F/Answers.antt (answers to goals). Answers that only call a tactic ar
 What it can't place it leaves as it is and says so: 'look: FILE: ..'.
 """
 
+import glob
 import json
 import os
 import re
@@ -75,6 +76,15 @@ class Function:
         self.by_new = dict(zip([p[0] for p in data["places"]], data["places_by_name"]))
         self.arms = dict(zip([p[0] for p in data["places"]], data["arms"]))
         self.needs = data["needs"]
+        self.asked = data["asked"]
+        self.pre = (data["pre"] or {}).get("fields", [])
+        # the names of what a call ensures, and of the buffers that it is lent, by the step's name
+        self.ensured, self.lent = {}, {}
+        for p, cl in zip(data["places"], data["clauses"]):
+            if cl and len(cl["fields"]) > 1:
+                self.ensured[p[2][1]] = cl["fields"]
+            if p[3]:
+                self.lent[p[2][1]] = LENT.get(p[3], [])
         self.asked_at = data["asked_at"]
         self.loops = data["loops"]
         self.changed = data["changed"]
@@ -134,6 +144,103 @@ class Function:
             if best:
                 return best[1]
         return None
+
+
+LENT = {}
+
+
+def lent_parameters(root):
+    """The parameters of each function of the repository that are lent to be written, by its path."""
+    for path in sorted(glob.glob("crates/*/src/**/*.rt", recursive=True)):
+        parts = path.split("/")
+        crate, rest = parts[1], "/".join(parts[3:])[: -len(".rt")]
+        module = [] if rest in ("lib", "main") else rest.split("/")
+        with open(path, encoding="utf-8") as f:
+            text = f.read()
+        for m in re.finditer(r"^(impl(?:<[^>]*>)? (\w+)[^\n]*\{)|^( *)(?:pub(?:\(\w+\))? )?(?:unsafe )?(?:extern \"C\" )?fn (\w+)(?:<[^>]*>)?\(([^)]*)\)", text, re.M):
+            if m.group(1):
+                kind = m.group(2)
+                continue
+            owner = [kind] if m.group(3) else []
+            names = [n for n, t in re.findall(r"(?:mut )?(\w+): (&(?:'\w+ )?mut)", m.group(5))]
+            if "&mut self" in m.group(5):
+                names.insert(0, "self")
+            LENT["::".join([crate] + module + owner + [m.group(4)])] = names
+
+
+def parts_of(text):
+    """The parts of a tuple in parentheses."""
+    parts, depth, cur = [], 0, ""
+    for ch in text[1:-1]:
+        depth += ch in "({["
+        depth -= ch in ")}]"
+        if ch == "," and depth == 0:
+            parts.append(cur)
+            cur = ""
+        else:
+            cur += ch
+        if depth < 0:
+            return []
+    if cur.strip():
+        parts.append(cur)
+    return [p.strip() for p in parts]
+
+
+def by_name(body, fn, new, old):
+    """What had a number among several clauses has a name now."""
+    paths = {}
+    if len(fn.pre) > 1:
+        paths["c.requires"] = fn.pre
+    for step, fields in fn.ensured.items():
+        paths[f"c.{step}.ensures"] = fields
+    for step, names in fn.lent.items():
+        if names:
+            paths[f"c.{step}.new"] = names
+    for x, p in re.findall(r"let (" + NAME + r") = (c(?:\.[^\s(){}\[\],;.@\"]+)+) in", body):
+        for full, fields in list(paths.items()):
+            if full == p:
+                paths[x] = fields
+            elif full.startswith(p + "."):
+                paths[x + full[len(p) :]] = fields
+    def walk(full, fields, closed):
+        """`.1.0` of clauses that stood one in the other is the second of them; a list that is closed ends in a unit."""
+        def one(m):
+            digits = m.group(1)[1:].split(".")
+            i = 0
+            while digits and i < len(fields):
+                last = i == len(fields) - 1
+                if last and not closed:
+                    break
+                d = digits.pop(0)
+                if d == "0":
+                    return ".".join([full + "." + fields[i]] + digits)
+                i += 1
+            if i < len(fields) and i == len(fields) - 1 and not closed:
+                return ".".join([full + "." + fields[i]] + digits)
+            return "(" + ", ".join(full + "." + f for f in fields[i:]) + ")" if i < len(fields) else m.group(0)
+
+        return one
+
+    for full, fields in sorted(paths.items(), key=lambda it: -len(it[0])):
+        closed = full.endswith(".new")
+        body = re.sub(r"(?<![\w.'-])" + re.escape(full) + r"((?:\.\d+)+)(?![\w'-])", walk(full, fields, closed), body)
+    fields = fn.asked.get(new) or fn.asked.get(old)
+    if fields and len(fields) > 1 and body.rstrip().endswith(")"):
+        end = len(body.rstrip())
+        depth = 0
+        for i in range(end - 1, -1, -1):
+            depth += body[i] in ")}]"
+            depth -= body[i] in "({["
+            if depth == 0:
+                break
+        before = body[:i].rstrip()
+        if body[i] == "(" and (not before or before.endswith(" in") or before.endswith("\nin")):
+            parts = parts_of(body[i:end])
+            while 1 < len(parts) < len(fields) and parts[-1].startswith("(") and len(parts_of(parts[-1])) > 1:
+                parts[-1:] = parts_of(parts[-1])
+            if len(parts) == len(fields):
+                body = body[:i] + "record {\n" + ";\n".join(f"      {f} = {q.strip()}" for f, q in zip(fields, parts)) + ";\n    }"
+    return body
 
 
 NAME = r"[^\s(){}\[\],;.@\"]+"
@@ -231,6 +338,24 @@ def used(name, text):
     return re.search(r"(?<![\w'-])" + re.escape(name) + r"(?![\w'-])", text) is not None
 
 
+def without_not(body, source):
+    """A test of `!f(x)` says now what the other outcome of a test of `f(x)` says; one of a field `!x.f` is as it was."""
+    fields = set(re.findall(r"!(\w+)\.\w+\b(?!\()", source))
+
+    def one(m):
+        path = m.group(m.lastindex)
+        step = re.search(r"if-not-([\w-]+)", path)
+        if not step:
+            bound = re.search(r"let " + re.escape(path.split(".")[0]) + r" = c\.if-not-([\w-]+) in", body)
+            step = bound
+        if step and step.group(1) in fields:
+            return m.group(0)
+        return path
+
+    body = re.sub(r"\(not-(?:true|false) _ ([^\s(){},]+)\)", one, body)
+    return re.sub(r"(?<!\()\bnot-(?:true|false) _ ([^\s(){},]+)", one, body)
+
+
 def uses_for(uses, text):
     out = []
     for u in uses:
@@ -256,6 +381,14 @@ def convert(path, data, crate, sub, said):
     where = path
     with open(path, encoding="utf-8") as f:
         head, uses, items = blocks(f.read())
+    source = ""
+    names = sub.split(".")
+    for n in range(len(names) - 1, 0, -1):
+        q = "/".join(["crates", crate, "src"] + names[:n]) + ".rt"
+        if os.path.exists(q):
+            with open(q, encoding="utf-8") as f:
+                source = f.read()
+            break
     fn = Function(data, said)
     spec = re.search(r"tie\.spec\b(.*)", "\n".join("\n".join(i["lines"]) for i in items if i["name"] and i["name"].endswith("-spec") or i["name"] and i["name"].endswith("_spec")), re.S)
     by_norm = {}
@@ -333,9 +466,6 @@ def convert(path, data, crate, sub, said):
                 continue
             body = turn_body(body, fn, place, binder, said, f"{where} {name}")
             body = body.strip()
-            # a test of `!x` says now what the other outcome of a test of `x` says
-            body = re.sub(r"\(not-(?:true|false) _ (c\.if-not-[^\s(){},]+)\)", r"\1", body)
-            body = re.sub(r"\bnot-(?:true|false) _ (c\.if-not-[^\s(){},]+)", r"\1", body)
             if new.startswith("shape_of") and re.match(r"c\.[^\s]+\.auto\.\d+$", body):
                 kept_plain += 1
                 continue
@@ -344,6 +474,8 @@ def convert(path, data, crate, sub, said):
                 continue
             for a, b in fn.renamed.items():
                 body = re.sub(r"(?<![\w'-])(\w[\w-]*)\." + re.escape(a) + r"(?![\w'-])", r"\1." + b, body)
+            body = by_name(body, fn, new, fn.needs[i][0])
+            body = without_not(body, source)
             one = "\n" not in body and len(new) + len(body) < 100
             ans.append((it["comment"], f"pub {new} : goal.{new}\n{lead}{new} {binder} =" + (" " + body if one else "\n    " + body)))
             continue
@@ -399,6 +531,7 @@ def main():
     with open(names, encoding="utf-8") as f:
         data = json.load(f)
     said = []
+    lent_parameters(".")
     total = [0, 0, 0]
     root = f"crates/{crate}/proofs"
     for folder, _, files in sorted(os.walk(root)):

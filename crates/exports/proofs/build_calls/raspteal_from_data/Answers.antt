@@ -12,16 +12,17 @@ flat_built-requires c =
     (built_unused _ _ _ _ _ _)
 
 pub returns : goal.returns
-returns c = (
-  simp (
-    c.flat_built.ensures,
-    c.from_data.ensures.0,
-    c.uuid_of.ensures,
-    c.data_of-d.ensures,
-  ),
-  simp (
-    c.from_data.ensures.1,
-    c.uuid_of.ensures,
-    c.data_of-d.ensures,
-  ),
-)
+returns c =
+    record {
+      value = simp (
+        c.flat_built.ensures,
+        c.from_data.ensures.0,
+        c.uuid_of.ensures,
+        c.data_of-d.ensures,
+      );
+      out_after = simp (
+        c.from_data.ensures.1,
+        c.uuid_of.ensures,
+        c.data_of-d.ensures,
+      );
+    }

@@ -3,18 +3,19 @@
 use Rattle.exports.proofs.near_calls.raspteal_store_get_near.Goals as goal
 
 pub returns : goal.returns
-returns c = (
-  simp (
-    c.flat_written.ensures,
-    c.write_bytes.ensures.0,
-    c.get_near-line.ensures,
-    c.uuid_of.ensures,
-    c.party_of.ensures,
-  ),
-  simp (
-    c.write_bytes.ensures.1,
-    c.get_near-line.ensures,
-    c.uuid_of.ensures,
-    c.party_of.ensures,
-  ),
-)
+returns c =
+    record {
+      value = simp (
+        c.flat_written.ensures,
+        c.write_bytes.ensures.0,
+        c.get_near-line.ensures,
+        c.uuid_of.ensures,
+        c.party_of.ensures,
+      );
+      out_after = simp (
+        c.write_bytes.ensures.1,
+        c.get_near-line.ensures,
+        c.uuid_of.ensures,
+        c.party_of.ensures,
+      );
+    }

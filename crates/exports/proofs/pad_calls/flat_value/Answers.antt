@@ -1,4 +1,5 @@
 -- By whether there is a value. Assumes nothing.
+use borrow.Author.Rules.{rules}
 use mathlib.Core.Path.{ap, sym, ◌∙◌}
 use mathlib.Core.Bool.{true}
 use lib.IntN.{ℤ}
@@ -11,7 +12,7 @@ use Rattle.exports.proofs.pad_calls.flat_value.Goals as goal
 pub returns-in-Is : goal.returns-in-Is
 returns-in-Is c =
     ap (λ (z : ℤ). record { found = true; value = z })
-    (to_z-of_z w16 c.in-Is.value (record { sfits = c.known_told-1.given.0.1 }))
+    (to_z-of_z w16 c.in-Is.value (search rules))
     ∙ ap (λ (w : ElementValue). flat_value w) (sym c.in-Is.is)
 
 pub returns-in-Nothing : goal.returns-in-Nothing

@@ -9,8 +9,8 @@ use Rattle.exports.proofs.share_calls.raspteal_store_set_share.Goals as goal
 
 pub returns : goal.returns
 returns c =
-    let e = c.set_share.ensures in (
-      c.flat_outcome.ensures
-          ∙ (ap flat_outcome c.outcome.ensures ∙ ap (λ (d : Done Answer). flat_store_answer d.answer) e),
-      ap (λ (d : Done Answer). d.index) e,
-    )
+    let e = c.set_share.ensures in record {
+      value = c.flat_outcome.ensures
+          ∙ (ap flat_outcome c.outcome.ensures ∙ ap (λ (d : Done Answer). flat_store_answer d.answer) e);
+      index_after = ap (λ (d : Done Answer). d.index) e;
+    }

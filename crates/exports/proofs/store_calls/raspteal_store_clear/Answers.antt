@@ -9,8 +9,9 @@ use Rattle.exports.proofs.store_calls.raspteal_store_clear.Goals as goal
 
 pub returns : goal.returns
 returns c =
-    let e = c.clear.ensures in (
-      c.flat_outcome.ensures
-          ∙ (ap flat_outcome c.outcome.ensures ∙ ap (λ (d : Done Answer). flat_store_answer d.answer) e),
-      (ap (λ (d : Done Answer). d.index) e, ap (λ (d : Done Answer). d.text) e),
-    )
+    let e = c.clear.ensures in record {
+      value = c.flat_outcome.ensures
+          ∙ (ap flat_outcome c.outcome.ensures ∙ ap (λ (d : Done Answer). flat_store_answer d.answer) e);
+      index_after = ap (λ (d : Done Answer). d.index) e;
+      text_after = ap (λ (d : Done Answer). d.text) e;
+    }

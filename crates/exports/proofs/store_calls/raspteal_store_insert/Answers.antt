@@ -9,7 +9,8 @@ use Rattle.exports.proofs.store_calls.raspteal_store_insert.Goals as goal
 pub returns : goal.returns
 returns c =
     let who = c.party_of.ensures in
-    let e = simp (who) at c.insert.ensures in (
-      c.flat_inserted.ensures ∙ ap (λ (d : Done Inserted). flat_inserted d.answer) e,
-      (ap (λ (d : Done Inserted). d.index) e, ap (λ (d : Done Inserted). d.text) e),
-    )
+    let e = simp (who) at c.insert.ensures in record {
+      value = c.flat_inserted.ensures ∙ ap (λ (d : Done Inserted). flat_inserted d.answer) e;
+      index_after = ap (λ (d : Done Inserted). d.index) e;
+      text_after = ap (λ (d : Done Inserted). d.text) e;
+    }

@@ -11,7 +11,8 @@ returns c =
     let who = c.party_of.ensures in
     let id = c.uuid_of.ensures in
     let slots = c.data_of-d.ensures in
-    let e = simp (who, id, slots) at c.save.ensures in (
-      c.flat_saved.ensures ∙ ap (λ (d : Done Saved). flat_saved d.answer) e,
-      (ap (λ (d : Done Saved). d.index) e, ap (λ (d : Done Saved). d.text) e),
-    )
+    let e = simp (who, id, slots) at c.save.ensures in record {
+      value = c.flat_saved.ensures ∙ ap (λ (d : Done Saved). flat_saved d.answer) e;
+      index_after = ap (λ (d : Done Saved). d.index) e;
+      text_after = ap (λ (d : Done Saved). d.text) e;
+    }

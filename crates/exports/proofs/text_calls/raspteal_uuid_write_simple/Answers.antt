@@ -3,7 +3,8 @@
 use Rattle.exports.proofs.text_calls.raspteal_uuid_write_simple.Goals as goal
 
 pub returns : goal.returns
-returns c = (
-  simp (c.flat_written.ensures, c.write_simple.ensures.0),
-  c.write_simple.ensures.1,
-)
+returns c =
+    record {
+      value = simp (c.flat_written.ensures, c.write_simple.ensures.0);
+      out_after = c.write_simple.ensures.1;
+    }

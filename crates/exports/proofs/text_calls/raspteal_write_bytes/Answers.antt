@@ -3,7 +3,8 @@
 use Rattle.exports.proofs.text_calls.raspteal_write_bytes.Goals as goal
 
 pub returns : goal.returns
-returns c = (
-  simp (c.flat_written.ensures, c.write_bytes.ensures.0),
-  c.write_bytes.ensures.1,
-)
+returns c =
+    record {
+      value = simp (c.flat_written.ensures, c.write_bytes.ensures.0);
+      out_after = c.write_bytes.ensures.1;
+    }

@@ -13,11 +13,12 @@ use Rattle.store.proofs.batch.insert_batch.Goals as goal
 pub survey-seen-requires : goal.survey-seen-requires
 survey-seen-requires c =
     let args = c.args in
-    let pre = c.requires in (
-      both_most args.index.now args.text.now (λ k. omega (arith, c.slice_known-1.given k))
-          pre.0,
-      (chained_none _, empty_long),
-    )
+    let pre = c.requires in record {
+      index_len_bound = both_most args.index.now args.text.now (λ k. omega (arith, c.slice_known-1.given k))
+          pre.text_value;
+      chained = chained_none _;
+      long = empty_long;
+    }
 
 pub dues_of-dues-requires : goal.dues_of-dues-requires
 dues_of-dues-requires c =
@@ -25,11 +26,11 @@ dues_of-dues-requires c =
     let pre = c.requires in
     let bytes : Bytes args.index.now = λ k. omega (arith, c.slice_known-1.given k) in
     let survey = c.survey-seen in
-    let whole = survey.ensures.is ∙ walk_of args.index.now args.text.now bytes pre.0 in (
-      pre.1.0,
-      loads_addable args.index.now args.text.now _ _ _ survey.result.fill (survey.ensures.loads whole)
-          pre.0,
-    )
+    let whole = survey.ensures.is ∙ walk_of args.index.now args.text.now bytes pre.text_value in record {
+      given = pre.given;
+      addable = loads_addable args.index.now args.text.now _ _ _ survey.result.fill (survey.ensures.loads whole)
+          pre.text_value;
+    }
 
 pub take_lines-part-requires : goal.take_lines-part-requires
 take_lines-part-requires c =
@@ -37,14 +38,14 @@ take_lines-part-requires c =
     let pre = c.requires in
     let bytes : Bytes args.index.now = λ k. omega (arith, c.slice_known-1.given k) in
     let survey = c.survey-seen in
-    let whole = survey.ensures.is ∙ walk_of args.index.now args.text.now bytes pre.0 in
-    let dues = c.dues_of-dues in (
-      pre.1.1,
-      loads_held dues.result args.shares.now args.index.now args.text.now args.lines.now _ _ _
+    let whole = survey.ensures.is ∙ walk_of args.index.now args.text.now bytes pre.text_value in
+    let dues = c.dues_of-dues in record {
+      from_in_bounds = pre.from_in_bounds;
+      some_rows = loads_held dues.result args.shares.now args.index.now args.text.now args.lines.now _ _ _
           survey.result.fill args.owner (survey.ensures.loads whole)
           (loads_owed args.index.now args.text.now _ _ _ survey.result.fill (survey.ensures.loads whole)
-          args.shares.now args.owner dues.result dues.ensures bytes) pre.0,
-    )
+          args.shares.now args.owner dues.result dues.ensures bytes) pre.text_value;
+    }
 
 pub settle-requires : goal.settle-requires
 settle-requires c =
@@ -52,16 +53,16 @@ settle-requires c =
     let pre = c.requires in
     let bytes : Bytes args.index.now = λ k. omega (arith, c.slice_known-1.given k) in
     let survey = c.survey-seen in
-    let whole = survey.ensures.is ∙ walk_of args.index.now args.text.now bytes pre.0 in
+    let whole = survey.ensures.is ∙ walk_of args.index.now args.text.now bytes pre.text_value in
     let dues = c.dues_of-dues in
-    let took = c.take_lines-part in (
-      loads_extend args.index.now args.text.now _ _ _ survey.result.fill (survey.ensures.loads whole),
-      batch_settles dues.result args.shares.now args.index.now args.text.now args.lines.now _ _ _
+    let took = c.take_lines-part in record {
+      extends = loads_extend args.index.now args.text.now _ _ _ survey.result.fill (survey.ensures.loads whole);
+      settles = batch_settles dues.result args.shares.now args.index.now args.text.now args.lines.now _ _ _
           survey.result.fill args.owner (survey.ensures.loads whole)
           (loads_owed args.index.now args.text.now _ _ _ survey.result.fill (survey.ensures.loads whole)
           args.shares.now args.owner dues.result dues.ensures bytes) args.from _ took.result
-          took.ensures.0 pre.0,
-    )
+          took.ensures.takes_lines pre.text_value;
+    }
 
 pub returns : goal.returns
 returns c =
@@ -69,14 +70,14 @@ returns c =
     let pre = c.requires in
     let bytes : Bytes args.index.now = λ k. omega (arith, c.slice_known-1.given k) in
     let survey = c.survey-seen in
-    let whole = survey.ensures.is ∙ walk_of args.index.now args.text.now bytes pre.0 in
+    let whole = survey.ensures.is ∙ walk_of args.index.now args.text.now bytes pre.text_value in
     let dues = c.dues_of-dues in
-    let took = c.take_lines-part in (
-      batch_end dues.result args.shares.now args.index.now args.text.now args.lines.now _ _ _
+    let took = c.take_lines-part in record {
+      batches = batch_end dues.result args.shares.now args.index.now args.text.now args.lines.now _ _ _
           survey.result.fill args.owner (survey.ensures.loads whole)
           (loads_owed args.index.now args.text.now _ _ _ survey.result.fill (survey.ensures.loads whole)
           args.shares.now args.owner dues.result dues.ensures bytes) args.from _ took.result
-          took.ensures.0 _ _ c.settle.ensures,
-      went_from args.lines.now args.from survey.result.fill.count took.result survey.ensures.most
-          took.ensures.1,
-    )
+          took.ensures.takes_lines _ _ c.settle.ensures;
+      went = went_from args.lines.now args.from survey.result.fill.count took.result survey.ensures.most
+          took.ensures.went;
+    }

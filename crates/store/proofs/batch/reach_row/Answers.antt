@@ -8,7 +8,7 @@ returns-in_default c =
     let args = c.args in
     let pre = c.requires in
     slot_not args.dues args.index.now args.text.now args.lines.now _ args.heads.now args.next.now
-    args.fill args.owner args.at args.len pre.0.1
+    args.fill args.owner args.at args.len pre.count_lt_rows_max.1
     (wanted_part args.lines.now args.at args.len _ _ c.wanted.ensures
     c.in_default.is)
 
@@ -20,7 +20,7 @@ returns-then-len-gt-LINE_MAX c =
     c.in-Parsed.is in
     slot_long args.dues args.index.now args.text.now args.lines.now _ args.heads.now
     args.next.now
-    args.fill args.owner args.at args.len pre.0.1 _ wants
+    args.fill args.owner args.at args.len pre.count_lt_rows_max.1 _ wants
     c.if-len-gt-LINE_MAX.true c.stop.result c.stop.ensures
 
 pub file_row-tried-requires : goal.file_row-tried-requires
@@ -30,9 +30,9 @@ file_row-tried-requires c =
     let wants = wanted_part args.lines.now args.at args.len _ _
     c.wanted.ensures
     c.in-Parsed.is in
-    let w = pre.1 in (
-      pre.0.0,
-      (
+    let w = pre.some_rows in record {
+      count_lt_rows_max = pre.count_lt_rows_max.0;
+      fileable = (
         w.0,
         args.lines.now,
         (
@@ -40,13 +40,13 @@ file_row-tried-requires c =
           (
             w.1.1.0,
             slot_files args.dues args.index.now args.text.now args.lines.now _ args.heads.now
-                args.next.now args.fill args.owner args.at args.len pre.0.1 _ wants
+                args.next.now args.fill args.owner args.at args.len pre.count_lt_rows_max.1 _ wants
                 c.if-len-gt-LINE_MAX.false w.0 w.1.0 w.1.1.0 w.1.1.1.0
                 w.1.1.1.1,
           ),
         ),
-      ),
-    )
+      );
+    }
 
 pub returns-in-IndexFull : goal.returns-in-IndexFull
 returns-in-IndexFull c =
@@ -58,7 +58,7 @@ returns-in-IndexFull c =
     let filed = c.file_row-tried in
     slot_index args.dues args.index.now args.text.now args.lines.now _ args.heads.now
     args.next.now
-    args.fill args.owner args.at args.len pre.0.1 _ wants
+    args.fill args.owner args.at args.len pre.count_lt_rows_max.1 _ wants
     c.if-len-gt-LINE_MAX.false _ _ _ filed.result filed.ensures
     c.in-IndexFull.is c.stop-in-IndexFull.result
     c.stop-in-IndexFull.ensures
@@ -73,7 +73,7 @@ returns-in-TextFull c =
     let filed = c.file_row-tried in
     slot_text args.dues args.index.now args.text.now args.lines.now _ args.heads.now
     args.next.now
-    args.fill args.owner args.at args.len pre.0.1 _ wants
+    args.fill args.owner args.at args.len pre.count_lt_rows_max.1 _ wants
     c.if-len-gt-LINE_MAX.false _ _ _ filed.result filed.ensures
     c.in-TextFull.is c.stop-in-TextFull.result
     c.stop-in-TextFull.ensures
@@ -87,5 +87,5 @@ returns-in-Fits c =
     let filed = c.file_row-tried in
     slot_filed args.dues args.index.now args.text.now args.lines.now _ args.heads.now
     args.next.now
-    args.fill args.owner args.at args.len pre.0.1 _ wants
+    args.fill args.owner args.at args.len pre.count_lt_rows_max.1 _ wants
     c.if-len-gt-LINE_MAX.false _ _ _ filed.result filed.ensures c.in-Fits.is

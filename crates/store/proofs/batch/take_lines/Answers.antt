@@ -1,10 +1,10 @@
 use mathlib.Core.Logic.{⊎_elim}
 use mathlib.Core.Path.{sym, ap, ◌∙◌}
-use Prim.Native.Nat.{◌-◌, ◌≤◌}
+use Prim.Native.Nat.{◌-◌, ◌≤◌, ◌<◌}
 use native.Mathlib.Nat.{eq-or-lt_of_le}
 use native.Mathlib.Omega.{arith}
 use lib.ListN.{length, take, drop}
-use borrow.Author.Tests.{ltb-true, ltb-false}
+use borrow.Author.Tests.{not-true, not-false, ltb-true, ltb-false}
 use Rattle.text.specs.Bytes.{first_of}
 use Rattle.text.proofs.ListLaws.{part_to_end}
 use Rattle.text.proofs.LentLaws.{tail_length}
@@ -13,6 +13,7 @@ use Rattle.text.specs.Search.{lf}
 use Rattle.store.specs.Keys.{rows_max}
 use Rattle.store.proofs.BatchLaws.{take-first, take_on, first_at_lem, taken, line_part, take_off, take-turn}
 use Rattle.store.proofs.batch.take_lines.Goals as goal
+use Rattle.store.proofs.batch.take_lines.Goals.{then-loop-at-test+else-fill-lt-ROWS, else-loop-at-test}
 
 pub loop-at-init : goal.loop-at-init
 loop-at-init c =
@@ -20,7 +21,7 @@ loop-at-init c =
     let pre = c.requires in
     take-first args.dues args.index.now args.text.now args.lines.now
     args.rows.now
-    args.heads.now args.next.now args.owner args.from args.first pre.0
+    args.heads.now args.next.now args.owner args.from args.first pre.from_in_bounds
 
 pub line_length-len-requires : goal.line_length-len-requires
 line_length-len-requires c = c.find_far-end.ensures
@@ -36,14 +37,14 @@ reach_row-step-requires c =
     args.rows.now
     args.heads.now args.next.now args.owner args.from args.first
     loop.rows
-    loop.heads loop.next loop.fill loop.at loop.count loop.invariant pre.1 in (
-      (
-        ltb-true loop.fill.count rows_max if1.true,
+    loop.heads loop.next loop.fill loop.at loop.count loop.invariant pre.some_rows in record {
+      count_lt_rows_max = (
+        if1.true,
         omega
             (arith, tail_length loop.at args.lines.now, cut.ensures.0),
-      ),
-      now,
-    )
+      );
+      some_rows = now;
+    }
 
 pub returns-then-not-step : goal.returns-then-not-step
 returns-then-not-step c =
@@ -53,7 +54,7 @@ returns-then-not-step c =
     let find-far = c.find_far-end in
     let line_length_lem = c.line_length-len in
     let reach-row = c.reach_row-step in
-    take_off args.dues args.index.now args.text.now args.lines.now
+    let r = take_off args.dues args.index.now args.text.now args.lines.now
     args.rows.now
     args.heads.now args.next.now args.owner args.from args.first
     loop.rows
@@ -63,8 +64,9 @@ returns-then-not-step c =
     (line_part args.lines.now loop.at line_length_lem.result
     line_length_lem.ensures.1)
     reach-row.result _ _ _
-    reach-row.ensures c.if-not-step.true
-    c.report.result c.report.ensures
+    reach-row.ensures (not-true _ c.if-not-step.true)
+    c.report.result c.report.ensures in
+    record { takes_lines = r.0; went = r.1 }
 
 pub loop-at-smaller : goal.loop-at-smaller
 loop-at-smaller c =
@@ -105,25 +107,47 @@ loop-at-preserved c =
     loop-test.true found.result
     (found.ensures ∙ ap (first_of lf) (part_to_end args.lines.now loop.at)) _
     (line_part args.lines.now loop.at line_length_lem.result line_length_lem.ensures.1)
-    reach-row.result _ _ _ reach-row.ensures (omega (arith, good.1.1.1.1.1.1.1.0))
-    c.if-not-step.false (omega (arith, loop-test.true, within))
+    reach-row.result _ _ _ reach-row.ensures (omega arith)
+    (not-false _ c.if-not-step.false) (omega (arith, loop-test.true, within))
 
 pub returns : goal.returns
 returns c =
     let args = c.args in
     let loop = c.loop-at in
-    take_on args.dues args.index.now args.text.now args.lines.now
-    args.rows.now
-    args.heads.now args.next.now args.owner args.from args.first
-    loop.rows
+    let within = first_at_lem args.dues args.index.now args.text.now args.lines.now args.rows.now
+    args.heads.now args.next.now args.owner args.from args.first loop.rows
+    loop.heads loop.next loop.fill loop.at loop.count loop.invariant in
+    let r = take_on args.dues args.index.now args.text.now args.lines.now args.rows.now
+    args.heads.now args.next.now args.owner args.from args.first loop.rows
     loop.heads loop.next loop.fill loop.at loop.count loop.invariant
-    (λ p q. ⊎_elim
-    (λ x. ⊎_elim (λ e. absurd (omega
-    (arith, loop.invariant.still (sym e), ltb-false loop.fill.count rows_max x.2.left))) (λ l. l)
-    (eq-or-lt_of_le (first_at_lem args.dues args.index.now args.text.now
-    args.lines.now
-    args.rows.now
-    args.heads.now args.next.now args.owner args.from args.first
-    loop.rows
-    loop.heads loop.next loop.fill loop.at loop.count loop.invariant)))
-    (λ x. omega (arith, x.left)) c.loop-at-test.branch) c.report-2.result c.report-2.ensures
+    (λ p q. elim c.loop-at-test.branch [
+      | then-loop-at-test+else-fill-lt-ROWS w ↦ ⊎_elim
+          (λ e. absurd (omega (arith, loop.invariant.still (sym e), w.if-fill-lt-ROWS.false))) (λ l. l)
+          (eq-or-lt_of_le within)
+      | else-loop-at-test w ↦ omega (arith, w.loop-at-test.false)
+    ]) c.report-2.result c.report-2.ensures in
+    record { takes_lines = r.0; went = r.1 }
+
+pub overflow_add-at : goal.overflow_add-at
+overflow_add-at c =
+    let loop = c.loop-at in
+    omega (
+      arith,
+      tail_length loop.at c.args.lines.now,
+      c.find_far-end.ensures,
+      c.loop-at-test.true,
+      c.well_formed.1.1.0,
+      first_le lf (take (length c.args.lines.now - loop.at) (drop loop.at c.args.lines.now)),
+    )
+
+pub overflow_add-at-in-loop-at : goal.overflow_add-at-in-loop-at
+overflow_add-at-in-loop-at c =
+    let loop = c.loop-at in
+    omega (
+      arith,
+      tail_length loop.at c.args.lines.now,
+      c.find_far-end.ensures,
+      c.loop-at-test.true,
+      c.well_formed.1.1.0,
+      first_le lf (take (length c.args.lines.now - loop.at) (drop loop.at c.args.lines.now)),
+    )

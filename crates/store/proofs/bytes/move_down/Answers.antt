@@ -13,8 +13,8 @@ pub loop-part-init : goal.loop-part-init
 loop-part-init c =
     let args = c.args in
     let front = c.close_front-i in
-    let n : length front.new.0 ≡ length args.part.now = down_length args.part.now args.gap
-    front.new.0 front.result front.ensures.0 front.ensures.1 in
+    let n : length front.new.part ≡ length args.part.now = down_length args.part.now args.gap
+    front.new.part front.result front.ensures.0 front.ensures.1 in
     (omega (arith, front.ensures.0), refl, λ d z e. e)
 
 pub loop-part-preserved : goal.loop-part-preserved
@@ -30,14 +30,14 @@ shape_of-part c =
     let args = c.args in
     let front = c.close_front-i in
     c.loop-part.invariant.1 ∙ down_length args.part.now args.gap
-    front.new.0 front.result front.ensures.0 front.ensures.1
+    front.new.part front.result front.ensures.0 front.ensures.1
 
 pub returns : goal.returns
 returns c =
     let args = c.args in
     let front = c.close_front-i in
     let loop = c.loop-part in
-    let n : length front.new.0 ≡ length args.part.now = down_length args.part.now args.gap
-    front.new.0 front.result front.ensures.0 front.ensures.1 in
+    let n : length front.new.part ≡ length args.part.now = down_length args.part.now args.gap
+    front.new.part front.result front.ensures.0 front.ensures.1 in
     loop.invariant.2 args.part.now (sym n) front.ensures.1
     ∙ down_end args.part.now args.gap loop.i (omega (arith, loop.invariant.0, loop.invariant.1))

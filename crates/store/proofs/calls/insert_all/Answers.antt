@@ -3,6 +3,7 @@ use Prim.Native.Nat.{◌-◌, ◌<◌}
 use native.Mathlib.Omega.{arith}
 use lib.ListN.{length}
 use borrow.Author.Rules.{rules}
+use borrow.Author.Tests.{not-true, not-false}
 use Rattle.store.proofs.InsertLaws.{insert_first, still_sound, insert_end, insert_stop, insert_turn_lem}
 use Rattle.store.proofs.calls.insert_all.Goals as goal
 
@@ -11,30 +12,31 @@ loop-at-init c =
     let args = c.args in
     let pre = c.requires in
     insert_first args.shares.now args.owner args.part.now args.text.now args.lines.now
-    (λ k. omega (arith, c.slice_known-1.given k)) pre.0
+    (λ k. omega (arith, c.slice_known-1.given k)) pre.text_value
 
 pub insert_batch-some-requires : goal.insert_batch-some-requires
 insert_batch-some-requires c =
     let args = c.args in
     let pre = c.requires in
-    let loop = c.loop-at in (
-      still_sound args.shares.now args.owner args.part.now args.text.now args.lines.now
-          loop.part loop.text loop.at loop.count loop.invariant,
-      (pre.1, loop.invariant.within),
-    )
+    let loop = c.loop-at in record {
+      text_value = still_sound args.shares.now args.owner args.part.now args.text.now args.lines.now
+          loop.part loop.text loop.at loop.count loop.invariant;
+      given = pre.given;
+      from_in_bounds = loop.invariant.within;
+    }
 
 pub shape_of-part-then-not-some : goal.shape_of-part-then-not-some
 shape_of-part-then-not-some c =
     let loop = c.loop-at in
     let some = c.insert_batch-some in
-    let e : length some.new.0 ≡ length loop.part = search rules in
+    let e : length some.new.index ≡ length loop.part = search rules in
     e ∙ loop.invariant.index
 
 pub shape_of-text-then-not-some : goal.shape_of-text-then-not-some
 shape_of-text-then-not-some c =
     let loop = c.loop-at in
     let some = c.insert_batch-some in
-    let e : length some.new.1.0 ≡ length loop.text = search rules in
+    let e : length some.new.text ≡ length loop.text = search rules in
     e ∙ loop.invariant.text
 
 pub returns-then-not-some : goal.returns-then-not-some
@@ -44,16 +46,16 @@ returns-then-not-some c =
     let loop = c.loop-at in
     let some = c.insert_batch-some in
     insert_stop args.shares.now args.owner args.part.now args.text.now args.lines.now
-    loop.part loop.text loop.at loop.count loop.invariant some.result _ _ some.ensures.0
-    c.if-not-some.true
+    loop.part loop.text loop.at loop.count loop.invariant some.result _ _ some.ensures.batches
+    (not-true _ c.if-not-some.true)
 
 pub loop-at-smaller : goal.loop-at-smaller
 loop-at-smaller c =
     let loop = c.loop-at in
     let some = c.insert_batch-some in
     let on : loop.at < some.result.at
-    = some.ensures.1.moved (omega arith) c.loop-at-test.true c.if-not-some.false in
-    omega (arith, on, some.ensures.1.within, loop.invariant.within)
+    = some.ensures.went.moved (omega arith) c.loop-at-test.true (not-false _ c.if-not-some.false) in
+    omega (arith, on, some.ensures.went.within, loop.invariant.within)
 
 pub loop-at-preserved : goal.loop-at-preserved
 loop-at-preserved c =
@@ -62,8 +64,8 @@ loop-at-preserved c =
     let loop = c.loop-at in
     let some = c.insert_batch-some in
     insert_turn_lem args.shares.now args.owner args.part.now args.text.now args.lines.now
-    loop.part loop.text loop.at loop.count loop.invariant some.result _ _ some.ensures.0
-    c.if-not-some.false some.ensures.1
+    loop.part loop.text loop.at loop.count loop.invariant some.result _ _ some.ensures.batches
+    (not-false _ c.if-not-some.false) some.ensures.went
 
 pub shape_of-part : goal.shape_of-part
 shape_of-part c = c.loop-at.invariant.index

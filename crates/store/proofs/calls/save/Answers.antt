@@ -32,10 +32,9 @@ returns-then-unsaved_name c =
     let args = save_args a.«data» a.buttons.now a.axes.now a.name.now a.uuid in
     let built = c.from_data-built in
     let own = (sym c.owner_of.ensures ∙ c.in-Byte.is) in
-    let accepted = c.enum_told-in_default-answer-1 in
     ap (λ (x : Saved). record { answer = x; index = a.index.now; text = a.text.now }) c.refused_save-then-unsaved_name.ensures
     ∙ save_unsaved a.party _ own args _ built.result _ (omega arith) built.ensures
-    (made a.party _ own args _ built.result _ (omega arith) built.ensures accepted.given.1) a.index.now
+    (made a.party _ own args _ built.result _ (omega arith) built.ensures c.in_default-answer.is) a.index.now
     a.text.now (sym c.unsaved_name.ensures ∙ c.if-unsaved_name.true)
 
 pub slice_bounds-file_built-end : goal.slice_bounds-file_built-end
@@ -43,12 +42,11 @@ slice_bounds-file_built-end c =
     let a = c.args in
     let args = save_args a.«data» a.buttons.now a.axes.now a.name.now a.uuid in
     let built = c.from_data-built in
-    let own = (sym c.owner_of.ensures ∙ c.owner-1.given.1) in
-    let accepted = c.enum_told-in_default-answer-1 in
+    let own = (sym c.owner_of.ensures ∙ c.in-Byte.is) in
     omega (
       arith,
       (made a.party _ own args _ built.result _ (omega arith) built.ensures
-          accepted.given.1).within,
+          c.in_default-answer.is).within,
     )
 
 pub file_built-filed-requires : goal.file_built-filed-requires
@@ -57,9 +55,8 @@ file_built-filed-requires c =
     let args = save_args a.«data» a.buttons.now a.axes.now a.name.now a.uuid in
     let built = c.from_data-built in
     let own = (sym c.owner_of.ensures
-    ∙ c.owner-1.given.1) in
-    let accepted = c.enum_told-in_default-answer-1 in
-    let m = made a.party _ own args _ built.result _ (omega arith) built.ensures accepted.given.1 in
+    ∙ c.in-Byte.is) in
+    let m = made a.party _ own args _ built.result _ (omega arith) built.ensures c.in_default-answer.is in
     (omega (arith, m.some, m.within), omega (arith, m.most, m.within))
 
 pub returns : goal.returns
@@ -67,12 +64,11 @@ returns c =
     let a = c.args in
     let args = save_args a.«data» a.buttons.now a.axes.now a.name.now a.uuid in
     let built = c.from_data-built in
-    let own = (sym c.owner_of.ensures ∙ c.owner-1.given.1) in
-    let accepted = c.enum_told-in_default-answer-1 in
+    let own = (sym c.owner_of.ensures ∙ c.in-Byte.is) in
     let named = c.unsaved_name in
     let if1 = c.if-unsaved_name in
     let filed = c.file_built-filed in
-    let m = made a.party _ own args _ built.result _ (omega arith) built.ensures accepted.given.1 in
-    ap (λ (x : Saved). record { answer = x; index = filed.new.0; text = filed.new.1.0 }) c.saved_as.ensures
+    let m = made a.party _ own args _ built.result _ (omega arith) built.ensures c.in_default-answer.is in
+    ap (λ (x : Saved). record { answer = x; index = filed.new.index; text = filed.new.text }) c.saved_as.ensures
     ∙ save_filed a.party _ own args _ built.result _ (omega arith) built.ensures m a.index.now
     a.text.now (sym named.ensures ∙ if1.false) _ filed.ensures

@@ -31,13 +31,12 @@ pub insert_all-requires : goal.insert_all-requires
 insert_all-requires c =
     let args = c.args in
     let front = c.read_shares-front in
-    let sound = sym c.sound.ensures ∙ not-false _
-    c.if-not-sound.false in (
-      part_lines args.index.now args.text.now _ front.result front.ensures
-          (λ k. omega (arith, c.slice_known-1.given k)) sound,
-      (whole args.index.now args.text.now _ front.result front.ensures
-          (λ k. omega (arith, c.slice_known-1.given k)) sound).given,
-    )
+    let sound = sym c.sound.ensures ∙ c.if-not-sound.false in record {
+      text_value = part_lines args.index.now args.text.now _ front.result front.ensures
+          (λ k. omega (arith, c.slice_known-1.given k)) sound;
+      given = (whole args.index.now args.text.now _ front.result front.ensures
+          (λ k. omega (arith, c.slice_known-1.given k)) sound).given;
+    }
 
 pub returns : goal.returns
 returns c =
@@ -46,7 +45,6 @@ returns c =
     let all = c.insert_all in
     walk_lent args.owner args.index.now args.text.now args.lines.now _ front.result front.ensures
     (λ k. omega (arith, c.slice_known-1.given k))
-    (sym c.sound.ensures ∙ not-false _
-    c.if-not-sound.false)
+    (sym c.sound.ensures ∙ c.if-not-sound.false)
     (sym c.is_utf8.ensures ∙ c.if-not-is_utf8.false) all.result _ _
     all.ensures

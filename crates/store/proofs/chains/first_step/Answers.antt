@@ -13,8 +13,9 @@ returns c =
     let same = c.same_at in
     let rows = c.args.rows.now in
     let next = c.args.next.now in
-    step_on (key_in rows) next c.args.k c.args.from c.requires.1.0 c.requires.1.1 c.requires.0.1
+    let r = step_on (key_in rows) next c.args.k c.args.from c.requires.linked c.requires.kin c.requires.k_lt_rows_max.1
     c.number.result
     (ap (λ (i : ℕ). same_key (key_in rows i) (key_in rows c.args.k)) (sym place.ensures) ∙ sym same.ensures
     ∙ c.if-same_at.false)
-    (c.number.ensures.0 ∙ ap (λ (i : ℕ). get_or next i 0) place.ensures)
+    (c.number.ensures.0 ∙ ap (λ (i : ℕ). get_or next i 0) place.ensures) in
+    record { not_in = r.0; kin_2 = r.1 }

@@ -18,11 +18,15 @@ first_step-from-requires c =
     let head : ℕ = get_or args.heads.now bucket-of.result 0 in
     let bucket-is = bucket-of.ensures.0 ∙ ap bucket key-at.ensures in
     let last = here (key_in args.rows.now) args.heads.now args.next.now args.k
-    bucket-of.result number.result pre.1 bucket-is bucket-of.ensures.1
-    number.ensures.0 pre.0 in
+    bucket-of.result number.result pre.chained bucket-is bucket-of.ensures.1
+    number.ensures.0 pre.k_lt_rows_max in
     let linked = chained_turn (key_in args.rows.now) args.heads.now args.next.now args.k
-    bucket-of.result head pre.1 bucket-is bucket-of.ensures.1 refl pre.0 (args.k + 1) refl in
-    ((pre.0, last.within), (linked.links, last.kin))
+    bucket-of.result head pre.chained bucket-is bucket-of.ensures.1 refl pre.k_lt_rows_max (args.k + 1) refl in
+    record {
+      k_lt_rows_max = (pre.k_lt_rows_max, last.within);
+      linked = linked.links;
+      kin = last.kin;
+    }
 
 pub seek-r-requires : goal.seek-r-requires
 seek-r-requires c =
@@ -34,14 +38,15 @@ seek-r-requires c =
     let head : ℕ = get_or args.heads.now bucket-of.result 0 in
     let bucket-is = bucket-of.ensures.0 ∙ ap bucket key-at.ensures in
     let last = here (key_in args.rows.now) args.heads.now args.next.now args.k
-    bucket-of.result number.result pre.1 bucket-is bucket-of.ensures.1
-    number.ensures.0 pre.0 in
+    bucket-of.result number.result pre.chained bucket-is bucket-of.ensures.1
+    number.ensures.0 pre.k_lt_rows_max in
     let linked = chained_turn (key_in args.rows.now) args.heads.now args.next.now args.k
-    bucket-of.result head pre.1 bucket-is bucket-of.ensures.1 refl pre.0 (args.k + 1) refl in
-    let first = c.first_step-from in (
-      (pre.0, omega (arith, first.ensures.0.1, last.within)),
-      (λ a l. linked.links a (omega (arith, l)), first.ensures.1),
-    )
+    bucket-of.result head pre.chained bucket-is bucket-of.ensures.1 refl pre.k_lt_rows_max (args.k + 1) refl in
+    let first = c.first_step-from in record {
+      k_lt_rows_max = (pre.k_lt_rows_max, omega (arith, first.ensures.not_in.1, last.within));
+      linked = λ a l. linked.links a (omega (arith, l));
+      kin = first.ensures.kin_2;
+    }
 
 pub returns : goal.returns
 returns c =
@@ -52,18 +57,16 @@ returns c =
     let number = c.number in
     let bucket-is = bucket-of.ensures.0 ∙ ap bucket key-at.ensures in
     let last = here (key_in args.rows.now) args.heads.now args.next.now args.k
-    bucket-of.result number.result pre.1 bucket-is bucket-of.ensures.1
-    number.ensures.0 pre.0 in
-    let first = c.first_step-from in (
-      sought (key_in args.rows.now) args.heads.now args.next.now args.k
-          bucket-of.result number.result pre.1 bucket-is bucket-of.ensures.1
-          number.ensures.0 pre.0 c.seek-r.result
+    bucket-of.result number.result pre.chained bucket-is bucket-of.ensures.1
+    number.ensures.0 pre.k_lt_rows_max in
+    let first = c.first_step-from in record {
+      sought = sought (key_in args.rows.now) args.heads.now args.next.now args.k
+          bucket-of.result number.result pre.chained bucket-is bucket-of.ensures.1
+          number.ensures.0 pre.k_lt_rows_max c.seek-r.result
           (seeks_from (key_in args.rows.now) args.k number.result first.result c.seek-r.result
-          first.ensures.0.0 c.seek-r.ensures.0),
-      (
-        chained_turn (key_in args.rows.now) args.heads.now args.next.now args.k
-            bucket-of.result _ pre.1 bucket-is bucket-of.ensures.1 refl pre.0 _
-            (omega arith),
-        λ l. c.seek-r.ensures.1 (omega (arith, first.ensures.0.1, last.within, pre.0, l)),
-      ),
-    )
+          first.ensures.not_in.0 c.seek-r.ensures.seeks);
+      chained_2 = chained_turn (key_in args.rows.now) args.heads.now args.next.now args.k
+          bucket-of.result _ pre.chained bucket-is bucket-of.ensures.1 refl pre.k_lt_rows_max _
+          (omega arith);
+      upper_bound = λ l. c.seek-r.ensures.upper_bound (omega (arith, first.ensures.not_in.1, last.within, pre.k_lt_rows_max, l));
+    }

@@ -8,23 +8,24 @@ use Rattle.store.proofs.chains.seek.Goals as goal
 
 pub loop-c-init : goal.loop-c-init
 loop-c-init c =
-    (record { passed = λ j l m e. omega arith; kin = c.requires.1.1; within = c.requires.0.1 }, λ l. l)
+    (record { passed = λ j l m e. omega arith; kin = c.requires.kin; within = c.requires.k_lt_rows_max.1 }, λ l. l)
 
 pub returns-then-left-eq0 : goal.returns-then-left-eq0
-returns-then-left-eq0 c = (
-  record { clear = λ l. absurd (omega arith); hit = λ p l. absurd (omega arith) },
-  λ l. let loop = c.loop-c in let left : loop.c ≤ loop.left = loop.invariant.1 l in omega arith,
-)
+returns-then-left-eq0 c =
+    record {
+      seeks = record { clear = λ l. absurd (omega arith); hit = λ p l. absurd (omega arith) };
+      upper_bound = λ l. let loop = c.loop-c in let left : loop.c ≤ loop.left = loop.invariant.1 l in omega arith;
+    }
 
 pub returns-then-same_at : goal.returns-then-same_at
 returns-then-same_at c =
-    let loop = c.loop-c in (
-      record {
+    let loop = c.loop-c in record {
+      seeks = record {
         clear = λ l. loop.invariant.0.passed;
         hit = λ p l. same_eq _ _ (sym c.same_at.ensures ∙ c.if-same_at.true);
-      },
-      λ l. loop.invariant.0.within,
-    )
+      };
+      upper_bound = λ l. loop.invariant.0.within;
+    }
 
 pub loop-c-smaller : goal.loop-c-smaller
 loop-c-smaller c =
@@ -34,7 +35,7 @@ loop-c-smaller c =
     let same_at = c.same_at in
     let if2 = c.if-same_at in
     (seek_turn (key_in args.rows.now) args.next.now args.k args.from loop.c
-    c.number-c.result pre.1.0 loop.invariant.0 (omega arith) (sym same_at.ensures ∙ if2.false)
+    c.number-c.result pre.linked loop.invariant.0 (omega arith) (sym same_at.ensures ∙ if2.false)
     c.number-c.ensures.0).1
 
 pub loop-c-preserved : goal.loop-c-preserved
@@ -45,13 +46,13 @@ loop-c-preserved c =
     let same_at = c.same_at in
     let if2 = c.if-same_at in
     let on = seek_turn (key_in args.rows.now) args.next.now args.k args.from loop.c
-    c.number-c.result pre.1.0 loop.invariant.0 (omega arith) (sym same_at.ensures ∙ if2.false)
+    c.number-c.result pre.linked loop.invariant.0 (omega arith) (sym same_at.ensures ∙ if2.false)
     c.number-c.ensures.0 in
     (on.0, λ l. let left : loop.c ≤ loop.left = loop.invariant.1 l in omega (arith, on.1))
 
 pub returns : goal.returns
 returns c =
-    let loop = c.loop-c in (
-      record { clear = λ l j a b e. loop.invariant.0.passed j (omega arith) b e; hit = λ p l. absurd (omega arith) },
-      λ l. omega arith,
-    )
+    let loop = c.loop-c in record {
+      seeks = record { clear = λ l j a b e. loop.invariant.0.passed j (omega arith) b e; hit = λ p l. absurd (omega arith) };
+      upper_bound = λ l. omega arith;
+    }

@@ -14,9 +14,13 @@ seek-r-requires c =
     let pre = c.requires in
     let loop = c.loop-k in
     let number = c.number in
-    let last = chain_from (key_in args.rows.now) args.next.now args.n loop.k number.result pre.1 (omega arith)
+    let last = chain_from (key_in args.rows.now) args.next.now args.n loop.k number.result pre.linked (omega arith)
     number.ensures.0 in
-    ((omega arith, last.within), (λ a l. pre.1 a (omega arith), last.kin))
+    record {
+      k_lt_rows_max = (omega arith, last.within);
+      linked = λ a l. pre.linked a (omega arith);
+      kin = last.kin;
+    }
 
 pub returns-then-r-gt0 : goal.returns-then-r-gt0
 returns-then-r-gt0 c =
@@ -24,12 +28,12 @@ returns-then-r-gt0 c =
     let pre = c.requires in
     let loop = c.loop-k in
     let number = c.number in
-    let last = chain_from (key_in args.rows.now) args.next.now args.n loop.k number.result pre.1 (omega arith)
+    let last = chain_from (key_in args.rows.now) args.next.now args.n loop.k number.result pre.linked (omega arith)
     number.ensures.0 in
     let seek = c.seek-r in
-    let most = seek.ensures.1 (omega (arith, last.within)) in
+    let most = seek.ensures.upper_bound (omega (arith, last.within)) in
     tells_twice (key_in args.rows.now) args.n (found_twice (key_in args.rows.now) args.n loop.k seek.result (omega arith)
-    (chain_sought (key_in args.rows.now) loop.k number.result last seek.result seek.ensures.0) most (omega arith))
+    (chain_sought (key_in args.rows.now) loop.k number.result last seek.result seek.ensures.seeks) most (omega arith))
 
 pub loop-k-preserved : goal.loop-k-preserved
 loop-k-preserved c =
@@ -37,12 +41,12 @@ loop-k-preserved c =
     let pre = c.requires in
     let loop = c.loop-k in
     let number = c.number in
-    let last = chain_from (key_in args.rows.now) args.next.now args.n loop.k number.result pre.1 (omega arith)
+    let last = chain_from (key_in args.rows.now) args.next.now args.n loop.k number.result pre.linked (omega arith)
     number.ensures.0 in
     let seek = c.seek-r in (
       omega arith,
       apart_turn (key_in args.rows.now) loop.k seek.result loop.invariant.1
-          (chain_sought (key_in args.rows.now) loop.k number.result last seek.result seek.ensures.0) (omega arith),
+          (chain_sought (key_in args.rows.now) loop.k number.result last seek.result seek.ensures.seeks) (omega arith),
     )
 
 pub returns : goal.returns

@@ -15,9 +15,13 @@ seek-requires c =
     let number = c.number in
     let bucket-is = bucket-of.ensures.0 ∙ ap bucket key-at.ensures in
     let last = here (key_in args.rows.now) args.heads.now args.next.now args.k
-    bucket-of.result number.result pre.1 bucket-is bucket-of.ensures.1
-    number.ensures.0 pre.0 in
-    ((pre.0, last.within), (pre.1.links, last.kin))
+    bucket-of.result number.result pre.chained bucket-is bucket-of.ensures.1
+    number.ensures.0 pre.k_lt_rows_max in
+    record {
+      k_lt_rows_max = (pre.k_lt_rows_max, last.within);
+      linked = pre.chained.links;
+      kin = last.kin;
+    }
 
 pub returns : goal.returns
 returns c =
@@ -28,10 +32,10 @@ returns c =
     let number = c.number in
     let bucket-is = bucket-of.ensures.0 ∙ ap bucket key-at.ensures in
     let within = (here (key_in args.rows.now) args.heads.now args.next.now args.k
-    bucket-of.result number.result pre.1 bucket-is bucket-of.ensures.1
-    number.ensures.0 pre.0).within in (
-      sought (key_in args.rows.now) args.heads.now args.next.now args.k
-          bucket-of.result number.result pre.1 bucket-is bucket-of.ensures.1
-          number.ensures.0 pre.0 c.seek.result c.seek.ensures.0,
-      c.seek.ensures.1 (omega (arith, within)),
-    )
+    bucket-of.result number.result pre.chained bucket-is bucket-of.ensures.1
+    number.ensures.0 pre.k_lt_rows_max).within in record {
+      sought = sought (key_in args.rows.now) args.heads.now args.next.now args.k
+          bucket-of.result number.result pre.chained bucket-is bucket-of.ensures.1
+          number.ensures.0 pre.k_lt_rows_max c.seek.result c.seek.ensures.seeks;
+      upper_bound = c.seek.ensures.upper_bound (omega (arith, within));
+    }

@@ -8,10 +8,10 @@ use Rattle.store.proofs.claims.add_uses.Goals as goal
 pub loop-k-init : goal.loop-k-init
 loop-k-init c =
     let args = c.args in
-    add_first args.rows.now args.count c.requires.1 args.uses.now c.requires.0
+    add_first args.rows.now args.count c.requires.addable args.uses.now c.requires.uses_value
 
 pub key_at-key-requires : goal.key_at-key-requires
-key_at-key-requires c = omega (arith, c.loop-k-test.true, c.requires.1.most)
+key_at-key-requires c = omega (arith, c.loop-k-test.true, c.requires.addable.most)
 
 pub bounds-uses-o : goal.bounds-uses-o
 bounds-uses-o c =
@@ -24,7 +24,7 @@ bounds-uses-o c =
 pub len_at-requires : goal.len_at-requires
 len_at-requires c =
     let test = c.loop-k-test in
-    omega (arith, test.true, c.requires.1.most)
+    omega (arith, test.true, c.requires.addable.most)
 
 pub overflow_add-uses : goal.overflow_add-uses
 overflow_add-uses c =
@@ -34,7 +34,7 @@ overflow_add-uses c =
     omega (
       arith,
       c.len_at.ensures,
-      add_most args.rows.now args.count c.requires.1 loop.uses loop.k loop.invariant
+      add_most args.rows.now args.count c.requires.addable loop.uses loop.k loop.invariant
           c.loop-k-test.true c.key_at-key.result.owner
           (omega (arith, owner_byte args.rows.now loop.k, own)),
     )
@@ -52,7 +52,7 @@ loop-k-preserved c =
     let loop = c.loop-k in
     let args = c.args in
     let own = ap (λ (x : Key). x.owner) c.key_at-key.ensures in
-    add_next args.rows.now args.count c.requires.1 loop.uses loop.k loop.invariant
+    add_next args.rows.now args.count c.requires.addable loop.uses loop.k loop.invariant
     c.loop-k-test.true c.key_at-key.result.owner own
     (omega (arith, owner_byte args.rows.now loop.k, own)) c.len_at.result c.len_at.ensures
 
@@ -60,5 +60,5 @@ pub returns : goal.returns
 returns c =
     let args = c.args in
     let loop = c.loop-k in
-    add_end args.rows.now args.count c.requires.1 loop.uses loop.k loop.invariant
+    add_end args.rows.now args.count c.requires.addable loop.uses loop.k loop.invariant
     c.loop-k-test.false

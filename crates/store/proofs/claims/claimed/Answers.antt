@@ -8,6 +8,6 @@ pub overflow_add-result : goal.overflow_add-result
 overflow_add-result c =
     let args = c.args in
     let pre = c.requires in
-    let most = larger_most (args.used - args.dues.theirs) args.dues.share 131070 (omega (arith, pre.0.1))
-    (omega (arith, pre.1.1)) in
-    omega (arith, c.larger_of.ensures, most, pre.1.0)
+    let most = larger_most (args.used - args.dues.theirs) args.dues.share 131070 (omega (arith, pre.theirs_le_used.1))
+    (omega (arith, pre.others_bound.1)) in
+    omega (arith, c.larger_of.ensures, most, pre.others_bound.0)

@@ -31,5 +31,6 @@ returns c =
     let args = c.args in
     let pre = c.requires in
     let loop = c.loop-o in
-    sum_end args.uses.now args.shares.now pre.0 pre.1 loop.o loop.sum loop.invariant
-    c.loop-o-test.false
+    let r = sum_end args.uses.now args.shares.now pre.0 pre.1 loop.o loop.sum loop.invariant
+    c.loop-o-test.false in
+    record { sums = r.0; covers = r.1 }

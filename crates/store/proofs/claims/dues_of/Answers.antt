@@ -9,7 +9,7 @@ use Rattle.store.proofs.UseLaws.{adds_given, row_use_most, dues_owed, owed_none}
 use Rattle.store.proofs.claims.dues_of.Goals as goal
 
 pub any_share-requires : goal.any_share-requires
-any_share-requires c = c.requires.0.each
+any_share-requires c = c.requires.given.each
 
 pub returns-then-not-any_share : goal.returns-then-not-any_share
 returns-then-not-any_share c =
@@ -21,20 +21,24 @@ returns-then-not-any_share c =
     (owed_none args.owner hs b byte)
 
 pub add_uses-requires : goal.add_uses-requires
-add_uses-requires c = (refl, c.requires.1.0)
+add_uses-requires c =
+    record {
+      uses_value = refl;
+      addable = c.requires.addable.0;
+    }
 
 pub claims_of-requires : goal.claims_of-requires
 claims_of-requires c =
     let args = c.args in (
-      adds_given args.rows.now args.fill.count c.requires.1.0 _ c.add_uses.ensures,
-      c.requires.0,
+      adds_given args.rows.now args.fill.count c.requires.addable.0 _ c.add_uses.ensures,
+      c.requires.given,
     )
 
 pub overflow_sub-result : goal.overflow_sub-result
 overflow_sub-result c =
     let args = c.args in
     let byte : args.owner < 256 = search rules in
-    omega (arith, c.larger_of.ensures, c.claims_of.ensures.1.each args.owner byte)
+    omega (arith, c.larger_of.ensures, c.claims_of.ensures.covers.each args.owner byte)
 
 pub overflow_sub-result-2 : goal.overflow_sub-result-2
 overflow_sub-result-2 c =
@@ -45,7 +49,7 @@ overflow_sub-result-2 c =
       arith,
       adds.1 args.owner byte,
       row_use_most args.owner args.rows.now args.fill.count,
-      c.requires.1.1,
+      c.requires.addable.1,
     )
 
 pub returns : goal.returns
@@ -55,5 +59,5 @@ returns c =
     let sum = c.claims_of.ensures in
     let own = c.larger_of.ensures in
     let byte : args.owner < 256 = search rules in
-    dues_owed args.rows.now args.shares.now args.fill args.owner _ _ _ c.requires.0 c.requires.1
-    adds sum.0 sum.1 own byte
+    dues_owed args.rows.now args.shares.now args.fill args.owner _ _ _ c.requires.given c.requires.addable
+    adds sum.sums sum.covers own byte

@@ -7,23 +7,23 @@ use Rattle.store.proofs.filing.file_line.Goals as goal
 pub file_row-tried-requires : goal.file_row-tried-requires
 file_row-tried-requires c =
     let args = c.args in
-    let pre = c.requires in (
-      pre.1.1.0.1,
-      one_files args.dues args.index.now args.text.now args.line.now _ _ _ args.fill
-          pre.1.1.0.0 args.key pre.1.0.0 pre.1.0.1 pre.0 pre.1.1.1,
-    )
+    let pre = c.requires in record {
+      count_lt_rows_max = pre.loads.1;
+      fileable = one_files args.dues args.index.now args.text.now args.line.now _ _ _ args.fill
+          pre.loads.0 args.key pre.in_bounds.0 pre.in_bounds.1 pre.text_value pre.some_dues;
+    }
 
 pub settle-requires : goal.settle-requires
 settle-requires c =
     let args = c.args in
     let pre = c.requires in
-    let filed = c.file_row-tried in (
-      loads_extend args.index.now args.text.now _ _ _ args.fill pre.1.1.0.0,
-      one_settles args.dues args.index.now args.text.now args.line.now _ _ _ args.fill
-          pre.1.1.0.0 args.key pre.1.0.0 pre.1.0.1 _ _ _ filed.result filed.ensures
-          c.enum_told-1.given.1
-          pre.0 pre.1.1.1,
-    )
+    let filed = c.file_row-tried in record {
+      extends = loads_extend args.index.now args.text.now _ _ _ args.fill pre.loads.0;
+      settles = one_settles args.dues args.index.now args.text.now args.line.now _ _ _ args.fill
+          pre.loads.0 args.key pre.in_bounds.0 pre.in_bounds.1 _ _ _ filed.result filed.ensures
+          c.in-Fits.is
+          pre.text_value pre.some_dues;
+    }
 
 pub returns-in-Fits : goal.returns-in-Fits
 returns-in-Fits c =
@@ -32,8 +32,8 @@ returns-in-Fits c =
     let filed = c.file_row-tried in
     let settled = c.settle in
     one_filed args.dues args.index.now args.text.now args.line.now _ _ _ args.fill
-    pre.1.1.0.0 args.key pre.1.0.0 pre.1.0.1 _ _ _ filed.result filed.ensures
-    c.enum_told-1.given.1 _ _
+    pre.loads.0 args.key pre.in_bounds.0 pre.in_bounds.1 _ _ _ filed.result filed.ensures
+    c.in-Fits.is _ _
     settled.ensures
 
 pub returns-in-IndexFull : goal.returns-in-IndexFull
@@ -42,7 +42,7 @@ returns-in-IndexFull c =
     let pre = c.requires in
     let filed = c.file_row-tried in
     one_index args.dues args.index.now args.text.now args.line.now _ _ _ args.fill
-    pre.1.1.0.0 args.key pre.1.0.0 pre.1.0.1 _ _ _ filed.result filed.ensures
+    pre.loads.0 args.key pre.in_bounds.0 pre.in_bounds.1 _ _ _ filed.result filed.ensures
     c.in-IndexFull.is
     (λ k. omega (arith, c.slice_known-1.given k))
 
@@ -52,6 +52,6 @@ returns-in-TextFull c =
     let pre = c.requires in
     let filed = c.file_row-tried in
     one_text args.dues args.index.now args.text.now args.line.now _ _ _ args.fill
-    pre.1.1.0.0 args.key pre.1.0.0 pre.1.0.1 _ _ _ filed.result filed.ensures
+    pre.loads.0 args.key pre.in_bounds.0 pre.in_bounds.1 _ _ _ filed.result filed.ensures
     c.in-TextFull.is
     (λ k. omega (arith, c.slice_known-1.given k))

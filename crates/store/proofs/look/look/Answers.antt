@@ -2,7 +2,7 @@
 use mathlib.Core.Path.{refl, sym, ◌∙◌}
 use mathlib.Core.List.{[]}
 use lib.ListN.{drop}
-use borrow.Author.Tests.{not-false}
+use borrow.Author.Tests.{not-true, not-false}
 use Rattle.store.proofs.WriteLaws.{empty_long}
 use Rattle.store.proofs.ChainLaws.{chained_none}
 use Rattle.store.proofs.LookLaws.{look_ready, sees_unsound, sees_none, sees_line}
@@ -10,13 +10,18 @@ use Rattle.store.proofs.SurveyLaws.{sound_holds}
 use Rattle.store.proofs.look.look.Goals as goal
 
 pub take_stock-stock-requires : goal.take_stock-stock-requires
-take_stock-stock-requires c = (refl, (chained_none _, empty_long))
+take_stock-stock-requires c =
+    record {
+      shares_value = refl;
+      chained = chained_none _;
+      long = empty_long;
+    }
 
 pub returns-then-not-stock : goal.returns-then-not-stock
 returns-then-not-stock c =
     let args = c.args in
     sees_unsound args.key args.index.now args.text.now
-    (sym c.take_stock-stock.ensures.is ∙ c.if-not-stock.true)
+    (sym c.take_stock-stock.ensures.is ∙ not-true _ c.if-not-stock.true)
 
 pub part_of-part-requires : goal.part_of-part-requires
 part_of-part-requires c =
@@ -28,7 +33,10 @@ part_of-part-requires c =
     let i = args.index.now in
     let p = stock.result.front in
     let h = sound_holds i args.text.now _ p (stock.ensures.front e) (sym stock.ensures.is ∙ e) in
-    (l.1, look_ready (drop p i) args.text.now h.all.held h.lines _ _ _ stock.result.fill l.0)
+    record {
+      count_lt_rows_max = l.1;
+      ready = look_ready (drop p i) args.text.now h.all.held h.lines _ _ _ stock.result.fill l.0;
+    }
 
 pub returns-then-part-eq0 : goal.returns-then-part-eq0
 returns-then-part-eq0 c =
@@ -41,7 +49,7 @@ returns-then-part-eq0 c =
     let p = stock.result.front in
     let h = sound_holds i args.text.now _ p (stock.ensures.front e) (sym stock.ensures.is ∙ e) in
     sees_none args.key i args.text.now h.all h.is part.result
-    (part.ensures.1.1 (drop p i) args.text.now _ h.all.held (λ j m. refl)
+    (part.ensures.spots (drop p i) args.text.now _ h.all.held (λ j m. refl)
     ((stock.ensures.loads e).0 args.text.now [] h.all.held h.lines)) c.if-part-eq0.true
 
 pub returns : goal.returns
@@ -55,5 +63,5 @@ returns c =
     let p = stock.result.front in
     let h = sound_holds i args.text.now _ p (stock.ensures.front e) (sym stock.ensures.is ∙ e) in
     sees_line args.key i args.text.now h.all h.is part.result
-    (part.ensures.1.1 (drop p i) args.text.now _ h.all.held (λ j m. refl)
+    (part.ensures.spots (drop p i) args.text.now _ h.all.held (λ j m. refl)
     ((stock.ensures.loads e).0 args.text.now [] h.all.held h.lines)) c.if-part-eq0.false

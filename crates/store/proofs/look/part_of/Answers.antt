@@ -8,11 +8,11 @@ pub seek_before-r-requires : goal.seek_before-r-requires
 seek_before-r-requires c =
     let args = c.args in
     let pre = c.requires in
-    let pre = pre in (
-      pre.0,
-      (put_ready args.rows.now args.heads.now args.next.now args.fill.count args.key pre.0 pre.1
-          _ c.put_row.ensures.0 c.put_row.ensures.1).chained,
-    )
+    let pre = pre in record {
+      k_lt_rows_max = pre.count_lt_rows_max;
+      chained = (put_ready args.rows.now args.heads.now args.next.now args.fill.count args.key pre.count_lt_rows_max pre.ready
+          _ c.put_row.ensures.rows_after c.put_row.ensures.owner_bound).chained;
+    }
 
 pub returns-then-len-eq0 : goal.returns-then-len-eq0
 returns-then-len-eq0 c =
@@ -21,20 +21,18 @@ returns-then-len-eq0 c =
     let put = c.put_row in
     let seek = c.seek_before-r in
     let before = c.len_before-len in
-    let agree = put_agree args.rows.now args.heads.now args.next.now args.fill.count args.key pre.0
-    pre.1 _ put.ensures.0 put.ensures.1 in (
-      put_ready args.rows.now args.heads.now args.next.now args.fill.count args.key pre.0 pre.1
-          _ put.ensures.0 put.ensures.1,
-      (
-        agree,
-        λ i t b hs ag x.
-            spot_none args.key i t b _ args.heads.now args.next.now args.fill hs x
-            (λ j l. ag j l ∙ agree j l)
-            (put_new args.rows.now args.heads.now args.next.now args.fill.count args.key pre.0
-            pre.1 _ put.ensures.0 put.ensures.1)
-            seek.result seek.ensures.0 seek.ensures.1 before.result before.ensures c.if-len-eq0.true,
-      ),
-    )
+    let agree = put_agree args.rows.now args.heads.now args.next.now args.fill.count args.key pre.count_lt_rows_max
+    pre.ready _ put.ensures.rows_after put.ensures.owner_bound in record {
+      ready_2 = put_ready args.rows.now args.heads.now args.next.now args.fill.count args.key pre.count_lt_rows_max pre.ready
+          _ put.ensures.rows_after put.ensures.owner_bound;
+      agree = agree;
+      spots = λ i t b hs ag x.
+          spot_none args.key i t b _ args.heads.now args.next.now args.fill hs x
+          (λ j l. ag j l ∙ agree j l)
+          (put_new args.rows.now args.heads.now args.next.now args.fill.count args.key pre.count_lt_rows_max
+          pre.ready _ put.ensures.rows_after put.ensures.owner_bound)
+          seek.result seek.ensures.sought seek.ensures.upper_bound before.result before.ensures c.if-len-eq0.true;
+    }
 
 pub overflow_sub-r : goal.overflow_sub-r
 overflow_sub-r c =
@@ -51,8 +49,8 @@ start_at-start-requires c =
     omega (
       arith,
       some-before _ seek-before.result c.len_before-len.result c.len_before-len.ensures c.if-len-eq0.false,
-      seek-before.ensures.1,
-      pre.0,
+      seek-before.ensures.upper_bound,
+      pre.count_lt_rows_max,
     )
 
 pub returns : goal.returns
@@ -62,18 +60,16 @@ returns c =
     let put = c.put_row in
     let seek = c.seek_before-r in
     let before = c.len_before-len in
-    let agree = put_agree args.rows.now args.heads.now args.next.now args.fill.count args.key pre.0
-    pre.1 _ put.ensures.0 put.ensures.1 in (
-      put_ready args.rows.now args.heads.now args.next.now args.fill.count args.key pre.0 pre.1
-          _ put.ensures.0 put.ensures.1,
-      (
-        agree,
-        λ i t b hs ag x.
-            spot_line args.key i t b _ args.heads.now args.next.now args.fill hs x
-            (λ j l. ag j l ∙ agree j l)
-            (put_new args.rows.now args.heads.now args.next.now args.fill.count args.key pre.0
-            pre.1 _ put.ensures.0 put.ensures.1)
-            seek.result seek.ensures.0 seek.ensures.1 before.result before.ensures c.if-len-eq0.false
-            c.start_at-start.result c.start_at-start.ensures,
-      ),
-    )
+    let agree = put_agree args.rows.now args.heads.now args.next.now args.fill.count args.key pre.count_lt_rows_max
+    pre.ready _ put.ensures.rows_after put.ensures.owner_bound in record {
+      ready_2 = put_ready args.rows.now args.heads.now args.next.now args.fill.count args.key pre.count_lt_rows_max pre.ready
+          _ put.ensures.rows_after put.ensures.owner_bound;
+      agree = agree;
+      spots = λ i t b hs ag x.
+          spot_line args.key i t b _ args.heads.now args.next.now args.fill hs x
+          (λ j l. ag j l ∙ agree j l)
+          (put_new args.rows.now args.heads.now args.next.now args.fill.count args.key pre.count_lt_rows_max
+          pre.ready _ put.ensures.rows_after put.ensures.owner_bound)
+          seek.result seek.ensures.sought seek.ensures.upper_bound before.result before.ensures c.if-len-eq0.false
+          c.start_at-start.result c.start_at-start.ensures;
+    }

@@ -14,13 +14,16 @@ returns-then-whole-gt0 c =
     let whole = c.part_of-whole in
     λ i t hs x.
     sees_exact t (find args.key hs) (find (plain_key args.key) hs) whole.result
-    (whole.ensures.1.1 i t _ hs (λ j m. refl) x) c.if-whole-gt0.true
+    (whole.ensures.spots i t _ hs (λ j m. refl) x) c.if-whole-gt0.true
 
 pub part_of-second-requires : goal.part_of-second-requires
 part_of-second-requires c =
     let pre = c.requires in
     let part_of = c.part_of-whole in
-    (pre.0, part_of.ensures.0)
+    record {
+      count_lt_rows_max = pre.count_lt_rows_max;
+      ready = part_of.ensures.ready_2;
+    }
 
 pub returns-then-second-gt0 : goal.returns-then-second-gt0
 returns-then-second-gt0 c =
@@ -31,9 +34,9 @@ returns-then-second-gt0 c =
     let second = c.part_of-second in
     λ i t hs x.
     sees_near t (find args.key hs) (find (plain_key args.key) hs) whole.result
-    (whole.ensures.1.1 i t _ hs (λ j m. refl) x) second.result
+    (whole.ensures.spots i t _ hs (λ j m. refl) x) second.result
     (subst (λ (u : Uuid). Spot t (find (key_by args.key.owner u) hs) second.result) plain.ensures
-    (second.ensures.1.1 i t _ hs whole.ensures.1.0 x))
+    (second.ensures.spots i t _ hs whole.ensures.agree x))
     (omega (arith, if1.false)) c.if-second-gt0.true
 
 pub returns : goal.returns
@@ -45,7 +48,7 @@ returns c =
     let second = c.part_of-second in
     λ i t hs x.
     sees_neither t (find args.key hs) (find (plain_key args.key) hs) whole.result
-    (whole.ensures.1.1 i t _ hs (λ j m. refl) x) second.result
+    (whole.ensures.spots i t _ hs (λ j m. refl) x) second.result
     (subst (λ (u : Uuid). Spot t (find (key_by args.key.owner u) hs) second.result) plain.ensures
-    (second.ensures.1.1 i t _ hs whole.ensures.1.0 x))
+    (second.ensures.spots i t _ hs whole.ensures.agree x))
     (omega (arith, if1.false)) (omega (arith, c.if-second-gt0.false))

@@ -9,6 +9,5 @@ use Rattle.store.proofs.owners.owner_of.Goals as goal
 
 pub returns-else-byte-eq0 : goal.returns-else-byte-eq0
 returns-else-byte-eq0 c =
-    let b = c.party-1 in
-    sym (ap owner_of b.given.1
-    ∙ ap (λ (x : Bool). pick x O.Nobody (O.Byte b.given.0.0)) (ne_eqb b.given.0.0 0 c.if-byte-eq0.false))
+    sym (ap owner_of c.in-Organiser.is
+    ∙ ap (λ (x : Bool). pick x O.Nobody (O.Byte c.in-Organiser.byte)) (ne_eqb c.in-Organiser.byte 0 c.if-byte-eq0.false))

@@ -5,4 +5,8 @@ use borrow.Author.Rules.{rules}
 use Rattle.store.proofs.rows.put_row.Goals as goal
 
 pub returns : goal.returns
-returns c = (unfold row_put in refl, search rules)
+returns c =
+    record {
+      rows_after = unfold row_put in refl;
+      owner_bound = search rules;
+    }

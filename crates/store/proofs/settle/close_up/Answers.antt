@@ -55,16 +55,14 @@ put_text-requires c =
     let len-at = c.len_at-len in
     let if1 = c.if-len-eq0 in
     let key-at = c.key_at-key in
-    let start-at = c.start_at-start in (
-      read_text loop.invariant (omega arith) key-at.result len-at.result key-at.ensures
-          len-at.ensures if1.false,
-      (
-        read_source loop.invariant (omega arith) key-at.result len-at.result key-at.ensures
-            len-at.ensures if1.false start-at.result start-at.ensures,
-        read_ahead loop.invariant (omega arith) key-at.result len-at.result key-at.ensures
-            len-at.ensures if1.false start-at.result start-at.ensures,
-      ),
-    )
+    let start-at = c.start_at-start in record {
+      len_in_bounds = read_text loop.invariant (omega arith) key-at.result len-at.result key-at.ensures
+          len-at.ensures if1.false;
+      len_in_bounds_2 = read_source loop.invariant (omega arith) key-at.result len-at.result key-at.ensures
+          len-at.ensures if1.false start-at.result start-at.ensures;
+      off_le_start = read_ahead loop.invariant (omega arith) key-at.result len-at.result key-at.ensures
+          len-at.ensures if1.false start-at.result start-at.ensures;
+    }
 
 pub overflow_add-at : goal.overflow_add-at
 overflow_add-at c =

@@ -8,7 +8,7 @@ kept_rows-kept-requires c =
     let args = c.args in
     let pre = c.requires in
     settle_keeps args.index.now args.text.now args.lines.now _ args.was args.count (λ k. omega (arith, c.slice_known-1.given k))
-    pre.0 pre.1
+    pre.extends pre.settles
 
 pub slice_bounds-close_up-count : goal.slice_bounds-close_up-count
 slice_bounds-close_up-count c =
@@ -18,7 +18,7 @@ slice_bounds-close_up-count c =
     omega (
       arith,
       kept_within args.index.now args.text.now args.lines.now args.rows.now args.was args.count (λ k. omega (arith, slice-known.given k))
-          pre.0 c.kept_rows-kept.result c.kept_rows-kept.ensures pre.1.0 pre.1.1,
+          pre.extends c.kept_rows-kept.result c.kept_rows-kept.ensures pre.settles.0 pre.settles.1,
     )
 
 pub slice_bounds-close_up-start : goal.slice_bounds-close_up-start
@@ -29,7 +29,7 @@ slice_bounds-close_up-start c =
     omega (
       arith,
       kept_within args.index.now args.text.now args.lines.now args.rows.now args.was args.count (λ k. omega (arith, slice-known.given k))
-          pre.0 c.kept_rows-kept.result c.kept_rows-kept.ensures pre.1.0 pre.1.1,
+          pre.extends c.kept_rows-kept.result c.kept_rows-kept.ensures pre.settles.0 pre.settles.1,
     )
 
 pub close_up-requires : goal.close_up-requires
@@ -38,7 +38,7 @@ close_up-requires c =
     let pre = c.requires in
     let slice-known = c.slice_known-1 in
     settle_lends args.index.now args.text.now args.lines.now _ args.was args.count (λ k. omega (arith, slice-known.given k))
-    pre.0 c.kept_rows-kept.result c.kept_rows-kept.ensures pre.1
+    pre.extends c.kept_rows-kept.result c.kept_rows-kept.ensures pre.settles
 
 pub returns : goal.returns
 returns c =
@@ -48,4 +48,4 @@ returns c =
     let kept-rows = c.kept_rows-kept in
     let close_up = c.close_up in
     settle_back args.index.now args.text.now args.lines.now _ args.was args.count (λ k. omega (arith, slice-known.given k))
-    pre.0 kept-rows.result kept-rows.ensures _ _ close_up.ensures
+    pre.extends kept-rows.result kept-rows.ensures _ _ close_up.ensures

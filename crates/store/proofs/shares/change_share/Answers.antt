@@ -27,8 +27,8 @@ put_share-requires c =
 pub returns-then-had-eq0 : goal.returns-then-had-eq0
 returns-then-had-eq0 c =
     let args = c.args in
-    change_new args.part.now args.owner args.had args.share c.open_gap.new.0
-    c.put_share.new.0 c.if-had-eq0.true
+    change_new args.part.now args.owner args.had args.share c.open_gap.new.part
+    c.put_share.new.part c.if-had-eq0.true
     c.if-share-eq0.false c.open_gap.ensures
     c.put_share.ensures
 
@@ -41,7 +41,7 @@ close_gap-requires c =
 pub returns-then-share-eq0-2 : goal.returns-then-share-eq0-2
 returns-then-share-eq0-2 c =
     let args = c.args in
-    change_none args.part.now args.owner args.had args.share c.close_gap.new.0
+    change_none args.part.now args.owner args.had args.share c.close_gap.new.part
     c.if-had-eq0.false c.if-share-eq0-2.true c.close_gap.ensures
 
 pub put_share-requires-2 : goal.put_share-requires-2
@@ -55,5 +55,5 @@ put_share-requires-2 c =
 pub returns : goal.returns
 returns c =
     let args = c.args in
-    change_other args.part.now args.owner args.had args.share c.put_share-2.new.0
+    change_other args.part.now args.owner args.had args.share c.put_share-2.new.part
     c.if-had-eq0.false c.if-share-eq0-2.false c.put_share-2.ensures

@@ -5,5 +5,5 @@ use Rattle.store.proofs.shares.close_gap.Goals as goal
 
 pub returns : goal.returns
 returns c =
-    gap_closed c.args.part.now c.move_down.new.0 c.zero_all.new.0
+    gap_closed c.args.part.now c.move_down.new.part c.zero_all.new.s
     c.requires c.move_down.ensures _ refl c.zero_all.ensures

@@ -4,18 +4,22 @@ use Rattle.store.proofs.UseLaws.{adds_given, adds_uses}
 use Rattle.store.proofs.sharing.claims_with.Goals as goal
 
 pub add_uses-requires : goal.add_uses-requires
-add_uses-requires c = (refl, c.requires.0)
+add_uses-requires c =
+    record {
+      uses_value = refl;
+      addable = c.requires.addable;
+    }
 
 pub claims_of-requires : goal.claims_of-requires
 claims_of-requires c = (
-  adds_given c.args.rows.now c.args.count c.requires.0 _
+  adds_given c.args.rows.now c.args.count c.requires.addable _
       c.add_uses.ensures,
-  c.requires.1,
+  c.requires.given,
 )
 
 pub returns : goal.returns
 returns c =
     let args = c.args in
-    λ hs u. c.claims_of.ensures.0 hs
-    (adds_uses args.rows.now args.count c.add_uses.new.1.1.0 hs
+    λ hs u. c.claims_of.ensures.sums hs
+    (adds_uses args.rows.now args.count c.add_uses.new.uses hs
     c.add_uses.ensures u)

@@ -1,6 +1,7 @@
 -- The store is taken stock of; whether there is room decides, and the record is written: `set-done`.
 use mathlib.Core.Path.{refl, sym, ◌∙◌}
 use native.Mathlib.Omega.{arith}
+use borrow.Author.Tests.{not-true, not-false}
 use Rattle.store.proofs.ChainLaws.{chained_none}
 use Rattle.store.proofs.ShareBufferLaws.{size_most}
 use Rattle.store.proofs.ShareCallLaws.{stocked, share_unsound, set_weighs, end_less, set_crowded, set_full}
@@ -9,13 +10,18 @@ use Rattle.store.proofs.WriteLaws.{empty_long}
 use Rattle.store.proofs.sharing.set_share.Goals as goal
 
 pub take_stock-stock-requires : goal.take_stock-stock-requires
-take_stock-stock-requires c = (refl, (chained_none _, empty_long))
+take_stock-stock-requires c =
+    record {
+      shares_value = refl;
+      chained = chained_none _;
+      long = empty_long;
+    }
 
 pub returns-then-not-stock : goal.returns-then-not-stock
 returns-then-not-stock c =
     let args = c.args in
     share_unsound args.index.now args.text.now args.owner args.bytes
-    (sym c.take_stock-stock.ensures.is ∙ c.if-not-stock.true)
+    (sym c.take_stock-stock.ensures.is ∙ not-true _ c.if-not-stock.true)
 
 pub overflow_add-end : goal.overflow_add-end
 overflow_add-end c =
@@ -25,7 +31,7 @@ overflow_add-end c =
     let stock = c.take_stock-stock in
     let w = stocked i t _ _ _ _ stock.result
     (λ k. omega (arith, c.slice_known-1.given k)) stock.ensures
-    c.if-not-stock.false in
+    (not-false _ c.if-not-stock.false) in
     omega (arith, w.front, w.end, w.fits, w.index_most)
 
 pub overflow_add-end-2 : goal.overflow_add-end-2
@@ -36,7 +42,7 @@ overflow_add-end-2 c =
     let stock = c.take_stock-stock in
     let w = stocked i t _ _ _ _ stock.result
     (λ k. omega (arith, c.slice_known-1.given k)) stock.ensures
-    c.if-not-stock.false in
+    (not-false _ c.if-not-stock.false) in
     omega (
       arith,
       w.front,
@@ -55,7 +61,7 @@ overflow_sub-end c =
     let stock = c.take_stock-stock in
     let w = stocked i t _ _ _ _ stock.result
     (λ k. omega (arith, c.slice_known-1.given k)) stock.ensures
-    c.if-not-stock.false in
+    (not-false _ c.if-not-stock.false) in
     end_less i t _ _ stock.result w args.owner args.bytes (omega (arith, c.ranges))
     c.share_size.result c.share_size-2.result c.share_size.ensures c.share_size-2.ensures
 
@@ -67,7 +73,7 @@ share_room-room-requires c =
     let stock = c.take_stock-stock in
     let w = stocked i t _ _ _ _ stock.result
     (λ k. omega (arith, c.slice_known-1.given k)) stock.ensures
-    c.if-not-stock.false in
+    (not-false _ c.if-not-stock.false) in
     set_weighs i t _ _ stock.result w args.owner args.bytes (omega (arith, c.ranges))
 
 pub write_share-requires : goal.write_share-requires
@@ -78,7 +84,7 @@ write_share-requires c =
     let stock = c.take_stock-stock in
     let w = stocked i t _ _ _ _ stock.result
     (λ k. omega (arith, c.slice_known-1.given k)) stock.ensures
-    c.if-not-stock.false in (
+    (not-false _ c.if-not-stock.false) in (
       _,
       (
         w.all.held,
@@ -100,7 +106,7 @@ returns-in-TextFull c =
     let stock = c.take_stock-stock in
     let w = stocked i t _ _ _ _ stock.result
     (λ k. omega (arith, c.slice_known-1.given k)) stock.ensures
-    c.if-not-stock.false in
+    (not-false _ c.if-not-stock.false) in
     set_crowded i t _ _ stock.result w args.owner args.bytes (omega (arith, c.ranges))
     c.share_size.result c.share_size-2.result c.share_size.ensures
     c.share_size-2.ensures (λ k. omega (arith, c.slice_known-1.given k))
@@ -115,7 +121,7 @@ returns-in-IndexFull c =
     let stock = c.take_stock-stock in
     let w = stocked i t _ _ _ _ stock.result
     (λ k. omega (arith, c.slice_known-1.given k)) stock.ensures
-    c.if-not-stock.false in
+    (not-false _ c.if-not-stock.false) in
     set_full i t _ _ stock.result w args.owner args.bytes (omega (arith, c.ranges))
     c.share_size.result c.share_size-2.result c.share_size.ensures
     c.share_size-2.ensures (λ k. omega (arith, c.slice_known-1.given k))
@@ -130,7 +136,7 @@ returns-in-Fits c =
     let stock = c.take_stock-stock in
     let w = stocked i t _ _ _ _ stock.result
     (λ k. omega (arith, c.slice_known-1.given k)) stock.ensures
-    c.if-not-stock.false in
+    (not-false _ c.if-not-stock.false) in
     let writes = set_writes i t _ _ stock.result w args.owner args.bytes (omega (arith, c.ranges))
     c.share_size.result c.share_size-2.result c.share_size.ensures
     c.share_size-2.ensures (λ k. omega (arith, c.slice_known-1.given k))

@@ -8,7 +8,11 @@ returns-then-text-bytes c =
     c.args.index c.args.end c.args.bytes c.requires c.if-text-bytes.true
 
 pub claims_with-requires : goal.claims_with-requires
-claims_with-requires c = (c.requires.addable, c.requires.given c.if-text-bytes.false)
+claims_with-requires c =
+    record {
+      addable = c.requires.addable;
+      given = c.requires.given c.if-text-bytes.false;
+    }
 
 pub returns-then-text-claims_with : goal.returns-then-text-claims_with
 returns-then-text-claims_with c =

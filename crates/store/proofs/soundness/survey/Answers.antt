@@ -1,7 +1,6 @@
 use mathlib.Core.Path.{ap, ◌∙◌}
 use Prim.Native.Nat.{◌-◌}
 use native.Mathlib.Omega.{arith}
-use borrow.Author.Tests.{not-true, not-false}
 use Rattle.text.proofs.LentLaws.{tail_part}
 use Rattle.store.specs.Decode.{head_at}
 use Rattle.store.proofs.HeadLaws.{whole_size}
@@ -14,8 +13,8 @@ pub loop-head-init : goal.loop-head-init
 loop-head-init c =
     let args = c.args in
     let pre = c.requires in
-    survey_first args.index.now args.text.now _ args.heads.now args.next.now pre.0.0 pre.1.1
-    pre.1.0
+    survey_first args.index.now args.text.now _ args.heads.now args.next.now pre.index_len_bound.0 pre.long
+    pre.chained
 
 pub slice_bounds-stands-count : goal.slice_bounds-stands-count
 slice_bounds-stands-count c = omega (arith, c.loop-head.invariant.walks.index)
@@ -61,13 +60,16 @@ returns-then-not-head_fits c =
     survey_bad args.index.now args.text.now loop.at loop.rows loop.heads loop.next loop.n loop.used loop.verdict loop.invariant whole-head.result
     (whole-head.ensures ∙ ap head_at (tail_part loop.at args.index.now))
     (whole_size _ (stands.ensures.0 if1.true) _ whole-head.ensures) head-fits.result head-fits.ensures
-    (not-true _ if2.true)
+    if2.true
 
 pub add_row-r-requires : goal.add_row-r-requires
 add_row-r-requires c =
     let args = c.args in
     let loop = c.loop-head in
-    (survey_less args.index.now args.text.now loop.at loop.rows loop.heads loop.next loop.n loop.used loop.verdict loop.invariant, loop.invariant.loading.chained)
+    record {
+      n_lt_rows_max = survey_less args.index.now args.text.now loop.at loop.rows loop.heads loop.next loop.n loop.used loop.verdict loop.invariant;
+      chained = loop.invariant.loading.chained;
+    }
 
 pub overflow_add-at : goal.overflow_add-at
 overflow_add-at c =
@@ -80,7 +82,7 @@ overflow_add-at c =
     let if2 = c.if-not-head_fits in
     let w = survey_on args.index.now args.text.now loop.at loop.rows loop.heads loop.next loop.n loop.used loop.verdict loop.invariant whole-head.result
     (whole-head.ensures ∙ ap head_at (tail_part loop.at args.index.now))
-    (whole_size _ (stands.ensures.0 if1.true) _ whole-head.ensures) head-fits.result head-fits.ensures (not-false _ if2.false) in
+    (whole_size _ (stands.ensures.0 if1.true) _ whole-head.ensures) head-fits.result head-fits.ensures if2.false in
     omega (arith, w.index)
 
 pub overflow_add-used : goal.overflow_add-used
@@ -95,8 +97,8 @@ overflow_add-used c =
     let if2 = c.if-not-head_fits in
     let w = survey_on args.index.now args.text.now loop.at loop.rows loop.heads loop.next loop.n loop.used loop.verdict loop.invariant whole-head.result
     (whole-head.ensures ∙ ap head_at (tail_part loop.at args.index.now))
-    (whole_size _ (stands.ensures.0 if1.true) _ whole-head.ensures) head-fits.result head-fits.ensures (not-false _ if2.false) in
-    omega (arith, w.text, pre.0.1)
+    (whole_size _ (stands.ensures.0 if1.true) _ whole-head.ensures) head-fits.result head-fits.ensures if2.false in
+    omega (arith, w.text, pre.index_len_bound.1)
 
 pub overflow_add-n : goal.overflow_add-n
 overflow_add-n c =
@@ -115,7 +117,7 @@ loop-head-smaller c =
     let if2 = c.if-not-head_fits in
     let w = survey_on args.index.now args.text.now loop.at loop.rows loop.heads loop.next loop.n loop.used loop.verdict loop.invariant whole-head.result
     (whole-head.ensures ∙ ap head_at (tail_part loop.at args.index.now))
-    (whole_size _ (stands.ensures.0 if1.true) _ whole-head.ensures) head-fits.result head-fits.ensures (not-false _ if2.false) in
+    (whole_size _ (stands.ensures.0 if1.true) _ whole-head.ensures) head-fits.result head-fits.ensures if2.false in
     omega (
       arith,
       w.index,
@@ -137,7 +139,7 @@ loop-head-preserved c =
     survey_turn args.index.now args.text.now loop.at loop.rows loop.heads loop.next loop.n loop.used loop.verdict loop.invariant whole-head.result
     (whole-head.ensures ∙ ap head_at (tail_part loop.at args.index.now))
     (whole_size _ (stands.ensures.0 if1.true) _ whole-head.ensures) head-fits.result head-fits.ensures
-    (not-false _ if2.false) _ put.ensures.0.0 put.ensures.0.1 _ _ put.ensures.1.1 put.result put.ensures.1.0.0
+    if2.false _ put.ensures.rows_after.0 put.ensures.rows_after.1 _ _ put.ensures.chained_2 put.result put.ensures.sought.0
     told.result told.ensures
 
 pub zero_behind-requires : goal.zero_behind-requires

@@ -4,7 +4,7 @@ use mathlib.Core.List.{List}
 use Prim.Native.Nat.{ℕ, ◌-◌}
 use native.Mathlib.Omega.{arith}
 use lib.ListN.{length}
-use borrow.Author.Tests.{not-false}
+use borrow.Author.Tests.{not-true, not-false}
 use borrow.Rule.Slice.PartMut.{mid_of}
 use Rattle.text.proofs.LentLaws.{tail_part}
 use Rattle.store.proofs.BodyLaws.{bytes_part}
@@ -26,7 +26,7 @@ returns-then-text-gt-TEXT_MAX c =
     (stock_text args.index.now args.text.now c.if-index-gt-INDEX_MAX.false c.if-text-gt-TEXT_MAX.true)
 
 pub read_shares-front-requires : goal.read_shares-front-requires
-read_shares-front-requires c = c.requires.0
+read_shares-front-requires c = c.requires.shares_value
 
 pub slice_bounds-survey-count : goal.slice_bounds-survey-count
 slice_bounds-survey-count c = omega (arith, c.read_shares-front.ensures.within)
@@ -45,13 +45,14 @@ survey-seen-requires c =
     let if2 = c.if-text-gt-TEXT_MAX in
     let read = c.read_shares-front in
     let p = read.result in
-    let i = args.index.now in (
-      (
+    let i = args.index.now in record {
+      index_len_bound = (
         part_most i args.text.now _ p read.ensures if1.false (mid_of p (length i - p) i) (tail_part p i),
         if2.false,
-      ),
-      pre.1,
-    )
+      );
+      chained = pre.chained;
+      long = pre.long;
+    }
 
 pub returns-then-not-seen : goal.returns-then-not-seen
 returns-then-not-seen c =
@@ -67,12 +68,16 @@ returns-then-not-seen c =
     (sym (stock_part i args.text.now _ p read.ensures if1.false q (tail_part p i))
     ∙ sound_walk q args.text.now
     (part_most i args.text.now _ p read.ensures if1.false q (tail_part p i)) if2.false
-    (sym survey.ensures.is ∙ c.if-not-seen.true))
+    (sym survey.ensures.is ∙ not-true _ c.if-not-seen.true))
 
 pub each_once-sound-requires : goal.each_once-sound-requires
 each_once-sound-requires c =
     let survey = c.survey-seen in
-    (omega (arith, survey.ensures.most), (survey.ensures.chained.links, survey.ensures.says))
+    record {
+      n_le_rows_max = omega (arith, survey.ensures.most);
+      linked = survey.ensures.chained.links;
+      says = survey.ensures.says;
+    }
 
 pub returns : goal.returns
 returns c =

@@ -2,7 +2,6 @@
 use mathlib.Core.Bool.{Bool, ◌&&◌}
 use mathlib.Core.Path.{sym, ap, ◌∙◌}
 use lib.ListN.{drop}
-use borrow.Author.Tests.{not-true, not-false}
 use Rattle.store.specs.Decode.{zeroes}
 use Rattle.text.proofs.LentLaws.{tail_part}
 use Rattle.store.proofs.BoolLaws.{and_false_left}
@@ -14,7 +13,7 @@ returns-then-not-all_zero c =
     let all-zero = c.all_zero in
     let if1 = c.if-not-all_zero in
     sym (and_false_left _ _ (ap zeroes (sym (tail_part args.at args.index.now)) ∙ sym all-zero.ensures ∙
-    not-true _ if1.true))
+    if1.true))
 
 pub returns : goal.returns
 returns c =
@@ -23,4 +22,4 @@ returns c =
     let if1 = c.if-not-all_zero in
     let all-zero2 = c.all_zero-2 in
     all-zero2.ensures ∙ ap zeroes (tail_part args.off args.text.now) ∙ sym (ap (λ (b : Bool). b && zeroes
-    (drop args.off args.text.now)) (ap zeroes (sym (tail_part args.at args.index.now)) ∙ sym all-zero.ensures ∙ not-false _ if1.false))
+    (drop args.off args.text.now)) (ap zeroes (sym (tail_part args.at args.index.now)) ∙ sym all-zero.ensures ∙ if1.false))

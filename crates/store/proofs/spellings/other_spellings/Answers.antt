@@ -27,7 +27,7 @@ slice_bounds-other_spelling-end c =
 pub overflow_sub-left : goal.overflow_sub-left
 overflow_sub-left c =
     let loop = c.loop-at in
-    omega (arith, ltb-true 0 loop.left c.if-left-gt0.true)
+    omega arith
 
 pub loop-at-smaller : goal.loop-at-smaller
 loop-at-smaller c =
@@ -57,7 +57,7 @@ loop-at-preserved c =
       tail_length loop.at args.lines.now,
     ) in
     other_turn args.lines.now args.count loop.at loop.left loop.other loop.invariant
-    c.loop-at-test.true (ltb-true 0 loop.left c.if-left-gt0.true) found.result
+    c.loop-at-test.true c.if-left-gt0.true found.result
     (found.ensures ∙ ap (first_of lf) (part_to_end args.lines.now loop.at))
     (omega (arith, c.loop-at-test.true, within))
     (take cut.result (drop loop.at args.lines.now))
@@ -70,10 +70,34 @@ returns-else-left-gt0 c =
     let args = c.args in
     let loop = c.loop-at in
     other_all args.lines.now args.count loop.at loop.left loop.other loop.invariant
-    (ltb-false 0 loop.left c.if-left-gt0.false)
+    c.if-left-gt0.false
 
 pub returns-after-loop-at : goal.returns-after-loop-at
 returns-after-loop-at c =
     let args = c.args in
     let loop = c.loop-at in
     other_end args.lines.now args.count loop.at loop.left loop.other loop.invariant c.loop-at-test.false
+
+pub overflow_add-at : goal.overflow_add-at
+overflow_add-at c =
+    let loop = c.loop-at in
+    omega (
+      arith,
+      tail_length loop.at c.args.lines.now,
+      c.find_far-end.ensures,
+      c.loop-at-test.true,
+      c.well_formed.0,
+      first_le lf (take (length c.args.lines.now - loop.at) (drop loop.at c.args.lines.now)),
+    )
+
+pub overflow_add-at-in-loop-at : goal.overflow_add-at-in-loop-at
+overflow_add-at-in-loop-at c =
+    let loop = c.loop-at in
+    omega (
+      arith,
+      tail_length loop.at c.args.lines.now,
+      c.find_far-end.ensures,
+      c.loop-at-test.true,
+      c.well_formed.0,
+      first_le lf (take (length c.args.lines.now - loop.at) (drop loop.at c.args.lines.now)),
+    )

@@ -10,15 +10,19 @@ use Rattle.store.proofs.table.add_row.Goals as goal
 pub link-requires : goal.link-requires
 link-requires c =
     let args = c.args in
-    let pre = c.requires in (
-      pre.0,
-      chained_agree (key_in args.rows.now) _ args.n
-          (λ k l. sym (ap (λ (v : List ℕ). key_in v k) c.put_row.ensures.0
+    let pre = c.requires in record {
+      k_lt_rows_max = pre.n_lt_rows_max;
+      chained = chained_agree (key_in args.rows.now) _ args.n
+          (λ k l. sym (ap (λ (v : List ℕ). key_in v k) c.put_row.ensures.rows_after
           ∙ ap (λ (r : Row). r.key) (row_other args.rows.now args.n args.key args.start args.len k
           (λ e. omega arith))))
-          args.heads.now args.next.now pre.1,
-    )
+          args.heads.now args.next.now pre.chained;
+    }
 
 pub returns : goal.returns
 returns c =
-    ((c.put_row.ensures.0, c.put_row.ensures.1), ((c.link.ensures.0, c.link.ensures.1.1), c.link.ensures.1.0))
+    record {
+      rows_after = (c.put_row.ensures.rows_after, c.put_row.ensures.owner_bound);
+      sought = (c.link.ensures.sought, c.link.ensures.upper_bound);
+      chained_2 = c.link.ensures.chained_2;
+    }

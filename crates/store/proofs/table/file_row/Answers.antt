@@ -8,7 +8,7 @@ use Rattle.store.proofs.FileRowLaws.{had_less, dues_less, files_index, files_tex
 use Rattle.store.proofs.table.file_row.Goals as goal
 
 pub len_before-had-requires : goal.len_before-had-requires
-len_before-had-requires c = omega (arith, c.add_row-r.ensures.1.0.1 (omega arith))
+len_before-had-requires c = omega (arith, c.add_row-r.ensures.sought.1 (omega arith))
 
 pub overflow_sub-used : goal.overflow_sub-used
 overflow_sub-used c =
@@ -16,19 +16,19 @@ overflow_sub-used c =
     let pre = c.requires in
     let put = c.add_row-r in
     let had = c.len_before-had in
-    had_less pre.1.0 args.dues args.index.now args.text.now pre.1.1 _ args.heads.now
-    args.next.now pre.1.2.0
-    args.fill args.key args.start args.len pre.1.2.1.0 pre.1.2.1.1 pre.0
-    put.ensures.0.1 _ put.ensures.0.0
-    put.result put.ensures.1.0.0 (put.ensures.1.0.1 (omega arith)) had.result had.ensures
+    had_less pre.fileable.0 args.dues args.index.now args.text.now pre.fileable.1 _ args.heads.now
+    args.next.now pre.fileable.2.0
+    args.fill args.key args.start args.len pre.fileable.2.1.0 pre.fileable.2.1.1 pre.count_lt_rows_max
+    put.ensures.rows_after.1 _ put.ensures.rows_after.0
+    put.result put.ensures.sought.0 (put.ensures.sought.1 (omega arith)) had.result had.ensures
 
 pub overflow_add-used : goal.overflow_add-used
 overflow_add-used c =
     let args = c.args in
-    let w = c.requires.1.2.1.1 in
-    let line : length (take args.len (drop args.start c.requires.1.1)) ≡ args.len
-    = length-take-le args.len (drop args.start c.requires.1.1)
-    (omega (arith, length-drop args.start c.requires.1.1, w.inside)) in
+    let w = c.requires.fileable.2.1.1 in
+    let line : length (take args.len (drop args.start c.requires.fileable.1)) ≡ args.len
+    = length-take-le args.len (drop args.start c.requires.fileable.1)
+    (omega (arith, length-drop args.start c.requires.fileable.1, w.inside)) in
     omega (
       arith,
       w.in_rows.used,
@@ -47,8 +47,8 @@ returns-then-index-end c =
     let ends = c.end_with-end in
     λ g s old hs w.
     files_index g args.dues args.index.now args.text.now s _ args.heads.now args.next.now old
-    args.fill args.key args.start args.len hs w pre.0 put.ensures.0.1 _ put.ensures.0.0
-    put.result put.ensures.1.0.0 (put.ensures.1.0.1 (omega arith)) had.result had.ensures
+    args.fill args.key args.start args.len hs w pre.count_lt_rows_max put.ensures.rows_after.1 _ put.ensures.rows_after.0
+    put.result put.ensures.sought.0 (put.ensures.sought.1 (omega arith)) had.result had.ensures
     ends.result ends.ensures _ _ c.if-index-end.true c.told_room.result c.told_room.ensures
 
 pub claimed-requires : goal.claimed-requires
@@ -57,16 +57,16 @@ claimed-requires c =
     let pre = c.requires in
     let put = c.add_row-r in
     let had = c.len_before-had in
-    let w = pre.1.2.1.1 in
-    let line : length (take args.len (drop args.start pre.1.1)) ≡ args.len
-    = length-take-le args.len (drop args.start pre.1.1)
-    (omega (arith, length-drop args.start pre.1.1, w.inside)) in
+    let w = pre.fileable.2.1.1 in
+    let line : length (take args.len (drop args.start pre.fileable.1)) ≡ args.len
+    = length-take-le args.len (drop args.start pre.fileable.1)
+    (omega (arith, length-drop args.start pre.fileable.1, w.inside)) in
     let less : args.dues.theirs ≤ args.fill.used - had.result + args.len =
-    dues_less pre.1.0 args.dues args.index.now args.text.now pre.1.1 _ args.heads.now
-    args.next.now pre.1.2.0
-    args.fill args.key args.start args.len pre.1.2.1.0 pre.1.2.1.1 pre.0
-    put.ensures.0.1 _ put.ensures.0.0
-    put.result put.ensures.1.0.0 (put.ensures.1.0.1 (omega arith)) had.result had.ensures in
+    dues_less pre.fileable.0 args.dues args.index.now args.text.now pre.fileable.1 _ args.heads.now
+    args.next.now pre.fileable.2.0
+    args.fill args.key args.start args.len pre.fileable.2.1.0 pre.fileable.2.1.1 pre.count_lt_rows_max
+    put.ensures.rows_after.1 _ put.ensures.rows_after.0
+    put.result put.ensures.sought.0 (put.ensures.sought.1 (omega arith)) had.result had.ensures in
     let most : args.fill.used - had.result + args.len ≤ 131070
     = omega (
       arith,
@@ -76,7 +76,10 @@ claimed-requires c =
       w.shape.most,
       line,
     ) in
-    ((less, most), (w.owed.others_most, w.owed.share_most))
+    record {
+      theirs_le_used = (less, most);
+      others_bound = (w.owed.others_most, w.owed.share_most);
+    }
 
 pub returns-then-text-claimed : goal.returns-then-text-claimed
 returns-then-text-claimed c =
@@ -88,14 +91,14 @@ returns-then-text-claimed c =
     let all = c.claimed in
     λ g s old hs w.
     files_text g args.dues args.index.now args.text.now s _ args.heads.now args.next.now old
-    args.fill args.key args.start args.len hs w pre.0 put.ensures.0.1 _ put.ensures.0.0
-    put.result put.ensures.1.0.0 (put.ensures.1.0.1 (omega arith)) had.result had.ensures
+    args.fill args.key args.start args.len hs w pre.count_lt_rows_max put.ensures.rows_after.1 _ put.ensures.rows_after.0
+    put.result put.ensures.sought.0 (put.ensures.sought.1 (omega arith)) had.result had.ensures
     ends.result ends.ensures _ _ (omega (arith, c.if-index-end.false)) all.result
     all.ensures
     c.if-text-claimed.true c.told_room-then-text-claimed.result c.told_room-then-text-claimed.ensures
 
 pub strike_before-requires : goal.strike_before-requires
-strike_before-requires c = omega (arith, c.add_row-r.ensures.1.0.1 (omega arith))
+strike_before-requires c = omega (arith, c.add_row-r.ensures.sought.1 (omega arith))
 
 pub returns : goal.returns
 returns c =
@@ -107,8 +110,8 @@ returns c =
     let all = c.claimed in
     λ g s old hs w.
     files_fit g args.dues args.index.now args.text.now s _ args.heads.now args.next.now old
-    args.fill args.key args.start args.len hs w pre.0 put.ensures.0.1 _ put.ensures.0.0
-    put.result put.ensures.1.0.0 (put.ensures.1.0.1 (omega arith)) had.result had.ensures
+    args.fill args.key args.start args.len hs w pre.count_lt_rows_max put.ensures.rows_after.1 _ put.ensures.rows_after.0
+    put.result put.ensures.sought.0 (put.ensures.sought.1 (omega arith)) had.result had.ensures
     ends.result ends.ensures _ _ (omega (arith, c.if-index-end.false)) all.result all.ensures
-    (omega (arith, c.if-text-claimed.false)) put.ensures.1.1 _ c.strike_before.ensures
+    (omega (arith, c.if-text-claimed.false)) put.ensures.chained_2 _ c.strike_before.ensures
     c.told_room-2.result c.told_room-2.ensures
