@@ -1,7 +1,7 @@
 // Arguments of the command line that several commands take.
+use crate::console::{Console, argument, argument_count};
 use crate::fields::before;
 use crate::files::arg_space;
-use crate::system::{argument, argument_count};
 use text::bytes::same_bytes;
 
 // Whether an argument names a party.
@@ -10,18 +10,18 @@ pub fn is_party(arg: &[u8]) -> bool {
 }
 
 // Whether argument `i` is that word.
-fn is_word(rt: &HostRuntime, word: &[u8], i: usize) -> bool {
+fn is_word(console: &Console, word: &[u8], i: usize) -> bool {
     let mut space = arg_space();
-    let n = argument(rt, i, &mut space);
+    let n = argument(console, i, &mut space);
     same_bytes(&space[..n], word)
 }
 
 // Whether an argument from `from` on is that word.
-pub fn has_word(rt: &HostRuntime, word: &[u8], from: usize) -> bool {
-    let count = argument_count(rt);
+pub fn has_word(console: &Console, word: &[u8], from: usize) -> bool {
+    let count = argument_count(console);
     let mut i = from;
     while i < count {
-        if is_word(rt, word, i) {
+        if is_word(console, word, i) {
             return true;
         }
         i += 1;

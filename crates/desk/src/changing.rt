@@ -1,15 +1,14 @@
 // How a store is changed. The script `hub` holds the lock of the store's folder while a command that changes it runs.
 // The new store is written into STORE.new, the one that it takes the place of into STORE.old.new, and both are synced;
 // then STORE.old.new becomes STORE.old and STORE.new becomes STORE, by a rename each, and the folder is synced. A file
-// of those names that a broken-off hub left is removed first.
+// of those names that a broken-off hub left is removed first. Where the reader of an output has gone, nothing is changed.
 use crate::codes::{CodeParse, parse_code};
+use crate::console::{Console, argument, create_new, open_read, remove_file, rename};
 use crate::fields::first;
 use crate::files::arg_space;
 use crate::say::{DONE, TROUBLE, complain};
 use crate::shown::fail;
-use crate::system::{argument, open_read, path_of};
-use std::fs;
-use std::fs::{File, OpenOptions, Permissions};
+use std::fs::{File, Permissions};
 use std::io::{Error, Result, Write};
 use std::os::unix::fs::{PermissionsExt, fchown};
 use text::bytes::{same_bytes, write_bytes};
@@ -44,22 +43,22 @@ pub fn not_held() -> Held {
     }
 }
 
-fn code_arg(rt: &HostRuntime, i: usize) -> CodeParse {
+fn code_arg(console: &Console, i: usize) -> CodeParse {
     let mut space = arg_space();
-    let n = argument(rt, i, &mut space);
+    let n = argument(console, i, &mut space);
     parse_code(&space[..n])
 }
 
 // What the arguments from `at` on say: `locked` or `unlocked`, then mode, owner and group in hexadecimal, or a hyphen
 // for each.
-pub fn held_from(rt: &HostRuntime, at: usize) -> Held {
+pub fn held_from(console: &Console, at: usize) -> Held {
     let mut space = arg_space();
-    let n = argument(rt, at, &mut space);
+    let n = argument(console, at, &mut space);
     let mut held = not_held();
     held.locked = same_bytes(&space[..n], b"locked");
-    let mode = code_arg(rt, std::num::wrapping_add_usize(at, 1));
-    let owner = code_arg(rt, std::num::wrapping_add_usize(at, 2));
-    let group = code_arg(rt, std::num::wrapping_add_usize(at, 3));
+    let mode = code_arg(console, std::num::wrapping_add_usize(at, 1));
+    let owner = code_arg(console, std::num::wrapping_add_usize(at, 2));
+    let group = code_arg(console, std::num::wrapping_add_usize(at, 3));
     if let CodeParse::Parsed(m) = mode {
         if let CodeParse::Parsed(o) = owner {
             if let CodeParse::Parsed(g) = group {
@@ -74,10 +73,10 @@ pub fn held_from(rt: &HostRuntime, at: usize) -> Held {
 }
 
 // Whether a command may change a store: only where the lock is held.
-pub fn may_change(rt: &HostRuntime, held: Held) -> bool {
+pub fn may_change(console: &Console, held: Held) -> bool {
     if !held.locked {
         complain(
-            rt,
+            console,
             b"A store is changed by the script hub, which holds its lock.\n",
         );
     }
@@ -95,36 +94,34 @@ fn named(store: &[u8], ending: &[u8]) -> Path {
     }
 }
 
-fn remove_path(rt: &HostRuntime, path: &[u8]) -> Result<()> {
-    fs::remove_file(rt, path_of(path)?)
-}
-
 // What is not there needs no removal.
-fn remove(rt: &HostRuntime, store: &[u8], ending: &[u8]) {
+fn remove(console: &Console, store: &[u8], ending: &[u8]) {
     let path = named(store, ending);
     let bytes = path.bytes;
-    let _ = remove_path(rt, first(&bytes, path.len));
+    let _ = remove_file(console, first(&bytes, path.len));
 }
 
-fn renamed(rt: &HostRuntime, store: &[u8], from: &[u8], to: &[u8]) -> Result<()> {
+fn renamed(console: &Console, store: &[u8], from: &[u8], to: &[u8]) -> Result<()> {
     let old = named(store, from);
     let old_bytes = old.bytes;
     let new = named(store, to);
     let new_bytes = new.bytes;
-    let old_path = path_of(first(&old_bytes, old.len))?;
-    let new_path = path_of(first(&new_bytes, new.len))?;
-    fs::rename(rt, old_path, new_path)
+    rename(
+        console,
+        first(&old_bytes, old.len),
+        first(&new_bytes, new.len),
+    )
 }
 
 // Owner, group and mode of the file; where the owner can't be given, the group.
-fn keep(rt: &HostRuntime, file: &File, held: Held) -> Result<()> {
+fn keep(console: &Console, file: &File, held: Held) -> Result<()> {
     if !held.kept {
         return Ok(());
     }
     let owned = fchown(file, Some(held.owner), Some(held.group));
     if owned.is_err() {
         complain(
-            rt,
+            console,
             b"The store's owner can't be kept: the new store is yours.\n",
         );
         let _ = fchown(file, None, Some(held.group));
@@ -132,46 +129,46 @@ fn keep(rt: &HostRuntime, file: &File, held: Held) -> Result<()> {
     file.set_permissions(Permissions::from_mode(held.mode))
 }
 
-fn fill(rt: &HostRuntime, mut file: File, held: Held, index: &[u8], text: &[u8]) -> Result<()> {
-    keep(rt, &file, held)?;
+fn fill(console: &Console, mut file: File, held: Held, index: &[u8], text: &[u8]) -> Result<()> {
+    keep(console, &file, held)?;
     file.write_all(index)?;
     file.write_all(text)?;
     file.sync_all()
 }
 
-// A new file, where there is none of that name.
-fn create(rt: &HostRuntime, path: &[u8]) -> Result<File> {
-    let mut options = OpenOptions::new();
-    options.write(true).create_new(true);
-    options.open(rt, path_of(path)?)
-}
-
 // Writes a store beside the store.
 fn written(
-    rt: &HostRuntime,
+    console: &Console,
     store: &[u8],
     ending: &[u8],
     held: Held,
     index: &[u8],
     text: &[u8],
 ) -> Result<()> {
-    remove(rt, store, ending);
+    remove(console, store, ending);
     let path = named(store, ending);
     let bytes = path.bytes;
-    let file = create(rt, first(&bytes, path.len))?;
-    fill(rt, file, held, index, text)
+    let file = create_new(console, first(&bytes, path.len))?;
+    fill(console, file, held, index, text)
 }
 
 // Says why the store could not be written, and leaves nothing beside it.
-fn unwritten(rt: &HostRuntime, store: &[u8], error: Error) -> u8 {
-    fail(rt, store, error);
+fn unwritten(console: &Console, store: &[u8], error: Error) -> u8 {
+    fail(console, store, error);
     complain(
-        rt,
+        console,
         b"The new store could not be written; the store is as it was.\n",
     );
-    remove(rt, store, b".new");
-    remove(rt, store, b".old.new");
+    remove(console, store, b".new");
+    remove(console, store, b".old.new");
     TROUBLE
+}
+
+fn changed(console: &Console, store: &[u8], done: Result<()>) -> u8 {
+    match done {
+        Ok(()) => DONE,
+        Err(error) => unwritten(console, store, error),
+    }
 }
 
 // The length of the folder's path: up to the last slash.
@@ -187,28 +184,41 @@ fn folder_len(path: &[u8]) -> usize {
     len
 }
 
-fn sync(rt: &HostRuntime, folder: &[u8]) -> Result<()> {
-    open_read(rt, folder)?.sync_all()
+fn sync(console: &Console, folder: &[u8]) -> Result<()> {
+    open_read(console, folder)?.sync_all()
 }
 
 // A folder that can't be synced is left to the system.
-fn sync_folder(rt: &HostRuntime, store: &[u8]) {
+fn sync_folder(console: &Console, store: &[u8]) {
     let len = folder_len(store);
     if len == 0 {
-        let _ = sync(rt, b".");
+        let _ = sync(console, b".");
         return;
     }
-    let _ = sync(rt, first(store, len));
+    let _ = sync(console, first(store, len));
 }
 
-fn place_new(rt: &HostRuntime, store: &[u8]) -> Result<()> {
-    renamed(rt, store, b".new", b"")?;
-    sync_folder(rt, store);
+fn place_new(console: &Console, store: &[u8]) -> Result<()> {
+    renamed(console, store, b".new", b"")?;
+    sync_folder(console, store);
     Ok(())
 }
 
+fn place_all(console: &Console, store: &[u8], held: Held, index: &[u8], text: &[u8]) -> Result<()> {
+    written(console, store, b".new", held, index, text)?;
+    place_new(console, store)
+}
+
+// Puts a store where there is none.
+pub fn place(console: &Console, store: &[u8], held: Held, index: &[u8], text: &[u8]) -> u8 {
+    if console.is_closed() {
+        return TROUBLE;
+    }
+    changed(console, store, place_all(console, store, held, index, text))
+}
+
 fn replace_all(
-    rt: &HostRuntime,
+    console: &Console,
     store: &[u8],
     held: Held,
     former_index: &[u8],
@@ -216,32 +226,15 @@ fn replace_all(
     index: &[u8],
     text: &[u8],
 ) -> Result<()> {
-    written(rt, store, b".new", held, index, text)?;
-    written(rt, store, b".old.new", held, former_index, former_text)?;
-    renamed(rt, store, b".old.new", b".old")?;
-    place_new(rt, store)
-}
-
-fn changed(rt: &HostRuntime, store: &[u8], done: Result<()>) -> u8 {
-    match done {
-        Ok(()) => DONE,
-        Err(error) => unwritten(rt, store, error),
-    }
-}
-
-fn place_all(rt: &HostRuntime, store: &[u8], held: Held, index: &[u8], text: &[u8]) -> Result<()> {
-    written(rt, store, b".new", held, index, text)?;
-    place_new(rt, store)
-}
-
-// Puts a store where there is none.
-pub fn place(rt: &HostRuntime, store: &[u8], held: Held, index: &[u8], text: &[u8]) -> u8 {
-    changed(rt, store, place_all(rt, store, held, index, text))
+    written(console, store, b".new", held, index, text)?;
+    written(console, store, b".old.new", held, former_index, former_text)?;
+    renamed(console, store, b".old.new", b".old")?;
+    place_new(console, store)
 }
 
 // Puts a store in the place of a former one, which is kept as STORE.old.
 pub fn replace(
-    rt: &HostRuntime,
+    console: &Console,
     store: &[u8],
     held: Held,
     former_index: &[u8],
@@ -254,16 +247,19 @@ pub fn replace(
             return DONE;
         }
     }
+    if console.is_closed() {
+        return TROUBLE;
+    }
     changed(
-        rt,
+        console,
         store,
-        replace_all(rt, store, held, former_index, former_text, index, text),
+        replace_all(console, store, held, former_index, former_text, index, text),
     )
 }
 
 // Reads STORE.old.
-pub fn load_old(rt: &HostRuntime, store: &[u8], index: &mut [u8], text: &mut [u8]) -> u8 {
+pub fn load_old(console: &Console, store: &[u8], index: &mut [u8], text: &mut [u8]) -> u8 {
     let path = named(store, b".old");
     let bytes = path.bytes;
-    crate::files::load(rt, first(&bytes, path.len), index, text)
+    crate::files::load(console, first(&bytes, path.len), index, text)
 }

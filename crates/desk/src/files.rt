@@ -1,9 +1,9 @@
 // Files that are read: a store is the index and then the text, HALF bytes each.
 ghost use Rattle.std.specs.Prelude.{◌≡◌, length};
 
+use crate::console::{Console, no_error, open_read};
 use crate::say::{DONE, TROUBLE, complain};
 use crate::shown::{complain_shown, fail};
-use crate::system::{no_error, open_read};
 use crate::words::refused_file;
 use std::fs::File;
 use std::io::{Error, ErrorKind, Read};
@@ -93,91 +93,91 @@ pub enum List {
     Failed,
 }
 
-fn unread(rt: &HostRuntime, path: &[u8], error: Error) -> List {
-    fail(rt, path, error);
+fn unread(console: &Console, path: &[u8], error: Error) -> List {
+    fail(console, path, error);
     List::Failed
 }
 
 // What is read of an open list is all of it.
-fn whole_list(rt: &HostRuntime, path: &[u8], file: &mut File, n: usize) -> List {
+fn whole_list(console: &Console, path: &[u8], file: &mut File, n: usize) -> List {
     let rest = more(file);
     match rest {
         Got::Bytes(over) => {
             if over == 0 {
                 return List::Read(n);
             }
-            complain_shown(rt, path);
-            complain(rt, b": a list may have at most 1048576 bytes\n");
+            complain_shown(console, path);
+            complain(console, b": a list may have at most 1048576 bytes\n");
             List::Failed
         }
-        Got::Failed(error) => unread(rt, path, error),
+        Got::Failed(error) => unread(console, path, error),
     }
 }
 
-fn read_open(rt: &HostRuntime, path: &[u8], mut file: File, space: &mut [u8]) -> List {
+fn read_open(console: &Console, path: &[u8], mut file: File, space: &mut [u8]) -> List {
     let got = read_all(&mut file, space);
     match got {
-        Got::Bytes(n) => whole_list(rt, path, &mut file, n),
-        Got::Failed(error) => unread(rt, path, error),
+        Got::Bytes(n) => whole_list(console, path, &mut file, n),
+        Got::Failed(error) => unread(console, path, error),
     }
 }
 
 // Reads a list. What does not fit, or can't be read, is said.
-pub fn read_list(rt: &HostRuntime, path: &[u8], space: &mut [u8]) -> List {
-    match open_read(rt, path) {
-        Ok(file) => read_open(rt, path, file, space),
-        Err(error) => unread(rt, path, error),
+pub fn read_list(console: &Console, path: &[u8], space: &mut [u8]) -> List {
+    match open_read(console, path) {
+        Ok(file) => read_open(console, path, file, space),
+        Err(error) => unread(console, path, error),
     }
 }
 
 // Whether so many bytes were read, or 19, or trouble.
-fn load_status(rt: &HostRuntime, path: &[u8], got: Got, len: usize) -> u8 {
+fn load_status(console: &Console, path: &[u8], got: Got, len: usize) -> u8 {
     match got {
         Got::Bytes(n) => {
             if n == len {
                 return DONE;
             }
-            refused_file(rt, path)
+            refused_file(console, path)
         }
         Got::Failed(error) => {
-            fail(rt, path, error);
+            fail(console, path, error);
             TROUBLE
         }
     }
 }
 
 fn load_halves(
-    rt: &HostRuntime,
+    console: &Console,
     path: &[u8],
     mut file: File,
     index: &mut [u8],
     text: &mut [u8],
 ) -> u8 {
-    let status = load_status(rt, path, read_all(&mut file, index), HALF);
+    let status = load_status(console, path, read_all(&mut file, index), HALF);
     if status != DONE {
         return status;
     }
-    let status = load_status(rt, path, read_all(&mut file, text), HALF);
+    let status = load_status(console, path, read_all(&mut file, text), HALF);
     if status != DONE {
         return status;
     }
-    load_status(rt, path, more(&mut file), 0)
+    load_status(console, path, more(&mut file), 0)
 }
 
 // Reads a store file into the two buffers, which have HALF bytes each.
-pub fn load(rt: &HostRuntime, path: &[u8], index: &mut [u8], text: &mut [u8]) -> u8 {
-    match open_read(rt, path) {
-        Ok(file) => load_halves(rt, path, file, index, text),
+pub fn load(console: &Console, path: &[u8], index: &mut [u8], text: &mut [u8]) -> u8 {
+    match open_read(console, path) {
+        Ok(file) => load_halves(console, path, file, index, text),
         Err(error) => {
-            fail(rt, path, error);
+            fail(console, path, error);
             TROUBLE
         }
     }
 }
 
 // Whether there is a file of that name, or something that can't be opened.
-pub fn stands(rt: &HostRuntime, path: &[u8]) -> bool {
-    match open_read(rt, path) {
+pub fn stands(console: &Console, path: &[u8]) -> bool {
+    match open_read(console, path) {
         Ok(_) => true,
         Err(error) => error.kind() != ErrorKind::NotFound,
     }

@@ -4,6 +4,7 @@
 pub mod arguments;
 pub mod changing;
 pub mod codes;
+pub mod console;
 pub mod fields;
 pub mod files;
 pub mod forms;
@@ -15,6 +16,5 @@ pub mod say;
 pub mod shown;
 pub mod streams;
 pub mod suggest;
-pub mod system;
 pub mod tally;
 pub mod words;

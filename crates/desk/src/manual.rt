@@ -1,10 +1,11 @@
 // What `hub help COMMAND` says. Each function answers whether the command is one of its own.
+use crate::console::Console;
 use crate::say::put;
 use text::bytes::same_bytes;
 
-fn put_insert(rt: &HostRuntime, fd: i32) {
+fn put_insert(console: &Console, fd: i32) {
     put(
-        rt,
+        console,
         fd,
         b"hub insert STORE FILE [party=NUMBER]
   Files the lines of a list of at most 1048576 bytes; lines end at LF or CR LF. A line is
@@ -24,10 +25,10 @@ fn put_insert(rt: &HostRuntime, fd: i32) {
 }
 
 // The commands that change a store, but for save.
-pub fn put_filing(rt: &HostRuntime, fd: i32, command: &[u8]) -> bool {
+pub fn put_filing(console: &Console, fd: i32, command: &[u8]) -> bool {
     if same_bytes(command, b"new") {
         put(
-            rt,
+            console,
             fd,
             b"hub new STORE
   Makes a fresh store file, which holds no line: 131070 bytes, all 0.
@@ -37,12 +38,12 @@ pub fn put_filing(rt: &HostRuntime, fd: i32, command: &[u8]) -> bool {
         return true;
     }
     if same_bytes(command, b"insert") {
-        put_insert(rt, fd);
+        put_insert(console, fd);
         return true;
     }
     if same_bytes(command, b"clear") {
         put(
-            rt,
+            console,
             fd,
             b"hub clear STORE
   Empties the store, the hall's lines and the organisers', and drops the shares, whether it was
@@ -54,7 +55,7 @@ pub fn put_filing(rt: &HostRuntime, fd: i32, command: &[u8]) -> bool {
     }
     if same_bytes(command, b"undo") {
         put(
-            rt,
+            console,
             fd,
             b"hub undo STORE
   Brings back the store as it was before the last command that changed it: each such command
@@ -68,10 +69,10 @@ pub fn put_filing(rt: &HostRuntime, fd: i32, command: &[u8]) -> bool {
 }
 
 // The commands that look into a store.
-pub fn put_holding(rt: &HostRuntime, fd: i32, command: &[u8]) -> bool {
+pub fn put_holding(console: &Console, fd: i32, command: &[u8]) -> bool {
     if same_bytes(command, b"find") {
         put(
-            rt,
+            console,
             fd,
             b"hub find STORE UUID [party=NUMBER]
   Prints the line held under that UUID, or says 'none'. A UUID has 32 hexadecimal digits, or
@@ -86,7 +87,7 @@ pub fn put_holding(rt: &HostRuntime, fd: i32, command: &[u8]) -> bool {
     }
     if same_bytes(command, b"list") {
         put(
-            rt,
+            console,
             fd,
             b"hub list STORE
   Prints the lines held, in the order in which they were filed, and the room left, beside the
@@ -98,7 +99,7 @@ pub fn put_holding(rt: &HostRuntime, fd: i32, command: &[u8]) -> bool {
     }
     if same_bytes(command, b"check") {
         put(
-            rt,
+            console,
             fd,
             b"hub check STORE
   Says that the store is sound, how many lines it holds and which room is left, and where a share
@@ -111,10 +112,10 @@ pub fn put_holding(rt: &HostRuntime, fd: i32, command: &[u8]) -> bool {
 }
 
 // The commands on the parties' shares.
-pub fn put_sharing(rt: &HostRuntime, fd: i32, command: &[u8]) -> bool {
+pub fn put_sharing(console: &Console, fd: i32, command: &[u8]) -> bool {
     if same_bytes(command, b"share") {
         put(
-            rt,
+            console,
             fd,
             b"hub share STORE PARTY BYTES
   Gives a party a share of the text, which others can't fill: PARTY is 'hall' or a league
@@ -130,7 +131,7 @@ pub fn put_sharing(rt: &HostRuntime, fd: i32, command: &[u8]) -> bool {
     }
     if same_bytes(command, b"shares") {
         put(
-            rt,
+            console,
             fd,
             b"hub shares STORE
   Says of each party that has lines or a share how many bytes of the text it uses, its share, and
@@ -142,9 +143,9 @@ pub fn put_sharing(rt: &HostRuntime, fd: i32, command: &[u8]) -> bool {
     false
 }
 
-fn put_save(rt: &HostRuntime, fd: i32) {
+fn put_save(console: &Console, fd: i32) {
     put(
-        rt,
+        console,
         fd,
         b"hub save STORE UUID NAME buttons=CODES axes=CODES ELEMENT=CODE .. [party=NUMBER] [anyway]
   Builds a mapping line for the pad and files it; prints the line and its map, and where it
@@ -172,9 +173,9 @@ fn put_save(rt: &HostRuntime, fd: i32) {
     );
 }
 
-fn put_test(rt: &HostRuntime, fd: i32) {
+fn put_test(console: &Console, fd: i32) {
     put(
-        rt,
+        console,
         fd,
         b"hub test STORE UUID buttons=CODES axes=CODES [party=NUMBER] from=FILE [after=N:UUID ..]
          [with=FILE [uuid2=UUID] [buttons2=CODES] [axes2=CODES] [after2=N:UUID ..]]
@@ -207,14 +208,14 @@ fn put_test(rt: &HostRuntime, fd: i32) {
 }
 
 // The commands on mappings.
-pub fn put_mappings(rt: &HostRuntime, fd: i32, command: &[u8]) -> bool {
+pub fn put_mappings(console: &Console, fd: i32, command: &[u8]) -> bool {
     if same_bytes(command, b"save") {
-        put_save(rt, fd);
+        put_save(console, fd);
         return true;
     }
     if same_bytes(command, b"show") {
         put(
-            rt,
+            console,
             fd,
             b"hub show STORE UUID buttons=CODES axes=CODES [party=NUMBER]
   Reads the line held under that UUID with the pad's codes, and prints it with its map: each
@@ -227,12 +228,12 @@ pub fn put_mappings(rt: &HostRuntime, fd: i32, command: &[u8]) -> bool {
         return true;
     }
     if same_bytes(command, b"test") {
-        put_test(rt, fd);
+        put_test(console, fd);
         return true;
     }
     if same_bytes(command, b"default") {
         put(
-            rt,
+            console,
             fd,
             b"hub default buttons=CODES axes=CODES
   Prints the map that a pad with these codes gets where no line is held for it.
@@ -247,10 +248,10 @@ hub default layout [--csv]
 }
 
 // The commands that need no store.
-pub fn put_others(rt: &HostRuntime, fd: i32, command: &[u8]) -> bool {
+pub fn put_others(console: &Console, fd: i32, command: &[u8]) -> bool {
     if same_bytes(command, b"lint") {
         put(
-            rt,
+            console,
             fd,
             b"hub lint FILE
   Reads every line of a list of at most 1048576 bytes, and shows each refused one, up to 1000,
@@ -265,7 +266,7 @@ pub fn put_others(rt: &HostRuntime, fd: i32, command: &[u8]) -> bool {
     }
     if same_bytes(command, b"demo") {
         put(
-            rt,
+            console,
             fd,
             b"hub demo
   Shows the main job on a small list: a fresh store, insert, save, find, read back. The
@@ -276,7 +277,7 @@ pub fn put_others(rt: &HostRuntime, fd: i32, command: &[u8]) -> bool {
     }
     if same_bytes(command, b"help") {
         put(
-            rt,
+            console,
             fd,
             b"hub help [COMMAND]
   Lists the commands, or says more about one; so do 'hub --help' and 'hub COMMAND --help'.

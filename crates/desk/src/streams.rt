@@ -1,10 +1,10 @@
 // Recordings that are open, one or two, taken record by record in the order of their times. Each keeps its own order,
 // also where its times go backwards.
+use crate::console::{Console, open_read};
 use crate::fields::{after, before};
 use crate::input_events::{Input, NextInput, is_before, next_input};
 use crate::say::{DONE, ERR, TROUBLE, complain, put_number};
 use crate::shown::{complain_shown, fail};
-use crate::system::open_read;
 use std::fs::File;
 use std::io::Error;
 
@@ -32,20 +32,20 @@ pub fn no_stream() -> Stream {
 }
 
 // The recording that an argument names; what can't be opened is said.
-pub fn open_stream(rt: &HostRuntime, arg: &[u8]) -> Stream {
+pub fn open_stream(console: &Console, arg: &[u8]) -> Stream {
     let path = after(arg, b'=');
     if path.len() == 0 {
-        complain_shown(rt, before(arg, b'='));
-        complain(rt, b"=: no file is named\n");
+        complain_shown(console, before(arg, b'='));
+        complain(console, b"=: no file is named\n");
         return no_stream();
     }
-    match open_read(rt, path) {
+    match open_read(console, path) {
         Ok(file) => Stream {
             file: Some(file),
             next: NextInput::End,
         },
         Err(error) => {
-            fail(rt, path, error);
+            fail(console, path, error);
             no_stream()
         }
     }
@@ -117,26 +117,29 @@ pub fn turn_of(first: &Stream, second: &Stream) -> Turn {
     }
 }
 
-fn complain_cut(rt: &HostRuntime, path: &[u8], left: usize) -> u8 {
-    complain_shown(rt, path);
-    complain(rt, b": a record has 24 bytes, and the last one only ");
-    put_number(rt, ERR, left);
-    complain(rt, b"; such a file is no whole recording of input events\n");
+fn complain_cut(console: &Console, path: &[u8], left: usize) -> u8 {
+    complain_shown(console, path);
+    complain(console, b": a record has 24 bytes, and the last one only ");
+    put_number(console, ERR, left);
+    complain(
+        console,
+        b"; such a file is no whole recording of input events\n",
+    );
     TROUBLE
 }
 
-fn complain_failed(rt: &HostRuntime, path: &[u8], error: Error) -> u8 {
-    fail(rt, path, error);
+fn complain_failed(console: &Console, path: &[u8], error: Error) -> u8 {
+    fail(console, path, error);
     TROUBLE
 }
 
 // Says where the recording that an argument names ends inside a record, or can't be read on.
-pub fn end_status(rt: &HostRuntime, stream: &Stream, arg: &[u8]) -> u8 {
+pub fn end_status(console: &Console, stream: &Stream, arg: &[u8]) -> u8 {
     let path = after(arg, b'=');
     let next = stream.next;
     match next {
-        NextInput::Cut(left) => complain_cut(rt, path, left),
-        NextInput::Failed(error) => complain_failed(rt, path, error),
+        NextInput::Cut(left) => complain_cut(console, path, left),
+        NextInput::Failed(error) => complain_failed(console, path, error),
         _ => DONE,
     }
 }

@@ -1,16 +1,17 @@
 // Refusals in words: document 01's number, what it means, and what it is about. bindings/declared holds these words to those of
 // the header and of the Rust crate.
+use crate::console::Console;
 use crate::fields::nth_part;
 use crate::say::{ERR, REFUSED, complain, put, put_code, put_number};
 use crate::shown::complain_shown;
 
 // `refused 21: no room in the index`
-pub fn put_refused(rt: &HostRuntime, fd: i32, number: usize) {
-    put(rt, fd, b"refused ");
-    put_number(rt, fd, number);
-    put(rt, fd, b": ");
+pub fn put_refused(console: &Console, fd: i32, number: usize) {
+    put(console, fd, b"refused ");
+    put_number(console, fd, number);
+    put(console, fd, b": ");
     put(
-        rt,
+        console,
         fd,
         nth_part(
             b"\nthe first field is no UUID
@@ -46,51 +47,51 @@ more than 256 codes held by a pad",
     );
 }
 
-pub fn put_place(rt: &HostRuntime, fd: i32, place: usize) {
-    put(rt, fd, b" (place ");
-    put_number(rt, fd, place);
-    put(rt, fd, b")\n");
+pub fn put_place(console: &Console, fd: i32, place: usize) {
+    put(console, fd, b" (place ");
+    put_number(console, fd, place);
+    put(console, fd, b")\n");
 }
 
-pub fn refused(rt: &HostRuntime, number: usize) -> u8 {
-    put_refused(rt, ERR, number);
-    complain(rt, b"\n");
+pub fn refused(console: &Console, number: usize) -> u8 {
+    put_refused(console, ERR, number);
+    complain(console, b"\n");
     if number == 24 {
         complain(
-            rt,
+            console,
             b"  name an organiser, party=1 to party=255, or leave party= out: then it is the hall's line\n",
         );
     }
     REFUSED
 }
 
-pub fn refused_at(rt: &HostRuntime, number: usize, place: usize) -> u8 {
-    put_refused(rt, ERR, number);
-    put_place(rt, ERR, place);
+pub fn refused_at(console: &Console, number: usize, place: usize) -> u8 {
+    put_refused(console, ERR, number);
+    put_place(console, ERR, place);
     REFUSED
 }
 
-pub fn refused_code(rt: &HostRuntime, number: usize, code: u32) -> u8 {
-    put_refused(rt, ERR, number);
-    complain(rt, b" (code ");
-    put_code(rt, ERR, code);
-    complain(rt, b")\n");
+pub fn refused_code(console: &Console, number: usize, code: u32) -> u8 {
+    put_refused(console, ERR, number);
+    complain(console, b" (code ");
+    put_code(console, ERR, code);
+    complain(console, b")\n");
     REFUSED
 }
 
-pub fn refused_file(rt: &HostRuntime, path: &[u8]) -> u8 {
-    put_refused(rt, ERR, 19);
-    complain(rt, b" (");
-    complain_shown(rt, path);
+pub fn refused_file(console: &Console, path: &[u8]) -> u8 {
+    put_refused(console, ERR, 19);
+    complain(console, b" (");
+    complain_shown(console, path);
     complain(
-        rt,
+        console,
         b" has not the 131070 bytes of a store file, and is left alone)\n",
     );
     REFUSED
 }
 
 // Nothing was found.
-pub fn none(rt: &HostRuntime) -> u8 {
-    complain(rt, b"none\n");
+pub fn none(console: &Console) -> u8 {
+    complain(console, b"none\n");
     REFUSED
 }

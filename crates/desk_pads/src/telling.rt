@@ -5,6 +5,7 @@ use crate::playing::{Play, say_element, say_pad, seat_of, with_seat};
 use crate::reports::{RawEvent, Report, report_of};
 use crate::values::{put_signed, put_value};
 use desk::codes::KEY;
+use desk::console::Console;
 use desk::input_events::Input;
 use desk::say::{OUT, put_code, say};
 use desk::tally::{Tally, more};
@@ -17,52 +18,52 @@ use pad::two::Which;
 use pad::value::{ElementValue, Emitted, entry_value, event};
 
 // `10130 pressed: `, `30000 -12: `
-fn say_raw(rt: &HostRuntime, code: Code, raw: Raw) {
-    put_code(rt, OUT, code.0);
+fn say_raw(console: &Console, code: Code, raw: Raw) {
+    put_code(console, OUT, code.0);
     match raw {
-        Raw::ButtonReleased => say(rt, b" released: "),
-        Raw::ButtonPressed => say(rt, b" pressed: "),
+        Raw::ButtonReleased => say(console, b" released: "),
+        Raw::ButtonPressed => say(console, b" pressed: "),
         Raw::AxisValueChanged(v) => {
-            say(rt, b" ");
-            put_value(rt, OUT, v);
-            say(rt, b": ");
+            say(console, b" ");
+            put_value(console, OUT, v);
+            say(console, b": ");
         }
     }
 }
 
 // What holds the element of a code whose raw value gives none.
-fn say_without(rt: &HostRuntime, play: Play, which: Which, element: AxisOrBtn, value: i16) {
+fn say_without(console: &Console, play: Play, which: Which, element: AxisOrBtn, value: i16) {
     if value == 0 {
-        say(rt, b", since it has no value there");
+        say(console, b", since it has no value there");
         return;
     }
-    say_held_by(rt, play, which, element, value);
+    say_held_by(console, play, which, element, value);
 }
 
 // `South (a) 32767`, and what holds it there, where it is not the code itself.
-fn say_told(rt: &HostRuntime, play: Play, which: Which, e: RawEvent, told: Event) {
+fn say_told(console: &Console, play: Play, which: Which, e: RawEvent, told: Event) {
     let element = told.element;
     let value = told.value;
     let seat = seat_of(play, which);
     let map = seat.map;
     let code = e.code;
     let raw = e.raw;
-    say_element(rt, element, value);
+    say_element(console, element, value);
     let given = event(map, code, raw);
     match given {
         Emitted::Is(own) => {
             if own.value != value {
-                say_held_by(rt, play, which, element, value);
+                say_held_by(console, play, which, element, value);
             }
         }
-        Emitted::Nothing => say_without(rt, play, which, element, value),
+        Emitted::Nothing => say_without(console, play, which, element, value),
     }
-    say(rt, b"\n");
+    say(console, b"\n");
 }
 
 // An element that a code gives a value, and that has its value already or has another one.
 fn say_kept(
-    rt: &HostRuntime,
+    console: &Console,
     play: Play,
     which: Which,
     element: AxisOrBtn,
@@ -70,26 +71,29 @@ fn say_kept(
     given: i16,
 ) {
     if given == value {
-        say(rt, b" is at ");
-        put_value(rt, OUT, value);
-        say(rt, b" already\n");
+        say(console, b" is at ");
+        put_value(console, OUT, value);
+        say(console, b" already\n");
         return;
     }
-    say(rt, b" keeps ");
-    put_value(rt, OUT, value);
-    say(rt, b": ");
-    say_reason(rt, play, which, element, value, given);
-    say(rt, b"\n");
+    say(console, b" keeps ");
+    put_value(console, OUT, value);
+    say(console, b": ");
+    say_reason(console, play, which, element, value, given);
+    say(console, b"\n");
 }
 
 // Why a raw event of a code in the map gives none.
-fn with_kept(rt: &HostRuntime, play: Play, which: Which, e: Entry, raw: Raw) -> Tally {
+fn with_kept(console: &Console, play: Play, which: Which, e: Entry, raw: Raw) -> Tally {
     let element = e.element;
     let mut tally = play.tally;
-    say(rt, b"no event: ");
-    put_element(rt, OUT, element);
+    say(console, b"no event: ");
+    put_element(console, OUT, element);
     if is_left_out(element) {
-        say(rt, b" is left out, since only known elements have events\n");
+        say(
+            console,
+            b" is left out, since only known elements have events\n",
+        );
         tally.left_out = more(tally.left_out);
         return tally;
     }
@@ -98,13 +102,13 @@ fn with_kept(rt: &HostRuntime, play: Play, which: Which, e: Entry, raw: Raw) -> 
     let given = entry_value(e, raw);
     match given {
         ElementValue::Is(v) => {
-            say_kept(rt, play, which, element, value, v);
+            say_kept(console, play, which, element, value, v);
             tally.kept = more(tally.kept);
         }
         ElementValue::Nothing => {
-            say(rt, b" has no value there, and keeps ");
-            put_value(rt, OUT, value);
-            say(rt, b"\n");
+            say(console, b" has no value there, and keeps ");
+            put_value(console, OUT, value);
+            say(console, b"\n");
             tally.valueless = more(tally.valueless);
         }
     }
@@ -112,16 +116,19 @@ fn with_kept(rt: &HostRuntime, play: Play, which: Which, e: Entry, raw: Raw) -> 
 }
 
 // Why a raw event gives none.
-fn with_none(rt: &HostRuntime, play: Play, which: Which, e: RawEvent) -> Tally {
+fn with_none(console: &Console, play: Play, which: Which, e: RawEvent) -> Tally {
     let seat = seat_of(play, which);
     let map = seat.map;
     let code = e.code;
     let raw = e.raw;
     let entered = map.entry(code);
     match entered {
-        Entered::Is(entry) => with_kept(rt, play, which, entry, raw),
+        Entered::Is(entry) => with_kept(console, play, which, entry, raw),
         Entered::Absent => {
-            say(rt, b"no event: the code is not in the map, and is held\n");
+            say(
+                console,
+                b"no event: the code is not in the map, and is held\n",
+            );
             let mut tally = play.tally;
             tally.unmapped = more(tally.unmapped);
             tally
@@ -130,32 +137,32 @@ fn with_none(rt: &HostRuntime, play: Play, which: Which, e: RawEvent) -> Tally {
 }
 
 // The event of a raw event that is held, if there is one.
-fn with_held(rt: &HostRuntime, play: Play, which: Which, e: RawEvent, events: Events) -> Tally {
+fn with_held(console: &Console, play: Play, which: Which, e: RawEvent, events: Events) -> Tally {
     if events.count == 0 {
-        return with_none(rt, play, which, e);
+        return with_none(console, play, which, e);
     }
     let list = events.list;
     let told = list[0];
-    say_told(rt, play, which, e, told);
+    say_told(console, play, which, e, told);
     let mut tally = play.tally;
     tally.told = more(tally.told);
     tally
 }
 
 // A code that a pad has no room for.
-fn with_refused(rt: &HostRuntime, play: Play, refusal: Refusal) -> Tally {
-    say(rt, b"no event: ");
-    put_refused(rt, OUT, refusal.number as usize);
-    say(rt, b"\n");
+fn with_refused(console: &Console, play: Play, refusal: Refusal) -> Tally {
+    say(console, b"no event: ");
+    put_refused(console, OUT, refusal.number as usize);
+    say(console, b"\n");
     let mut tally = play.tally;
     tally.refused = more(tally.refused);
     tally
 }
 
-fn with_event(rt: &HostRuntime, play: Play, which: Which, e: RawEvent) -> Play {
+fn with_event(console: &Console, play: Play, which: Which, e: RawEvent) -> Play {
     let code = e.code;
     let raw = e.raw;
-    say_raw(rt, code, raw);
+    say_raw(console, code, raw);
     let pads = play.pads;
     let told = pads.raw_event(which, code, raw);
     let answer = told.answer;
@@ -165,29 +172,29 @@ fn with_event(rt: &HostRuntime, play: Play, which: Which, e: RawEvent) -> Play {
     next.pads = later;
     let outcome = answer.outcome();
     let tally = match outcome {
-        Outcome::Passes => with_held(rt, next, which, e, events),
-        Outcome::Refuses(refusal) => with_refused(rt, next, refusal),
+        Outcome::Passes => with_held(console, next, which, e, events),
+        Outcome::Refuses(refusal) => with_refused(console, next, refusal),
     };
     next.tally = tally;
     next
 }
 
 // `30000 40000: no event: ..`
-fn say_untold(rt: &HostRuntime, code: Code, value: u32, words: &[u8]) {
-    put_code(rt, OUT, code.0);
-    say(rt, b" ");
-    put_signed(rt, OUT, value);
-    say(rt, b": no event: ");
-    say(rt, words);
-    say(rt, b"\n");
+fn say_untold(console: &Console, code: Code, value: u32, words: &[u8]) {
+    put_code(console, OUT, code.0);
+    say(console, b" ");
+    put_signed(console, OUT, value);
+    say(console, b": no event: ");
+    say(console, words);
+    say(console, b"\n");
 }
 
-fn say_beyond(rt: &HostRuntime, code: Code, input: Input) {
+fn say_beyond(console: &Console, code: Code, input: Input) {
     if input.kind as u32 == KEY {
-        say_untold(rt, code, input.value, b"a button's value is 0, 1 or 2");
+        say_untold(console, code, input.value, b"a button's value is 0, 1 or 2");
     } else {
         say_untold(
-            rt,
+            console,
             code,
             input.value,
             b"an axis value is from -32768 to 32767",
@@ -203,20 +210,25 @@ fn with_counted(play: Play, which: Which) -> Play {
 }
 
 // Tells what a record of a button or an axis gives.
-fn with_report(rt: &HostRuntime, play: Play, which: Which, input: Input, report: Report) -> Play {
+fn with_report(console: &Console, play: Play, which: Which, input: Input, report: Report) -> Play {
     let mut next = with_counted(play, which);
     let mut tally = play.tally;
-    say_pad(rt, play, which);
+    say_pad(console, play, which);
     match report {
         Report::Is(e) => {
-            return with_event(rt, next, which, e);
+            return with_event(console, next, which, e);
         }
         Report::Repeats(code) => {
-            say_untold(rt, code, input.value, b"the button is held, and repeats");
+            say_untold(
+                console,
+                code,
+                input.value,
+                b"the button is held, and repeats",
+            );
             tally.repeats = more(tally.repeats);
         }
         Report::Beyond(code) => {
-            say_beyond(rt, code, input);
+            say_beyond(console, code, input);
             tally.beyond = more(tally.beyond);
         }
         Report::Other => {}
@@ -226,7 +238,7 @@ fn with_report(rt: &HostRuntime, play: Play, which: Which, input: Input, report:
 }
 
 // Tells what a record of a pad gives.
-pub fn with_input(rt: &HostRuntime, play: Play, which: Which, input: Input) -> Play {
+pub fn with_input(console: &Console, play: Play, which: Which, input: Input) -> Play {
     let report = report_of(input);
     if let Report::Other = report {
         let mut tally = play.tally;
@@ -235,5 +247,5 @@ pub fn with_input(rt: &HostRuntime, play: Play, which: Which, input: Input) -> P
         next.tally = tally;
         return next;
     }
-    with_report(rt, play, which, input, report)
+    with_report(console, play, which, input, report)
 }

@@ -4,6 +4,7 @@ use crate::holding::room_in;
 use crate::parties::{caller_named, record_of};
 use crate::shares::{complain_claims, free_for};
 use desk::changing::{Held, may_change, replace};
+use desk::console::Console;
 use desk::fields::{bare, before, first, less, line_at};
 use desk::files::{List, half, list_space, load, read_list};
 use desk::forms::say_other_forms;
@@ -19,52 +20,52 @@ use store::parties::Party;
 use text::uuid::{Uuid, UuidParse};
 
 // A line of the report, where there is something to report.
-fn say_some(rt: &HostRuntime, n: usize, words: &[u8]) {
+fn say_some(console: &Console, n: usize, words: &[u8]) {
     if n == 0 {
         return;
     }
-    say(rt, b"  ");
-    say_number(rt, n);
-    say(rt, words);
+    say(console, b"  ");
+    say_number(console, n);
+    say(console, words);
 }
 
-fn say_no_uuid(rt: &HostRuntime, census: Census, list: &[u8]) {
+fn say_no_uuid(console: &Console, census: Census, list: &[u8]) {
     say_some(
-        rt,
+        console,
         census.no_uuid,
         b" whose first field is no UUID; the first is line ",
     );
     if census.no_uuid == 0 {
         return;
     }
-    say_number(rt, census.first_number);
-    say(rt, b": ");
-    put_start(rt, OUT, bare(line_at(list, census.first_at)));
-    say(rt, b"\n");
+    say_number(console, census.first_number);
+    say(console, b": ");
+    put_start(console, OUT, bare(line_at(list, census.first_at)));
+    say(console, b"\n");
 }
 
 // What became of the lines walked; `fresh`: how many more lines are held than before.
-fn say_census(rt: &HostRuntime, census: Census, list: &[u8], count: usize, fresh: usize) {
-    say_number(rt, count);
-    say(rt, b" lines walked, ");
-    say_number(rt, census.wanted);
-    say(rt, b" filed, ");
-    say_number(rt, less(count, census.wanted));
-    say(rt, b" passed over\n");
+fn say_census(console: &Console, census: Census, list: &[u8], count: usize, fresh: usize) {
+    say_number(console, count);
+    say(console, b" lines walked, ");
+    say_number(console, census.wanted);
+    say(console, b" filed, ");
+    say_number(console, less(count, census.wanted));
+    say(console, b" passed over\n");
     say_some(
-        rt,
+        console,
         less(census.wanted, fresh),
         b" of those filed took the place of another line\n",
     );
     say_some(
-        rt,
+        console,
         census.unreadable,
         b" of those filed can't be read: hub lint FILE says why\n",
     );
-    say_some(rt, census.empty, b" empty\n");
-    say_some(rt, census.comments, b" comments\n");
-    say_some(rt, census.elsewhere, b" for other platforms\n");
-    say_no_uuid(rt, census, list);
+    say_some(console, census.empty, b" empty\n");
+    say_some(console, census.comments, b" comments\n");
+    say_some(console, census.elsewhere, b" for other platforms\n");
+    say_no_uuid(console, census, list);
 }
 
 // The bytes of the party's line that one with the same UUID takes the place of.
@@ -96,7 +97,7 @@ fn is_full(number: usize) -> bool {
 // How many bytes a party's line wants, what is free for it, who claims the text where shares are set, and what can be
 // done. It takes the place of a line of `freed` bytes.
 pub fn complain_full(
-    rt: &HostRuntime,
+    console: &Console,
     number: usize,
     wanted: usize,
     freed: usize,
@@ -104,17 +105,21 @@ pub fn complain_full(
     index: &[u8],
     text: &[u8],
 ) {
-    put_number(rt, ERR, wanted);
-    complain(rt, b" bytes wanted; ");
-    put_number(rt, ERR, free_for(rt, index, text, party, freed));
-    complain(rt, b" bytes free, and room for ");
-    put_number(rt, ERR, lines_in(room_in(rt, index, text).index, party));
-    complain(rt, b" more lines\n");
+    put_number(console, ERR, wanted);
+    complain(console, b" bytes wanted; ");
+    put_number(console, ERR, free_for(console, index, text, party, freed));
+    complain(console, b" bytes free, and room for ");
+    put_number(
+        console,
+        ERR,
+        lines_in(room_in(console, index, text).index, party),
+    );
+    complain(console, b" more lines\n");
     if number == 25 {
-        complain_claims(rt, index, text);
+        complain_claims(console, index, text);
     }
     complain(
-        rt,
+        console,
         b"  what can be done: insert a list of only the pads that the hall has, into a fresh store (hub new);
   or keep a second store; or clear this one (hub clear) and insert what is needed. hub list shows what
   is held.\n",
@@ -122,23 +127,23 @@ pub fn complain_full(
 }
 
 // Which line stopped an insert, and how many were not reached.
-fn complain_stop(rt: &HostRuntime, number: usize, list: &[u8], count: usize, line: &[u8]) {
-    put_refused(rt, ERR, number);
-    complain(rt, b"\n  line ");
-    put_number(rt, ERR, wrapping_add_usize(count, 1));
-    complain(rt, b" stopped the insert: ");
-    put_start(rt, ERR, line);
-    complain(rt, b"\n  the lines before it are kept; ");
+fn complain_stop(console: &Console, number: usize, list: &[u8], count: usize, line: &[u8]) {
+    put_refused(console, ERR, number);
+    complain(console, b"\n  line ");
+    put_number(console, ERR, wrapping_add_usize(count, 1));
+    complain(console, b" stopped the insert: ");
+    put_start(console, ERR, line);
+    complain(console, b"\n  the lines before it are kept; ");
     put_number(
-        rt,
+        console,
         ERR,
         less(count_lines(list), wrapping_add_usize(count, 1)),
     );
-    complain(rt, b" lines after it were not reached\n  ");
+    complain(console, b" lines after it were not reached\n  ");
 }
 
 fn stopped(
-    rt: &HostRuntime,
+    console: &Console,
     number: usize,
     list: &[u8],
     count: usize,
@@ -147,20 +152,20 @@ fn stopped(
     party: Party,
 ) -> u8 {
     let line = bare(line_at(list, place_of_line(list, count)));
-    complain_stop(rt, number, list, count, line);
+    complain_stop(console, number, list, count, line);
     if is_full(number) {
         let freed = bytes_freed(index, text, party, line);
-        complain_full(rt, number, line.len(), freed, party, index, text);
+        complain_full(console, number, line.len(), freed, party, index, text);
         return REFUSED;
     }
-    complain(rt, b"it has ");
-    put_number(rt, ERR, line.len());
-    complain(rt, b" bytes; take it out of the list, or shorten it\n");
+    complain(console, b"it has ");
+    put_number(console, ERR, line.len());
+    complain(console, b" bytes; take it out of the list, or shorten it\n");
     REFUSED
 }
 
 fn say_filed(
-    rt: &HostRuntime,
+    console: &Console,
     inserted: Inserted,
     list: &[u8],
     held: usize,
@@ -168,31 +173,31 @@ fn say_filed(
     text: &[u8],
 ) {
     let count = inserted.count;
-    let room = room_in(rt, index, text);
+    let room = room_in(console, index, text);
     say_census(
-        rt,
+        console,
         census_of(list, count),
         list,
         count,
         less(room.held, held),
     );
-    say_other_forms(rt, inserted.not_simple);
+    say_other_forms(console, inserted.not_simple);
 }
 
 // An insert of a text that is not UTF-8 from a place on.
-fn complain_text(rt: &HostRuntime, list: &[u8], place: usize) {
-    complain(rt, b"  line ");
+fn complain_text(console: &Console, list: &[u8], place: usize) {
+    complain(console, b"  line ");
     put_number(
-        rt,
+        console,
         ERR,
         count_lines(first(list, wrapping_add_usize(place, 1))),
     );
-    complain(rt, b" of the list has it; nothing is filed\n");
+    complain(console, b" of the list has it; nothing is filed\n");
 }
 
 // An insert that was refused; a line that stopped it leaves those before it filed.
 fn insert_refused(
-    rt: &HostRuntime,
+    console: &Console,
     inserted: Inserted,
     refusal: Refusal,
     list: &[u8],
@@ -204,9 +209,9 @@ fn insert_refused(
     let answer = inserted.answer;
     let place = refusal.place;
     if has_filed(answer) {
-        say_filed(rt, inserted, list, held, index, text);
+        say_filed(console, inserted, list, held, index, text);
         return stopped(
-            rt,
+            console,
             refusal.number as usize,
             list,
             inserted.count,
@@ -215,16 +220,16 @@ fn insert_refused(
             party,
         );
     }
-    refused_by(rt, refusal);
+    refused_by(console, refusal);
     if let Place::At(p) = place {
-        complain_text(rt, list, p);
+        complain_text(console, list, p);
     }
     REFUSED
 }
 
 // What a party's insert came to, in a store that held `held` lines before.
 pub fn say_inserted(
-    rt: &HostRuntime,
+    console: &Console,
     inserted: Inserted,
     list: &[u8],
     held: usize,
@@ -236,11 +241,11 @@ pub fn say_inserted(
     let outcome = answer.outcome();
     match outcome {
         Outcome::Passes => {
-            say_filed(rt, inserted, list, held, index, text);
+            say_filed(console, inserted, list, held, index, text);
             DONE
         }
         Outcome::Refuses(refusal) => insert_refused(
-            rt, inserted, refusal, list, held, index, text, party,
+            console, inserted, refusal, list, held, index, text, party,
         ),
     }
 }
@@ -260,10 +265,10 @@ fn has_filed(answer: Answer) -> bool {
     }
 }
 
-fn insert_text(rt: &HostRuntime, held: Held, store: &[u8], party: Party, list: &[u8]) -> u8 {
+fn insert_text(console: &Console, held: Held, store: &[u8], party: Party, list: &[u8]) -> u8 {
     let mut former_index = half();
     let mut former_text = half();
-    let status = load(rt, store, &mut former_index, &mut former_text);
+    let status = load(console, store, &mut former_index, &mut former_text);
     if status != DONE {
         return status;
     }
@@ -272,35 +277,43 @@ fn insert_text(rt: &HostRuntime, held: Held, store: &[u8], party: Party, list: &
     let inserted = insert(&mut index, &mut text, party, list);
     let answer = inserted.answer;
     if has_filed(answer) {
-        let status = replace(rt, store, held, &former_index, &former_text, &index, &text);
+        let status = replace(
+            console,
+            store,
+            held,
+            &former_index,
+            &former_text,
+            &index,
+            &text,
+        );
         if status != DONE {
             return status;
         }
     }
-    let room = room_in(rt, &former_index, &former_text);
-    say_inserted(rt, inserted, list, room.held, &index, &text, party)
+    let room = room_in(console, &former_index, &former_text);
+    say_inserted(console, inserted, list, room.held, &index, &text, party)
 }
 
-fn insert_file(rt: &HostRuntime, held: Held, store: &[u8], party: Party, path: &[u8]) -> u8 {
+fn insert_file(console: &Console, held: Held, store: &[u8], party: Party, path: &[u8]) -> u8 {
     let mut space = list_space();
-    match read_list(rt, path, &mut space) {
-        List::Read(n) => insert_text(rt, held, store, party, first(&space, n)),
+    match read_list(console, path, &mut space) {
+        List::Read(n) => insert_text(console, held, store, party, first(&space, n)),
         List::Failed => TROUBLE,
     }
 }
 
 // `hub insert STORE FILE ..`; the party stands from argument `from` on.
-pub fn insert_list(rt: &HostRuntime, held: Held, store: &[u8], path: &[u8], from: usize) -> u8 {
-    if !may_change(rt, held) {
+pub fn insert_list(console: &Console, held: Held, store: &[u8], path: &[u8], from: usize) -> u8 {
+    if !may_change(console, held) {
         return TROUBLE;
     }
-    let caller = caller_named(rt, from);
+    let caller = caller_named(console, from);
     if caller.others != 0 {
-        return wrong_use(rt, b"insert");
+        return wrong_use(console, b"insert");
     }
     if caller.bad {
         return TROUBLE;
     }
     let party = caller.party;
-    insert_file(rt, held, store, party, path)
+    insert_file(console, held, store, party, path)
 }

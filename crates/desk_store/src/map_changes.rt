@@ -1,11 +1,11 @@
 // Changes of map in the middle of a recording: `after=N:UUID` for the first pad, `after2=N:UUID` for the second.
 use crate::held_maps::{map_status, read_with};
 use crate::test_args::{Request, lists_of};
+use desk::console::{Console, argument, argument_count};
 use desk::fields::{after, before};
 use desk::files::arg_space;
 use desk::say::{DONE, ERR, REFUSED, complain, put_number, say, say_number};
 use desk::shown::say_shown;
-use desk::system::{argument, argument_count};
 use desk::tally::more;
 use desk_pads::holders::say_held_by;
 use desk_pads::playing::{NEVER, Play, say_element, say_which, seat_of, with_seat};
@@ -85,9 +85,9 @@ fn is_for(arg: &[u8], which: Which) -> bool {
 }
 
 // The change of a pad's map that argument `i` is, if it is one.
-fn change_at(rt: &HostRuntime, which: Which, i: usize) -> MapChange {
+fn change_at(console: &Console, which: Which, i: usize) -> MapChange {
     let mut space = arg_space();
-    let n = argument(rt, i, &mut space);
+    let n = argument(console, i, &mut space);
     let arg = &space[..n];
     if is_for(arg, which) {
         return parse_change(after(arg, b'='));
@@ -96,12 +96,12 @@ fn change_at(rt: &HostRuntime, which: Which, i: usize) -> MapChange {
 }
 
 // The fewest records, not less than `least`, after which a change of a pad's map comes.
-pub fn due_from(rt: &HostRuntime, which: Which, from: usize, least: usize) -> usize {
-    let count = argument_count(rt);
+pub fn due_from(console: &Console, which: Which, from: usize, least: usize) -> usize {
+    let count = argument_count(console);
     let mut due = NEVER;
     let mut i = from;
     while i < count {
-        let change = change_at(rt, which, i);
+        let change = change_at(console, which, i);
         if least <= change.records {
             if change.records < due {
                 due = change.records;
@@ -114,24 +114,24 @@ pub fn due_from(rt: &HostRuntime, which: Which, from: usize, least: usize) -> us
 
 // Whether the line of a change is held and accepted.
 fn change_status(
-    rt: &HostRuntime,
+    console: &Console,
     index: &[u8],
     text: &[u8],
     asked: Request,
     which: Which,
     i: usize,
 ) -> u8 {
-    let change = change_at(rt, which, i);
+    let change = change_at(console, which, i);
     let id = change.id;
     let caller = asked.caller;
     let party = caller.party;
     let mut space = arg_space();
-    let n = argument(rt, i, &mut space);
+    let n = argument(console, i, &mut space);
     if change.records == NEVER {
         return DONE;
     }
     map_status(
-        rt,
+        console,
         index,
         text,
         party,
@@ -143,16 +143,16 @@ fn change_status(
 
 // Whether all lines of a pad's changes are.
 pub fn changes_status(
-    rt: &HostRuntime,
+    console: &Console,
     index: &[u8],
     text: &[u8],
     asked: Request,
     which: Which,
 ) -> u8 {
-    let count = argument_count(rt);
+    let count = argument_count(console);
     let mut i = asked.from;
     while i < count {
-        let status = change_status(rt, index, text, asked, which, i);
+        let status = change_status(console, index, text, asked, which, i);
         if status != DONE {
             return status;
         }
@@ -162,30 +162,30 @@ pub fn changes_status(
 }
 
 // `pad 1, after 2 records: ` and the line.
-fn say_change(rt: &HostRuntime, play: Play, which: Which, line: &[u8]) {
+fn say_change(console: &Console, play: Play, which: Which, line: &[u8]) {
     let seat = seat_of(play, which);
     if play.two {
-        say_which(rt, which);
-        say(rt, b", ");
+        say_which(console, which);
+        say(console, b", ");
     }
-    say(rt, b"after ");
-    say_number(rt, seat.records);
-    say(rt, b" records: ");
-    say_shown(rt, line);
-    say(rt, b"\n");
+    say(console, b"after ");
+    say_number(console, seat.records);
+    say(console, b" records: ");
+    say_shown(console, line);
+    say(console, b"\n");
 }
 
-fn say_event(rt: &HostRuntime, play: Play, which: Which, told: Event) {
+fn say_event(console: &Console, play: Play, which: Which, told: Event) {
     let element = told.element;
     let value = told.value;
-    say(rt, b"  ");
-    say_element(rt, element, value);
-    say_held_by(rt, play, which, element, value);
-    say(rt, b"\n");
+    say(console, b"  ");
+    say_element(console, element, value);
+    say_held_by(console, play, which, element, value);
+    say(console, b"\n");
 }
 
 // The events of a change of map, one a line.
-fn say_events(rt: &HostRuntime, play: Play, which: Which, events: Events) {
+fn say_events(console: &Console, play: Play, which: Which, events: Events) {
     let list = events.list;
     let mut i: usize = 0;
     while i < ELEMENTS {
@@ -193,13 +193,13 @@ fn say_events(rt: &HostRuntime, play: Play, which: Which, events: Events) {
             return;
         }
         let told = list[i];
-        say_event(rt, play, which, told);
+        say_event(console, play, which, told);
         i += 1;
     }
 }
 
 // Another map for a pad, told.
-fn with_map(rt: &HostRuntime, play: Play, which: Which, map: Mapping) -> Play {
+fn with_map(console: &Console, play: Play, which: Which, map: Mapping) -> Play {
     let pads = play.pads;
     let told = pads.change_map(which, map);
     let later = told.pads;
@@ -213,15 +213,15 @@ fn with_map(rt: &HostRuntime, play: Play, which: Which, map: Mapping) -> Play {
     tally.changed = wrapping_add_usize(tally.changed, events.count);
     next.tally = tally;
     if events.count == 0 {
-        say(rt, b"  no element has another value\n");
+        say(console, b"  no element has another value\n");
     }
-    say_events(rt, next, which, events);
+    say_events(console, next, which, events);
     next
 }
 
 // The change that argument `i` is, where it comes after so many records.
 fn with_change(
-    rt: &HostRuntime,
+    console: &Console,
     index: &[u8],
     text: &[u8],
     asked: Request,
@@ -230,7 +230,7 @@ fn with_change(
     i: usize,
 ) -> Play {
     let seat = seat_of(play, which);
-    let change = change_at(rt, which, i);
+    let change = change_at(console, which, i);
     if change.records != seat.records {
         return play;
     }
@@ -238,26 +238,26 @@ fn with_change(
     let caller = asked.caller;
     let party = caller.party;
     let line = get_near(index, text, party, id);
-    say_change(rt, play, which, line);
+    say_change(console, play, which, line);
     let reading = read_with(line, lists_of(asked, which));
     let map = reading.map;
-    with_map(rt, play, which, map)
+    with_map(console, play, which, map)
 }
 
 // The changes of a pad's map that are due, in the order of the arguments.
 fn with_due(
-    rt: &HostRuntime,
+    console: &Console,
     index: &[u8],
     text: &[u8],
     asked: Request,
     play: Play,
     which: Which,
 ) -> Play {
-    let count = argument_count(rt);
+    let count = argument_count(console);
     let mut next = play;
     let mut i = asked.from;
     while i < count {
-        next = with_change(rt, index, text, asked, next, which, i);
+        next = with_change(console, index, text, asked, next, which, i);
         i += 1;
     }
     next
@@ -265,7 +265,7 @@ fn with_due(
 
 // The changes of a pad's map that come after its last record.
 pub fn with_changes(
-    rt: &HostRuntime,
+    console: &Console,
     index: &[u8],
     text: &[u8],
     asked: Request,
@@ -276,27 +276,27 @@ pub fn with_changes(
     if now.due != now.records {
         return play;
     }
-    let next = with_due(rt, index, text, asked, play, which);
+    let next = with_due(console, index, text, asked, play, which);
     let mut seat = seat_of(next, which);
-    seat.due = due_from(rt, which, asked.from, more(seat.records));
+    seat.due = due_from(console, which, asked.from, more(seat.records));
     with_seat(next, which, seat)
 }
 
 // Says which change of a pad's map never came.
-pub fn never_status(rt: &HostRuntime, play: Play, which: Which) -> u8 {
+pub fn never_status(console: &Console, play: Play, which: Which) -> u8 {
     let seat = seat_of(play, which);
     if seat.due == NEVER {
         return DONE;
     }
     match which {
-        Which::First => complain(rt, b"after="),
-        Which::Second => complain(rt, b"after2="),
+        Which::First => complain(console, b"after="),
+        Which::Second => complain(console, b"after2="),
     }
-    put_number(rt, ERR, seat.due);
-    complain(rt, b":..: the recording has only ");
-    put_number(rt, ERR, seat.records);
+    put_number(console, ERR, seat.due);
+    complain(console, b":..: the recording has only ");
+    put_number(console, ERR, seat.records);
     complain(
-        rt,
+        console,
         b" records of buttons and axes, so this change never came\n",
     );
     REFUSED

@@ -1,10 +1,10 @@
 // Whose lines a command is about: `party=7` is a league organiser, no `party=` the hall.
 use desk::arguments::is_party;
+use desk::console::{Console, argument, argument_count};
 use desk::fields::after;
 use desk::files::arg_space;
 use desk::say::complain;
 use desk::shown::complain_shown;
-use desk::system::{argument, argument_count};
 use store::parties::Party;
 use text::decimal::{IndexParse, parse_u16};
 
@@ -31,17 +31,17 @@ fn with_bad(caller: Caller) -> Caller {
     next
 }
 
-fn no_party(rt: &HostRuntime, caller: Caller, arg: &[u8]) -> Caller {
-    complain_shown(rt, arg);
+fn no_party(console: &Console, caller: Caller, arg: &[u8]) -> Caller {
+    complain_shown(console, arg);
     complain(
-        rt,
+        console,
         b": a league organiser is a number from 1 to 255; without party= the lines are the hall's\n",
     );
     with_bad(caller)
 }
 
 // What an organiser with owner 0 may do is the library's to say.
-fn with_number(rt: &HostRuntime, caller: Caller, arg: &[u8], n: u16) -> Caller {
+fn with_number(console: &Console, caller: Caller, arg: &[u8], n: u16) -> Caller {
     if n < 256 {
         return Caller {
             party: Party::Organiser(n as u8),
@@ -50,28 +50,28 @@ fn with_number(rt: &HostRuntime, caller: Caller, arg: &[u8], n: u16) -> Caller {
             bad: caller.bad,
         };
     }
-    no_party(rt, caller, arg)
+    no_party(console, caller, arg)
 }
 
 // `party=7`
-fn with_party(rt: &HostRuntime, caller: Caller, arg: &[u8]) -> Caller {
+fn with_party(console: &Console, caller: Caller, arg: &[u8]) -> Caller {
     if caller.given != 0 {
-        complain_shown(rt, arg);
-        complain(rt, b": the party is given twice\n");
+        complain_shown(console, arg);
+        complain(console, b": the party is given twice\n");
         return with_bad(caller);
     }
     let number = parse_u16(after(arg, b'='));
     match number {
-        IndexParse::Parsed(n) => with_number(rt, caller, arg, n),
-        IndexParse::Invalid => no_party(rt, caller, arg),
+        IndexParse::Parsed(n) => with_number(console, caller, arg, n),
+        IndexParse::Invalid => no_party(console, caller, arg),
     }
 }
 
-fn with_arg(rt: &HostRuntime, caller: Caller, i: usize) -> Caller {
+fn with_arg(console: &Console, caller: Caller, i: usize) -> Caller {
     let mut space = arg_space();
-    let n = argument(rt, i, &mut space);
+    let n = argument(console, i, &mut space);
     if is_party(&space[..n]) {
-        return with_party(rt, caller, &space[..n]);
+        return with_party(console, caller, &space[..n]);
     }
     let mut next = caller;
     next.others = std::num::wrapping_add_usize(caller.others, 1);
@@ -79,17 +79,17 @@ fn with_arg(rt: &HostRuntime, caller: Caller, i: usize) -> Caller {
 }
 
 // Who calls, by the arguments from `from` on.
-pub fn caller_named(rt: &HostRuntime, from: usize) -> Caller {
+pub fn caller_named(console: &Console, from: usize) -> Caller {
     let mut caller = Caller {
         party: Party::Hall,
         given: 0,
         others: 0,
         bad: false,
     };
-    let count = argument_count(rt);
+    let count = argument_count(console);
     let mut i = from;
     while i < count {
-        caller = with_arg(rt, caller, i);
+        caller = with_arg(console, caller, i);
         i += 1;
     }
     caller

@@ -4,10 +4,10 @@ use crate::inserting::complain_full;
 use crate::mappings::{Request, asked_from, is_good};
 use desk::changing::{Held, may_change, replace};
 use desk::codes::{Codes, first_codes, has_code};
+use desk::console::{Console, argument};
 use desk::files::{arg_space, half, load};
 use desk::say::{DONE, ERR, REFUSED, TROUBLE, complain, put_code, say};
 use desk::shown::say_shown;
-use desk::system::argument;
 use desk::words::put_refused;
 use desk_pads::bound::{say_lost, slot_with, twins};
 use desk_pads::elements::{element_at, put_element, put_ident};
@@ -24,52 +24,52 @@ use store::parties::Party;
 use text::uuid::{Uuid, UuidParse};
 
 // A saved line and its map.
-pub fn say_saved(rt: &HostRuntime, line: &[u8], map: Mapping) -> u8 {
-    say_shown(rt, line);
-    say(rt, b"\n");
-    say_map(rt, map, line)
+pub fn say_saved(console: &Console, line: &[u8], map: Mapping) -> u8 {
+    say_shown(console, line);
+    say(console, b"\n");
+    say_map(console, map, line)
 }
 
 // A saved line, the one that it takes the place of, and what is no longer bound.
-fn say_filed(rt: &HostRuntime, former: &[u8], line: &[u8], map: Mapping) -> u8 {
-    say_saved(rt, line, map);
+fn say_filed(console: &Console, former: &[u8], line: &[u8], map: Mapping) -> u8 {
+    say_saved(console, line, map);
     if former.len() == 0 {
         return DONE;
     }
-    say(rt, b"in place of: ");
-    say_shown(rt, former);
-    say(rt, b"\n");
-    say_lost(rt, former, line);
+    say(console, b"in place of: ");
+    say_shown(console, former);
+    say(console, b"\n");
+    say_lost(console, former, line);
     DONE
 }
 
 // Which list a code of a slot is not in.
-fn refused_slot(rt: &HostRuntime, slots: MappingData, buttons: &[u32], code: Code) -> u8 {
+fn refused_slot(console: &Console, slots: MappingData, buttons: &[u32], code: Code) -> u8 {
     let mut k = slot_with(slots, 0, code);
     if has_code(buttons, code.0) {
         k = slot_with(slots, 20, code);
     }
     let e = element_at(k);
-    put_refused(rt, ERR, 15);
-    complain(rt, b": ");
-    put_ident(rt, ERR, e);
+    put_refused(console, ERR, 15);
+    complain(console, b": ");
+    put_ident(console, ERR, e);
     if e.is_button() {
-        complain(rt, b" is a button; ");
-        put_code(rt, ERR, code.0);
-        complain(rt, b" is not in buttons=\n");
+        complain(console, b" is a button; ");
+        put_code(console, ERR, code.0);
+        complain(console, b" is not in buttons=\n");
     } else {
-        complain(rt, b" is an axis; ");
-        put_code(rt, ERR, code.0);
-        complain(rt, b" is not in axes=\n");
+        complain(console, b" is an axis; ");
+        put_code(console, ERR, code.0);
+        complain(console, b" is not in axes=\n");
     }
     REFUSED
 }
 
-fn refused_build(rt: &HostRuntime, e: MappingError, slots: MappingData, buttons: &[u32]) -> u8 {
+fn refused_build(console: &Console, e: MappingError, slots: MappingData, buttons: &[u32]) -> u8 {
     if let MappingError::InvalidCode(code) = e {
-        return refused_slot(rt, slots, buttons, code);
+        return refused_slot(console, slots, buttons, code);
     }
-    refused_by(rt, e.refusal())
+    refused_by(console, e.refusal())
 }
 
 // The length of the line that a save builds.
@@ -80,7 +80,7 @@ fn built_len(slots: MappingData, buttons: &[u32], axes: &[u32], name: &[u8], id:
 }
 
 fn no_room(
-    rt: &HostRuntime,
+    console: &Console,
     number: usize,
     wanted: usize,
     index: &[u8],
@@ -88,16 +88,16 @@ fn no_room(
     party: Party,
     id: Uuid,
 ) -> u8 {
-    put_refused(rt, ERR, number);
-    complain(rt, b"\n  ");
+    put_refused(console, ERR, number);
+    complain(console, b"\n  ");
     let freed = get(index, text, party, id).len();
-    complain_full(rt, number, wanted, freed, party, index, text);
+    complain_full(console, number, wanted, freed, party, index, text);
     REFUSED
 }
 
 // Saves into the store of two buffers, and puts it in place.
 fn save_slots(
-    rt: &HostRuntime,
+    console: &Console,
     held: Held,
     store: &[u8],
     party: Party,
@@ -109,7 +109,7 @@ fn save_slots(
 ) -> u8 {
     let mut former_index = half();
     let mut former_text = half();
-    let status = load(rt, store, &mut former_index, &mut former_text);
+    let status = load(console, store, &mut former_index, &mut former_text);
     if status != DONE {
         return status;
     }
@@ -121,55 +121,66 @@ fn save_slots(
     let wanted = built_len(slots, buttons, axes, name, id);
     match answer {
         SaveAnswer::Done => {
-            let status = replace(rt, store, held, &former_index, &former_text, &index, &text);
+            let status = replace(
+                console,
+                store,
+                held,
+                &former_index,
+                &former_text,
+                &index,
+                &text,
+            );
             if status != DONE {
                 return status;
             }
             say_filed(
-                rt,
+                console,
                 get(&former_index, &former_text, party, id),
                 get(&index, &text, party, id),
                 map,
             )
         }
-        SaveAnswer::Refused(e) => refused_build(rt, e, slots, buttons),
-        SaveAnswer::UnsavedName => refused_outcome(rt, answer.outcome()),
-        SaveAnswer::Unsound => refused_outcome(rt, answer.outcome()),
-        SaveAnswer::NoRoom => no_room(rt, 21, wanted, &index, &text, party, id),
-        SaveAnswer::NoOwner => refused_outcome(rt, answer.outcome()),
-        SaveAnswer::NoText => no_room(rt, 25, wanted, &index, &text, party, id),
+        SaveAnswer::Refused(e) => refused_build(console, e, slots, buttons),
+        SaveAnswer::UnsavedName => refused_outcome(console, answer.outcome()),
+        SaveAnswer::Unsound => refused_outcome(console, answer.outcome()),
+        SaveAnswer::NoRoom => no_room(console, 21, wanted, &index, &text, party, id),
+        SaveAnswer::NoOwner => refused_outcome(console, answer.outcome()),
+        SaveAnswer::NoText => no_room(console, 25, wanted, &index, &text, party, id),
     }
 }
 
-fn complain_anyway(rt: &HostRuntime) -> bool {
-    complain(rt, b"Add 'anyway' to save it all the same.\n");
+fn complain_anyway(console: &Console) -> bool {
+    complain(console, b"Add 'anyway' to save it all the same.\n");
     false
 }
 
 // Whether nothing is lost in a save: an element at least, and no code on two of them.
-fn is_whole(rt: &HostRuntime, slots: Slots) -> bool {
+fn is_whole(console: &Console, slots: Slots) -> bool {
     if slots.given == 0 {
         complain(
-            rt,
+            console,
             b"No element is given (as a=10130): the line would bind nothing.\n",
         );
-        return complain_anyway(rt);
+        return complain_anyway(console);
     }
     let filled = slots.filled;
     let pair = twins(filled);
     if pair.found {
-        complain(rt, b"One code is given to two elements, ");
-        put_element(rt, ERR, element_at(pair.first));
-        complain(rt, b" and ");
-        put_element(rt, ERR, element_at(pair.second));
-        complain(rt, b": when the line is read, only the second has it.\n");
-        return complain_anyway(rt);
+        complain(console, b"One code is given to two elements, ");
+        put_element(console, ERR, element_at(pair.first));
+        complain(console, b" and ");
+        put_element(console, ERR, element_at(pair.second));
+        complain(
+            console,
+            b": when the line is read, only the second has it.\n",
+        );
+        return complain_anyway(console);
     }
     true
 }
 
 fn save_codes(
-    rt: &HostRuntime,
+    console: &Console,
     held: Held,
     store: &[u8],
     party: Party,
@@ -182,7 +193,7 @@ fn save_codes(
     let button_list = buttons.list;
     let axis_list = axes.list;
     save_slots(
-        rt,
+        console,
         held,
         store,
         party,
@@ -195,7 +206,7 @@ fn save_codes(
 }
 
 fn save_lists(
-    rt: &HostRuntime,
+    console: &Console,
     held: Held,
     store: &[u8],
     id: Uuid,
@@ -208,11 +219,11 @@ fn save_lists(
     let filled = slots.filled;
     let caller = asked.caller;
     let party = caller.party;
-    save_codes(rt, held, store, party, id, name, filled, buttons, axes)
+    save_codes(console, held, store, party, id, name, filled, buttons, axes)
 }
 
 fn save_request(
-    rt: &HostRuntime,
+    console: &Console,
     held: Held,
     store: &[u8],
     id: Uuid,
@@ -223,32 +234,32 @@ fn save_request(
         return TROUBLE;
     }
     if asked.anyway {
-        return save_lists(rt, held, store, id, name, asked);
+        return save_lists(console, held, store, id, name, asked);
     }
     let slots = asked.slots;
-    if is_whole(rt, slots) {
-        return save_lists(rt, held, store, id, name, asked);
+    if is_whole(console, slots) {
+        return save_lists(console, held, store, id, name, asked);
     }
     TROUBLE
 }
 
 // `hub save STORE UUID NAME ..`; the name is argument `at`.
-pub fn save_mapping(rt: &HostRuntime, held: Held, store: &[u8], key: &[u8], at: usize) -> u8 {
-    if !may_change(rt, held) {
+pub fn save_mapping(console: &Console, held: Held, store: &[u8], key: &[u8], at: usize) -> u8 {
+    if !may_change(console, held) {
         return TROUBLE;
     }
     let mut name = arg_space();
-    let n = argument(rt, at, &mut name);
+    let n = argument(console, at, &mut name);
     let parsed = Uuid::parse_str(key);
     match parsed {
         UuidParse::Parsed(spelled) => save_request(
-            rt,
+            console,
             held,
             store,
             spelled.id,
             &name[..n],
-            asked_from(rt, std::num::wrapping_add_usize(at, 1)),
+            asked_from(console, std::num::wrapping_add_usize(at, 1)),
         ),
-        UuidParse::Invalid => no_uuid(rt, key),
+        UuidParse::Invalid => no_uuid(console, key),
     }
 }

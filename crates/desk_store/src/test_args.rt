@@ -4,12 +4,12 @@ use crate::map_changes::is_change;
 use crate::parties::{Caller, caller_named};
 use desk::arguments::is_party;
 use desk::codes::{ABS, Codes, KEY, codes_named};
+use desk::console::{Console, argument, argument_count};
 use desk::fields::before;
 use desk::files::arg_space;
 use desk::help::wrong_use;
 use desk::say::{DONE, TROUBLE, complain};
 use desk::shown::complain_shown;
-use desk::system::{argument, argument_count};
 use desk::tally::more;
 use pad::two::Which;
 use text::bytes::same_bytes;
@@ -55,14 +55,14 @@ fn nothing_named() -> Named {
     }
 }
 
-fn with_unknown(rt: &HostRuntime, named: Named, arg: &[u8]) -> Named {
-    complain_shown(rt, arg);
+fn with_unknown(console: &Console, named: Named, arg: &[u8]) -> Named {
+    complain_shown(console, arg);
     complain(
-        rt,
+        console,
         b": here the arguments are buttons=.., axes=.., party=.., from=FILE and after=N:UUID; for a\n",
     );
     complain(
-        rt,
+        console,
         b"second pad with=FILE, uuid2=UUID, buttons2=.., axes2=.. and after2=N:UUID\n",
     );
     let mut next = named;
@@ -71,13 +71,13 @@ fn with_unknown(rt: &HostRuntime, named: Named, arg: &[u8]) -> Named {
 }
 
 // `after=2:UUID`
-fn with_change(rt: &HostRuntime, named: Named, arg: &[u8]) -> Named {
+fn with_change(console: &Console, named: Named, arg: &[u8]) -> Named {
     if is_change(arg) {
         return named;
     }
-    complain_shown(rt, arg);
+    complain_shown(console, arg);
     complain(
-        rt,
+        console,
         b": a change of map is N:UUID, a number of records with one to nine digits, and a UUID\n",
     );
     let mut next = named;
@@ -86,7 +86,7 @@ fn with_change(rt: &HostRuntime, named: Named, arg: &[u8]) -> Named {
 }
 
 // An argument about the second pad.
-fn with_second(rt: &HostRuntime, named: Named, i: usize, key: &[u8], arg: &[u8]) -> Named {
+fn with_second(console: &Console, named: Named, i: usize, key: &[u8], arg: &[u8]) -> Named {
     let mut next = named;
     next.second = i;
     if same_bytes(key, b"uuid2") {
@@ -103,12 +103,12 @@ fn with_second(rt: &HostRuntime, named: Named, i: usize, key: &[u8], arg: &[u8])
         return next;
     }
     if same_bytes(key, b"after2") {
-        return with_change(rt, next, arg);
+        return with_change(console, next, arg);
     }
-    with_unknown(rt, named, arg)
+    with_unknown(console, named, arg)
 }
 
-fn with_key(rt: &HostRuntime, named: Named, i: usize, key: &[u8], arg: &[u8]) -> Named {
+fn with_key(console: &Console, named: Named, i: usize, key: &[u8], arg: &[u8]) -> Named {
     let mut next = named;
     if same_bytes(key, b"from") {
         next.stream = i;
@@ -130,25 +130,25 @@ fn with_key(rt: &HostRuntime, named: Named, i: usize, key: &[u8], arg: &[u8]) ->
         return named;
     }
     if same_bytes(key, b"after") {
-        return with_change(rt, named, arg);
+        return with_change(console, named, arg);
     }
-    with_second(rt, named, i, key, arg)
+    with_second(console, named, i, key, arg)
 }
 
-fn with_arg(rt: &HostRuntime, named: Named, i: usize) -> Named {
+fn with_arg(console: &Console, named: Named, i: usize) -> Named {
     let mut space = arg_space();
-    let n = argument(rt, i, &mut space);
+    let n = argument(console, i, &mut space);
     let arg = &space[..n];
-    with_key(rt, named, i, before(arg, b'='), arg)
+    with_key(console, named, i, before(arg, b'='), arg)
 }
 
 // What the arguments from `from` on name.
-fn named_from(rt: &HostRuntime, from: usize) -> Named {
+fn named_from(console: &Console, from: usize) -> Named {
     let mut named = nothing_named();
-    let count = argument_count(rt);
+    let count = argument_count(console);
     let mut i = from;
     while i < count {
-        named = with_arg(rt, named, i);
+        named = with_arg(console, named, i);
         i += 1;
     }
     named
@@ -163,12 +163,12 @@ fn list_of(own: bool, list: Codes, first: Codes) -> Codes {
 }
 
 // What the arguments from `from` on ask for.
-pub fn request_from(rt: &HostRuntime, from: usize) -> Request {
-    let buttons = codes_named(rt, b"buttons", KEY, from);
-    let axes = codes_named(rt, b"axes", ABS, from);
-    let other_buttons = codes_named(rt, b"buttons2", KEY, from);
-    let other_axes = codes_named(rt, b"axes2", ABS, from);
-    let named = named_from(rt, from);
+pub fn request_from(console: &Console, from: usize) -> Request {
+    let buttons = codes_named(console, b"buttons", KEY, from);
+    let axes = codes_named(console, b"axes", ABS, from);
+    let other_buttons = codes_named(console, b"buttons2", KEY, from);
+    let other_axes = codes_named(console, b"axes2", ABS, from);
+    let named = named_from(console, from);
     let first = Lists { buttons, axes };
     let second = Lists {
         buttons: list_of(named.has_buttons, other_buttons, buttons),
@@ -177,7 +177,7 @@ pub fn request_from(rt: &HostRuntime, from: usize) -> Request {
     Request {
         first,
         second,
-        caller: caller_named(rt, from),
+        caller: caller_named(console, from),
         named,
         from,
     }
@@ -201,12 +201,12 @@ fn is_bad(lists: Lists) -> bool {
 }
 
 // An argument about a second pad, where none plays.
-fn complain_second(rt: &HostRuntime, i: usize) -> u8 {
+fn complain_second(console: &Console, i: usize) -> u8 {
     let mut space = arg_space();
-    let n = argument(rt, i, &mut space);
-    complain_shown(rt, &space[..n]);
+    let n = argument(console, i, &mut space);
+    complain_shown(console, &space[..n]);
     complain(
-        rt,
+        console,
         b": there is no second pad; with=FILE names its recording\n",
     );
     TROUBLE
@@ -218,7 +218,7 @@ pub fn is_two(named: Named) -> bool {
 }
 
 // Whether the arguments are as they should be.
-pub fn request_status(rt: &HostRuntime, asked: Request) -> u8 {
+pub fn request_status(console: &Console, asked: Request) -> u8 {
     let named = asked.named;
     let first = asked.first;
     let second = asked.second;
@@ -235,17 +235,17 @@ pub fn request_status(rt: &HostRuntime, asked: Request) -> u8 {
         return TROUBLE;
     }
     if named.streams != 1 {
-        return wrong_use(rt, b"test");
+        return wrong_use(console, b"test");
     }
     if 1 < named.besides {
-        return wrong_use(rt, b"test");
+        return wrong_use(console, b"test");
     }
     if 1 < named.uuids {
-        return wrong_use(rt, b"test");
+        return wrong_use(console, b"test");
     }
     if named.besides == 0 {
         if 0 < named.second {
-            return complain_second(rt, named.second);
+            return complain_second(console, named.second);
         }
     }
     DONE

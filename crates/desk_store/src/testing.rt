@@ -3,12 +3,12 @@ use crate::held_maps::{held_status, read_with, reading_status};
 use crate::holding::no_uuid;
 use crate::map_changes::{changes_status, due_from, never_status, with_changes};
 use crate::test_args::{Request, is_two, lists_of, request_from, request_status};
+use desk::console::{Console, argument};
 use desk::fields::after;
 use desk::files::{arg_space, half, load};
 use desk::say::{DONE, TROUBLE, say};
 use desk::shown::say_shown;
 use desk::streams::{Stream, Turn, end_status, is_open, moved, no_stream, open_stream, turn_of};
-use desk::system::argument;
 use desk::tally::{say_tally, tally_status};
 use desk_pads::playing::{NEVER, Play, Seat, new_play, new_seat, say_end};
 use desk_pads::telling::with_input;
@@ -37,7 +37,7 @@ fn worse(a: u8, b: u8) -> u8 {
 
 // What became of the records, and the status.
 fn ended(
-    rt: &HostRuntime,
+    console: &Console,
     play: Play,
     first: &Stream,
     second: &Stream,
@@ -45,20 +45,20 @@ fn ended(
     with_arg: &[u8],
 ) -> u8 {
     let tally = play.tally;
-    say_tally(rt, tally);
-    say_end(rt, play);
+    say_tally(console, tally);
+    say_end(console, play);
     let read = worse(
-        end_status(rt, first, from_arg),
-        end_status(rt, second, with_arg),
+        end_status(console, first, from_arg),
+        end_status(console, second, with_arg),
     );
-    let never = never_status(rt, play, Which::First);
-    let came = worse(never, never_status(rt, play, Which::Second));
+    let never = never_status(console, play, Which::First);
+    let came = worse(never, never_status(console, play, Which::Second));
     worse(worse(read, came), tally_status(tally))
 }
 
 // Tells the records of both recordings, in the order of their times.
 fn tell(
-    rt: &HostRuntime,
+    console: &Console,
     index: &[u8],
     text: &[u8],
     asked: Request,
@@ -73,30 +73,33 @@ fn tell(
     let mut second = other;
     let mut i: usize = 0;
     while i < RECORDS_MAX {
+        if console.is_closed() {
+            return TROUBLE;
+        }
         let turn = turn_of(&first, &second);
         match turn {
             Turn::First(input) => {
-                play = with_input(rt, play, Which::First, input);
-                play = with_changes(rt, index, text, asked, play, Which::First);
+                play = with_input(console, play, Which::First, input);
+                play = with_changes(console, index, text, asked, play, Which::First);
                 first = moved(first);
             }
             Turn::Second(input) => {
-                play = with_input(rt, play, Which::Second, input);
-                play = with_changes(rt, index, text, asked, play, Which::Second);
+                play = with_input(console, play, Which::Second, input);
+                play = with_changes(console, index, text, asked, play, Which::Second);
                 second = moved(second);
             }
             Turn::Over => {
-                return ended(rt, play, &first, &second, from_arg, with_arg);
+                return ended(console, play, &first, &second, from_arg, with_arg);
             }
         }
         i += 1;
     }
-    ended(rt, play, &first, &second, from_arg, with_arg)
+    ended(console, play, &first, &second, from_arg, with_arg)
 }
 
 // Two recordings, the first of them open.
 fn test_both(
-    rt: &HostRuntime,
+    console: &Console,
     index: &[u8],
     text: &[u8],
     asked: Request,
@@ -105,12 +108,12 @@ fn test_both(
     from_arg: &[u8],
     with_arg: &[u8],
 ) -> u8 {
-    let second = open_stream(rt, with_arg);
+    let second = open_stream(console, with_arg);
     if !is_open(&second) {
         return TROUBLE;
     }
     tell(
-        rt,
+        console,
         index,
         text,
         asked,
@@ -124,7 +127,7 @@ fn test_both(
 
 // The recordings that two arguments name.
 fn test_streams(
-    rt: &HostRuntime,
+    console: &Console,
     index: &[u8],
     text: &[u8],
     asked: Request,
@@ -132,15 +135,15 @@ fn test_streams(
     from_arg: &[u8],
     with_arg: &[u8],
 ) -> u8 {
-    let first = open_stream(rt, from_arg);
+    let first = open_stream(console, from_arg);
     if !is_open(&first) {
         return TROUBLE;
     }
     if play.two {
-        return test_both(rt, index, text, asked, play, first, from_arg, with_arg);
+        return test_both(console, index, text, asked, play, first, from_arg, with_arg);
     }
     tell(
-        rt,
+        console,
         index,
         text,
         asked,
@@ -153,15 +156,23 @@ fn test_streams(
 }
 
 // The recordings of pads that have their maps.
-fn test_play(rt: &HostRuntime, index: &[u8], text: &[u8], asked: Request, start: Play) -> u8 {
+fn test_play(console: &Console, index: &[u8], text: &[u8], asked: Request, start: Play) -> u8 {
     let named = asked.named;
     let mut stream = arg_space();
-    let n = argument(rt, named.stream, &mut stream);
+    let n = argument(console, named.stream, &mut stream);
     let mut beside = arg_space();
-    let m = argument(rt, named.beside, &mut beside);
-    let one = with_changes(rt, index, text, asked, start, Which::First);
-    let play = with_changes(rt, index, text, asked, one, Which::Second);
-    test_streams(rt, index, text, asked, play, &stream[..n], &beside[..m])
+    let m = argument(console, named.beside, &mut beside);
+    let one = with_changes(console, index, text, asked, start, Which::First);
+    let play = with_changes(console, index, text, asked, one, Which::Second);
+    test_streams(
+        console,
+        index,
+        text,
+        asked,
+        play,
+        &stream[..n],
+        &beside[..m],
+    )
 }
 
 fn no_start(status: u8) -> Start {
@@ -173,7 +184,7 @@ fn no_start(status: u8) -> Start {
 
 // A pad with the map of its line, which is shown. `label` is the pad, where there are two.
 fn start_of(
-    rt: &HostRuntime,
+    console: &Console,
     index: &[u8],
     text: &[u8],
     id: Uuid,
@@ -183,106 +194,106 @@ fn start_of(
 ) -> Start {
     let caller = asked.caller;
     let party = caller.party;
-    let held = held_status(rt, index, text, party, id, label);
+    let held = held_status(console, index, text, party, id, label);
     if held != DONE {
         return no_start(held);
     }
     let line = get_near(index, text, party, id);
     let lists = lists_of(asked, which);
-    say_labelled(rt, label, line);
-    let read = reading_status(rt, line, lists, label);
+    say_labelled(console, label, line);
+    let read = reading_status(console, line, lists, label);
     if read != DONE {
         return no_start(read);
     }
-    let status = changes_status(rt, index, text, asked, which);
+    let status = changes_status(console, index, text, asked, which);
     let reading = read_with(line, lists);
     let map = reading.map;
-    let seat = new_seat(map, due_from(rt, which, asked.from, 0));
+    let seat = new_seat(map, due_from(console, which, asked.from, 0));
     Start { status, seat }
 }
 
 // `pad 1: ` and the line
-fn say_labelled(rt: &HostRuntime, label: &[u8], line: &[u8]) {
+fn say_labelled(console: &Console, label: &[u8], line: &[u8]) {
     if 0 < label.len() {
-        say(rt, label);
-        say(rt, b": ");
+        say(console, label);
+        say(console, b": ");
     }
-    say_shown(rt, line);
-    say(rt, b"\n");
+    say_shown(console, line);
+    say(console, b"\n");
 }
 
-fn test_first(rt: &HostRuntime, index: &[u8], text: &[u8], id: Uuid, asked: Request) -> u8 {
-    let one = start_of(rt, index, text, id, asked, Which::First, b"");
+fn test_first(console: &Console, index: &[u8], text: &[u8], id: Uuid, asked: Request) -> u8 {
+    let one = start_of(console, index, text, id, asked, Which::First, b"");
     if one.status != DONE {
         return one.status;
     }
     let first = one.seat;
     let none = no_start(DONE);
     let second = none.seat;
-    test_play(rt, index, text, asked, new_play(false, first, second))
+    test_play(console, index, text, asked, new_play(false, first, second))
 }
 
 fn test_two(
-    rt: &HostRuntime,
+    console: &Console,
     index: &[u8],
     text: &[u8],
     id: Uuid,
     other: Uuid,
     asked: Request,
 ) -> u8 {
-    let one = start_of(rt, index, text, id, asked, Which::First, b"pad 1");
+    let one = start_of(console, index, text, id, asked, Which::First, b"pad 1");
     if one.status != DONE {
         return one.status;
     }
-    let two = start_of(rt, index, text, other, asked, Which::Second, b"pad 2");
+    let two = start_of(console, index, text, other, asked, Which::Second, b"pad 2");
     if two.status != DONE {
         return two.status;
     }
     let first = one.seat;
     let second = two.seat;
-    test_play(rt, index, text, asked, new_play(true, first, second))
+    test_play(console, index, text, asked, new_play(true, first, second))
 }
 
-fn test_held(rt: &HostRuntime, store: &[u8], id: Uuid, other: Uuid, asked: Request) -> u8 {
+fn test_held(console: &Console, store: &[u8], id: Uuid, other: Uuid, asked: Request) -> u8 {
     let named = asked.named;
     let mut index = half();
     let mut text = half();
-    let status = load(rt, store, &mut index, &mut text);
+    let status = load(console, store, &mut index, &mut text);
     if status != DONE {
         return status;
     }
     if is_two(named) {
-        return test_two(rt, &index, &text, id, other, asked);
+        return test_two(console, &index, &text, id, other, asked);
     }
-    test_first(rt, &index, &text, id, asked)
+    test_first(console, &index, &text, id, asked)
 }
 
 // The second pad's UUID is the first one's, where it has none of its own.
-fn test_ids(rt: &HostRuntime, store: &[u8], id: Uuid, asked: Request) -> u8 {
+fn test_ids(console: &Console, store: &[u8], id: Uuid, asked: Request) -> u8 {
     let named = asked.named;
     if named.uuids == 0 {
-        return test_held(rt, store, id, id, asked);
+        return test_held(console, store, id, id, asked);
     }
     let mut space = arg_space();
-    let n = argument(rt, named.uuid, &mut space);
+    let n = argument(console, named.uuid, &mut space);
     let key = after(&space[..n], b'=');
     let parsed = Uuid::parse_str(key);
     match parsed {
-        UuidParse::Parsed(spelled) => test_held(rt, store, id, spelled.id, asked),
-        UuidParse::Invalid => no_uuid(rt, key),
+        UuidParse::Parsed(spelled) => test_held(console, store, id, spelled.id, asked),
+        UuidParse::Invalid => no_uuid(console, key),
     }
 }
 
 // `hub test STORE UUID ..`; the other arguments stand from `from` on.
-pub fn test_mapping(rt: &HostRuntime, store: &[u8], key: &[u8], from: usize) -> u8 {
-    let asked = request_from(rt, from);
-    let status = request_status(rt, asked);
+pub fn test_mapping(console: &Console, store: &[u8], key: &[u8], from: usize) -> u8 {
+    let asked = request_from(console, from);
+    let status = request_status(console, asked);
     if status != DONE {
         return status;
     }
     let parsed = Uuid::parse_str(key);
     match parsed {
-        UuidParse::Parsed(spelled) => test_ids(rt, store, spelled.id, asked),
-        UuidParse::Invalid => no_uuid(rt, key),
+        UuidParse::Parsed(spelled) => test_ids(console, store, spelled.id, asked),
+        UuidParse::Invalid => no_uuid(console, key),
     }
 }
