@@ -19,12 +19,13 @@ pub const ERR: i32 = 2;
 // be written.
 pub const STATUS: i32 = 3;
 
-// The system's numbers of no error, of an output that is not open, and of a name that is no text.
+// The system's number of a name that is no text.
+pub const NO_TEXT: i32 = 84;
+
+// Its numbers of no error, and of an output that is not open.
 const NO_ERROR: i32 = 0;
 
 const NO_OUTPUT: i32 = 9;
-
-const NO_TEXT: i32 = 84;
 
 // The room for an error in words.
 const WORDS_ROOM: usize = 128;

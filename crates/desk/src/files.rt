@@ -1,7 +1,7 @@
 // Files that are read: a store is the index and then the text, HALF bytes each.
 ghost use Rattle.std.specs.Prelude.{◌≡◌, length};
 
-use crate::console::{Console, no_error, open_read};
+use crate::console::{Console, NO_TEXT, no_error, open_read};
 use crate::say::{DONE, TROUBLE, complain};
 use crate::shown::{complain_shown, fail};
 use crate::words::refused_file;
@@ -175,10 +175,12 @@ pub fn load(console: &Console, path: &[u8], index: &mut [u8], text: &mut [u8]) -
     }
 }
 
-// Whether there is a file of that name, or something that can't be opened.
+// Whether there is a file of that name, or something that can't be opened. A name that is no text names none.
 pub fn stands(console: &Console, path: &[u8]) -> bool {
     match open_read(console, path) {
         Ok(_) => true,
-        Err(error) => error.kind() != ErrorKind::NotFound,
+        Err(error) => {
+            error.kind() != ErrorKind::NotFound && error.raw_os_error() != Some(NO_TEXT)
+        }
     }
 }
