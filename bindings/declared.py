@@ -49,10 +49,10 @@ def named(text):
 def rattle():
     text = "\n".join(path.read_text() for path in sorted(Path("crates/exports/src").glob("*.rt")))
     structs, calls = {}, {}
-    for m in re.finditer(r"#\[repr\(C\)\]\npub struct (\w+) \{(.*?)\n\}", text, re.S):
+    for m in re.finditer(r"#\[repr\(C\)\]\n(?:#\[derive[^\n]*\n)?pub struct (\w+) \{(.*?)\n\}", text, re.S):
         fields = [(name, plain_type(kind, RATTLE)) for name, kind in named(m[2])]
         structs.setdefault(number_or_struct(m[1], RATTLE), []).append(fields)
-    for m in re.finditer(r'#\[no_mangle\]\npub extern "C" fn (\w+)\((.*?)\)(?: -> (\w+))?\s+ensures', text, re.S):
+    for m in re.finditer(r'#\[unsafe\(no_mangle\)\]\npub extern "C" fn (\w+)\((.*?)\)(?: -> (\w+))?\s+ensures', text, re.S):
         arguments = []
         for name, kind in named(m[2]):
             lent = re.match(r"&(mut )?\[(\w+)\]", kind)

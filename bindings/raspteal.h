@@ -1,8 +1,8 @@
 /* Raspteal for C: mapping lines, maps and the line store of the hub.
  *
- * Link with target/staticlib/libexports.a, which `rt staticlib exports` writes (x86-64 Linux). Each function is
- * proved: it takes every input, ends, and answers what its definition says; no call keeps memory, and there is no
- * state but the buffers that you lend.
+ * Link with target/staticlib/libexports.a, which `bindings/library` writes (x86-64 Linux). Each function is proved: it
+ * takes every input, ends, and answers what its definition says; no call keeps memory, and there is no state but the
+ * buffers that you lend.
  *
  * How to pass things
  *   A slice is two arguments, a pointer and a number of elements (bytes, or 32-bit codes). The pointer is never NULL,

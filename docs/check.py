@@ -8,7 +8,8 @@ In a document, outside blocks of code:
   rows    in a table with the columns File and Name, each name of a row is declared in one of the row's files. A cell
           File that is empty stands for the one above it. The row's other cells may hold any text.
   words   in READING.md and GUARANTEE.md every other single word in backticks is declared somewhere in crates/, or taken
-          by specs/ from the toolchain's library; in the other documents every wordLikeThis.
+          by specs/ from the toolchain's library; in the other documents every word_like_this, but edits' names, what
+          stands in the bindings, and names of Rust's and PostgreSQL's (NOT_OURS).
   quotes  a block of code that opens with ```antt FILE has lines of FILE, word for word.
   all     each definition in a file of the first kind (below) of the layers has such a row in READING.md.
   edits   in REFUSED.md, below the heading of a crate, each call of a row is a function of that crate, each edit of a
@@ -33,15 +34,20 @@ DOCUMENTS = ["README.md", "docs/READING.md", "docs/GUARANTEE.md", "docs/DECISION
              "docs/GROUP.md"]
 STRICT = ["docs/READING.md", "docs/GUARANTEE.md"]
 FOLDERS = ("crates/", "docs/", "tests/", "bindings/", "differential/", ".ci/")
-KEYWORDS = set("pub abbrev unfoldable record data where let in use mod as ensures requires entry exit now ghost "
-               "Type Unit the-variants".split())
+KEYWORDS = set("pub abbrev unfoldable record data where let in use mod as ensures requires result now old new ghost "
+               "Type Unit TheVariants".split())
 LAYERS = ("text", "line", "map", "store", "pad")
 FOR_PROGRAMS = ("desk", "desk_pads", "desk_store")
+NOT_OURS = ("add_env_mappings add_included_mappings black_box gilrs_core pg_terminate_backend pg_xact_status "
+            "synchronous_commit").split()
 WORD = re.compile(r"[^\W\d][\w'′%-]*$")
 FIRST = re.compile(r"rests? on these definitions; they assume nothing")
 SECOND = re.compile(r"No public contract (rests on|cites) these")
 
 declared = {}
+BESIDE = {os.path.basename(p)[:-len(".edit")] for p in glob.glob("crates/*/must-fail/*.edit")} | set(NOT_OURS)
+for header in glob.glob("bindings/*.h"):
+    BESIDE |= set(re.findall(r"\braspteal_\w+", open(header, encoding="utf-8").read()))
 
 
 def names_in(path):
@@ -68,8 +74,9 @@ def names_in(path):
 def library_names():
     names = set()
     for path in glob.glob("crates/*/specs/*.antt"):
-        for group in re.findall(r"^use (?!Rattle)\S+?\.\{(.*)\}", open(path, encoding="utf-8").read(), re.M):
-            names.update(n.split(" as ")[0].strip() for n in group.split(","))
+        for used, group in re.findall(r"^use (\S+?)\.\{(.*)\}", open(path, encoding="utf-8").read(), re.M):
+            if not re.match(r"Rattle\.(" + "|".join(os.listdir("crates")) + r")\.", used):
+                names.update(n.split(" as ")[0].strip() for n in group.split(","))
     return names
 
 
@@ -157,7 +164,7 @@ class Document:
             paired |= self.row(number, line, spans)
         for k, (_, _, text, path) in enumerate(spans):
             name = k not in paired and not path and all(WORD.match(p) for p in text.split("::"))
-            if name and (self.path in STRICT or re.match(r"[a-z]+[A-Z]", text)):
+            if name and (self.path in STRICT or re.match(r"[a-z]+[A-Z]|[a-z0-9]+_[a-z0-9_]*$", text) and text not in BESIDE):
                 self.count("names", number, text)
                 if not all(p in self.everything for p in text.split("::")):
                     self.fail(number, f"nothing is called {text}")
@@ -310,7 +317,7 @@ def theorems_named(path):
 def kinds(crate, kinds_of):
     """What is wrong with the kinds of a crate's files of specs/, and with the names in its public contracts."""
     wrong, count = [], 0
-    used = r"Rattle·(\w+?)(?:·specs)?\.specs\.(\w+)\b"
+    used = r"Rattle\.(\w+)\.specs\.(\w+)\b"
     for path in sorted(glob.glob(f"crates/{crate}/specs/*.antt")):
         if path.endswith("/Lib.antt"):
             continue
@@ -343,7 +350,7 @@ def kinds(crate, kinds_of):
 def libraries():
     """What is wrong with the crates that are libraries, by what they are for."""
     wrong, found = [], []
-    depends = dict(re.findall(r"^(\w+):(.*)$", open("crates.txt", encoding="utf-8").read(), re.M))
+    depends = dict(re.findall(r"^(\w+)(?: staticlib)?:(.*)$", open("crates.txt", encoding="utf-8").read(), re.M))
     for crate in [c for c in depends if os.path.exists(f"crates/{c}/src/lib.rt")]:
         found.append(crate)
         if crate in FOR_PROGRAMS:

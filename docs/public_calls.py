@@ -42,10 +42,10 @@ CROSSES_AS = {
 NAMED = {"event": "raspteal_mapping_event", "share_of": "raspteal_store_share"}
 
 # The definitions that give an answer its number.
-REFUSING = re.compile(r"^(kindNumber|\w+Outcome|readingRefusal|mappingRefusal) :")
+REFUSING = re.compile(r"^(kind_number|\w+_outcome|reading_refusal|mapping_refusal) :")
 
 # A promise of an answer and a buffer at once; a C function says the two apart.
-PARTS = {"Wrote": ["writeAnswer", "writeBuffer"], "Builds": ["buildOf", "outputOf"]}
+PARTS = {"Wrote": ["write_answer", "write_buffer"], "Builds": ["build_of", "output_of"]}
 
 HEAD = """# The public calls
 
@@ -54,7 +54,7 @@ Every public function of the four layers and of the pad layer beside them, with 
 How to read an entry:
 
 - The first line is the call: its name, its arguments with their types, and after `->` what it hands back. `&[u8]` is a lent text or buffer of bytes that is only read, `&mut [u8]` a lent buffer that may be written, `&[u32]` a list of codes, `usize` a place, a length or a count, `self` the value that the call is made on.
-- **Promise** is the contract, as the checker has proved it for every input; no call asks anything of its arguments. `result` is what the call hands back. An argument's name stands for its value at the call, and with a prime (`out'`) for what a lent buffer holds when the call returns. `f x y` is the definition `f`, given x and y; `x .part` is a part of x.
+- **Promise** is the contract, as the checker has proved it for every input; no call asks anything of its arguments. `result` is what the call hands back. An argument's name stands for its value at the call, and with a prime (`out'`) for what a lent buffer holds when the call returns. `f x y` is the definition `f`, given x and y; `x.part` is a part of x.
 - Below it stand the definitions that the promise cites, each with the words above it and the file that has it. A word in quotation marks is document 01's, document 02's or the RFC's.
 - **In C** is the function of `bindings/raspteal.h` that makes the call.
 - A type that is no number, flag or slice stands in the list at the end of the page, under [Types](#types). What a refusal's number means, and which answer says it, stands before that, under [Refusals](#refusals).
@@ -62,7 +62,7 @@ How to read an entry:
 
 REFUSALS = """## Refusals
 
-Document 01's number of each refusal, its words in the header, and the answers of the layers that say it; the definitions that give each answer its number, place and code are `kindNumber`, `putOutcome`, `readingRefusal` (`crates/line/specs/Refusals.antt`), `mappingRefusal` (`crates/map/specs/Refusals.antt`), `storeOutcome`, `saveOutcome`, `lookOutcome`, `toldOutcome` (`crates/store/specs/Refusals.antt`) and `nearOutcome` (`crates/store/specs/Near.antt`).
+Document 01's number of each refusal, its words in the header, and the answers of the layers that say it; the definitions that give each answer its number, place and code are `kind_number`, `put_outcome`, `reading_refusal` (`crates/line/specs/Refusals.antt`), `mapping_refusal` (`crates/map/specs/Refusals.antt`), `store_outcome`, `save_outcome`, `look_outcome`, `told_outcome` (`crates/store/specs/Refusals.antt`) and `near_outcome` (`crates/store/specs/Near.antt`).
 
 | No. | Means | Answers that say it |
 |---|---|---|"""
@@ -139,9 +139,7 @@ class Call:
         self.title = f"{owner}::{self.name}" if owner else self.name
         contract = " ".join(line.strip() for line in clauses)
         self.requires = bool(re.search(r"\brequires\b", contract))
-        self.promises = [
-            (m[1], " ".join(m[2].split())) for m in re.finditer(r"ensures \{ λ (\w+). ⌜(.*?)⌝ \}", contract)
-        ]
+        self.promises = [clause_at(contract, m.end()) for m in re.finditer(r"\bensures\*?(?: \w+)? \{", contract)]
 
     def c_name(self):
         if self.title in CROSSES_AS:
@@ -152,6 +150,15 @@ class Call:
             snake = re.sub(r"(?<=[a-z])(?=[A-Z])", "_", TYPES.get(self.owner, self.owner)).lower()
             return f"raspteal_{snake}_{self.name}"
         return f"raspteal_store_{self.name}" if self.layer == "store" else f"raspteal_{self.name}"
+
+
+def clause_at(contract, start):
+    """The text of a clause whose opening brace ends at `start`, up to the brace that closes it."""
+    depth, at = 1, start
+    while depth:
+        depth += {"{": 1, "}": -1}.get(contract[at], 0)
+        at += 1
+    return " ".join(contract[start:at - 1].split())
 
 
 def calls_of(layer, path, source):
@@ -171,8 +178,8 @@ def imports_of(source, layer):
     """The names of specs/ that a source has imported: name to (crate, file, name), and module aliases."""
     names, aliases = {}, {}
     for line in lines_of(source):
-        m = re.match(r"ghost use Rattle·(\w+)(?:·specs)?\.(?:specs\.)*(\w+)(?:\.\{(.*)\})?(?: as (\w+))?;", line)
-        if not m:
+        m = re.match(r"ghost use Rattle\.(\w+)\.specs\.(\w+)(?:\.\{(.*)\})?(?: as (\w+))?;", line)
+        if not m or not Path("crates", m[1]).exists():
             continue
         if m[3]:
             for name in m[3].split(","):
@@ -214,14 +221,11 @@ def definition(crate, file, name):
     return path, None
 
 
-def promise_words(result, text):
+def promise_words(text):
     """The contract with arguments by their names: x for what it is at the call, x' for what it is after it."""
-    text = re.sub(r"now \((\w+) \.entry\)", r"\1", text)
-    text = re.sub(r"now \((\w+) \.exit\)", r"\1'", text)
-    text = re.sub(r"\((\w+'?)\)", r"\1", text)
-    text = re.sub(r"\((\w+) \.entry\)", r"\1", text)
-    text = text.replace(f"now {result} ", "result ").replace("«", "").replace("»", "").replace("specs.", "")
-    text = re.sub(rf"(?<![\w.']){result}(?![\w'])", "result", text)
+    text = text.replace("«", "").replace("»", "").replace("specs.", "")
+    text = re.sub(r"\b(\w+)\.(?:now|old|entry)\b", r"\1", text)
+    text = re.sub(r"\b(\w+)\.new\b", r"\1'", text)
     return text.replace(" ≡ ", " = ").replace(" × ", " and ").strip()
 
 
@@ -230,8 +234,8 @@ def entry(call, imports):
     if call.comment:
         out += [call.comment, ""]
     seen = []
-    for result, text in call.promises:
-        out.append(f"**Promise:** `{promise_words(result, text)}`")
+    for text in call.promises:
+        out.append(f"**Promise:** `{promise_words(text)}`")
         seen += [one for one in cited(text, imports) if one not in seen]
     out.append("")
     for crate, file, name in seen:
@@ -260,8 +264,8 @@ def refusals():
     said = {}
     for layer, path in [(layer, p) for layer in LAYERS for p in sorted(Path("crates", layer, "specs").glob("*.antt"))]:
         text = path.read_text()
-        enums = {m[2]: m[1] for m in re.finditer(r"\.(\w+)\.the-variants as (\w+)$", text, re.M)}
-        told = r"^\w+ \(?(\w+)\.(\w+)[^=\n]*= (?:Refuses \(|Lo\.CannotLook \()?(?:refusal(?:At|Of)? )?(\d+)\b"
+        enums = {m[2]: m[1] for m in re.finditer(r"\.(\w+)\.TheVariants as (\w+)$", text, re.M)}
+        told = r"^\w+ \(?(\w+)\.(\w+)[^=\n]*= (?:Refuses \(|Lo\.CannotLook \()?(?:refusal(?:_at|_of)? )?(\d+)\b"
         for m in re.finditer(told, text, re.M):
             if m[1] in enums and m[3] != "0" and REFUSING.search(text[: m.start()].split("\nabbrev pub ")[-1]):
                 variant = f"`{layer}::{enums[m[1]]}::{m[2]}`"
@@ -301,7 +305,7 @@ def types(layers):
 def exported():
     """The bodies of the C functions of crates/exports, by name."""
     text = "\n".join(path.read_text() for path in sorted(Path("crates/exports/src").glob("*.rt")))
-    found = re.finditer(r'#\[no_mangle\]\npub extern "C" fn (\w+)\((.*?)\n\}\n', text, re.S)
+    found = re.finditer(r'#\[unsafe\(no_mangle\)\]\npub extern "C" fn (\w+)\((.*?)\n\}\n', text, re.S)
     return {m[1]: m[2] for m in found}
 
 
@@ -311,7 +315,7 @@ def faults(call, imports, exports):
         yield "has a `requires`"
     if not call.promises:
         yield "has no `ensures`"
-    found = [one for _, text in call.promises for one in cited(text, imports)]
+    found = [one for text in call.promises for one in cited(text, imports)]
     for crate, file, name in found:
         if not definition(crate, file, name)[1]:
             yield f"cites {name}, which has no words above it in {crate}'s {file}.antt"

@@ -49,8 +49,8 @@ class Cases(unittest.TestCase):
 
     def test_like_hub(self):
         """What hub says of its own store file, hub-group says of the group's store, and the other way round."""
-        if not (ROOT / "target/bin/hub").exists():
-            self.skipTest("no program target/bin/hub")
+        if not (ROOT / "crates/hub/out/hub").exists():
+            self.skipTest("no program crates/hub/out/hub")
         replay("hub-group init beside; hub new beside; printf '%s,A,a:b0,-lefty:a0~\n' " + PAD + " > list")
         for call in (["insert", "list"], ["find", PAD], ["find", PAD[:4] + "abcd" + PAD[8:]], ["find", "2" + PAD[1:]],
                      ["show", PAD, *LISTS], ["save", PAD, "Größe", *LISTS, "a=10131", "leftx=30000"], ["show", PAD],

@@ -43,7 +43,7 @@ fn main() {
         Ok(folder) => folder,
         Err(missing) => {
             eprintln!("raspteal: {missing}");
-            eprintln!("raspteal: build libexports.a with `rt staticlib exports` (the Rattle toolchain),");
+            eprintln!("raspteal: build libexports.a with `bindings/library` (it needs the Rattle toolchain),");
             eprintln!("raspteal: or set RASPTEAL_LIB to the folder that has it");
             std::process::exit(1);
         }

@@ -2,6 +2,7 @@
 use line::ev::AxisOrBtn;
 use line::mapping::Mapping;
 use line::reading::{SdlAnswer, SdlMapping};
+use std::io;
 use std::num::wrapping_add_u64;
 
 // One more than the greatest number of a refused reading.
@@ -67,8 +68,7 @@ impl Figures {
 
     fn entry_sums(self, map: Mapping) -> Figures {
         let mut next = self;
-        let mut i: usize = 0;
-        while i < 256 {
+        for i in 0..256 {
             if map.count <= i {
                 return next;
             }
@@ -76,7 +76,6 @@ impl Figures {
             let element = e.element;
             next.codes = wrapping_add_u64(next.codes, e.code.0 as u64);
             next.elements = wrapping_add_u64(next.elements, element_number(element));
-            i += 1;
         }
         next
     }
@@ -90,36 +89,32 @@ impl Figures {
         next
     }
 
-    pub fn say(self) {
-        say(b": ", self.lines);
-        say(b" lines, accepted ", self.accepted);
-        say(b", entries ", self.entries);
+    pub fn say(self, rt: &impl Print) -> io::Result<()> {
+        let lines = self.lines;
+        let accepted = self.accepted;
+        let entries = self.entries;
+        print!(rt; ": {lines} lines, accepted {accepted}, entries {entries}")
     }
 
-    pub fn say_sums(self) {
-        say(b", hat flags ", self.hats);
-        say(b", name bytes ", self.names);
-        say(b", codes ", self.codes);
-        say(b", elements ", self.elements);
+    pub fn say_sums(self, rt: &impl Print) -> io::Result<()> {
+        let hats = self.hats;
+        let names = self.names;
+        let codes = self.codes;
+        let elements = self.elements;
+        print!(rt; ", hat flags {hats}, name bytes {names}, codes {codes}, elements {elements}")?;
         let refused = self.refused;
-        say_refused(refused);
+        say_refused(rt, refused)
     }
 }
 
-fn say(text: &[u8], n: u64) {
-    io::write_all(1, text);
-    io::print_decimal(1, n);
-}
-
-fn say_refused(refused: [u64; NUMBERS]) {
-    let mut i: usize = 1;
-    while i < NUMBERS {
-        if 0 < refused[i] {
-            say(b", refused by ", i as u64);
-            say(b": ", refused[i]);
+fn say_refused(rt: &impl Print, refused: [u64; NUMBERS]) -> io::Result<()> {
+    for number in 1..NUMBERS {
+        let lines = refused[number];
+        if 0 < lines {
+            print!(rt; ", refused by {number}: {lines}")?;
         }
-        i += 1;
     }
+    Ok(())
 }
 
 fn element_number(e: AxisOrBtn) -> u64 {

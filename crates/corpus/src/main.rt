@@ -8,6 +8,9 @@ ghost use Rattle.std.specs.Prelude.{◌<◌, length};
 
 use figures::Figures;
 use line::reading::parse_sdl_mapping;
+use std::io::Read;
+use std::rt::Files;
+use std::{env, fs, io};
 use text::bytes::find_byte;
 
 const BUTTONS: [u32; 32] = [
@@ -24,10 +27,6 @@ const AXES: [u32; 16] = [
 
 // The most bytes of a list.
 const LIST_ROOM: usize = 262144;
-
-fn say(text: &[u8]) {
-    io::write_all(1, text);
-}
 
 // What stands before the LF, or all.
 fn before_lf(s: &[u8]) -> &[u8] {
@@ -81,43 +80,41 @@ fn read_lines(list: &[u8]) -> Figures {
     figures
 }
 
-fn read_file(fd: i32) -> Figures {
-    let mut space = [0u8; LIST_ROOM];
-    let n = io::read_full(fd, &mut space);
-    if n == LIST_ROOM {
-        say(b"too long: ");
+// The bytes of the file at `path`, at most 262144 of them, or none where it can't be opened.
+fn read_file<R: Files + AllocGlobal>(rt: &R, path: &str) -> io::Result<Option<Vec<u8>>> {
+    match fs::open(rt, path) {
+        Ok(file) => {
+            let mut list = Vec::new(rt.alloc());
+            file.take(LIST_ROOM as u64).read_to_end(&mut list)?;
+            Ok(Some(list))
+        }
+        Err(_) => Ok(None),
     }
-    read_lines(&space[..n])
 }
 
-// The list that argument `i` names.
-fn read_list(i: usize) -> Figures {
-    let mut path = io::buffer();
-    let len = os::arg(i, &mut path);
-    let fd = os::open_read(&path[..len]);
-    if fd < 0 {
-        say(&path[..len]);
-        say(b": no such file\n");
-        return Figures::new();
+// The list that an argument names.
+fn read_list<R: Files + Print + AllocGlobal>(rt: &R, path: &str) -> io::Result<Figures> {
+    let Some(list) = read_file(rt, path)? else {
+        println!(rt; "{path}: no such file")?;
+        return Ok(Figures::new());
+    };
+    if list.len() == LIST_ROOM {
+        print!(rt; "too long: ")?;
     }
-    let figures = read_file(fd);
-    libc::close(fd);
-    say(&path[..len]);
-    figures.say();
-    figures.say_sums();
-    say(b"\n");
-    figures
+    let figures = read_lines(&list);
+    print!(rt; "{path}")?;
+    figures.say(rt)?;
+    figures.say_sums(rt)?;
+    println!(rt; "")?;
+    Ok(figures)
 }
 
-fn main() {
+fn main(rt: HostRuntime) -> io::Result<()> {
     let mut all = Figures::new();
-    let mut i: usize = 1;
-    let count = os::arg_count();
-    while i < count {
-        all = all.and(read_list(i));
-        i += 1;
+    for path in env::args(&rt)?.skip(1) {
+        all = all.and(read_list(&rt, path.as_str())?);
     }
-    say(b"all");
-    all.say();
-    say(b"\n");
+    print!(rt; "all")?;
+    all.say(&rt)?;
+    println!(rt; "")
 }

@@ -18,7 +18,6 @@ use Rattle.line.specs.declared.reading.SdlMapping.{SdlMapping}
 use Rattle.line.specs.Elements.{code_of}
 use Rattle.line.specs.Maps.{codes_max, ranged_entry, unused_entry}
 use Rattle.line.specs.Refusals.{put_outcome, reading_outcome}
-use Rattle.exports.specs.declared.flat.FlatElement.{FlatElement}
 use Rattle.exports.specs.declared.flat_mapping.FlatEntry.{FlatEntry}
 use Rattle.exports.specs.declared.flat_mapping.FlatMapping.{FlatMapping}
 use Rattle.exports.specs.declared.mapping_calls.FlatPut.{FlatPut}

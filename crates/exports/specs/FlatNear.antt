@@ -1,6 +1,6 @@
 -- Answers of the look-up that also tries a UUID without its checksum, as numbers at the C boundary.
 -- The contracts of the exports rest on these definitions; they assume nothing.
-use Rattle.std.specs.Prelude.{ℕ, false}
+use Rattle.std.specs.Prelude.{ℕ}
 use Rattle.store.specs.declared.near.NearLook.{NearLook}
 use Rattle.store.specs.declared.near.NearLook.TheVariants as Nl
 use Rattle.store.specs.Near.{near_outcome}

@@ -1,6 +1,6 @@
 -- Slots, and the answers of the map layer, as numbers at the C boundary.
 -- The contracts of the exports rest on these definitions; they assume nothing.
-use Rattle.std.specs.Prelude.{ℕ, true, false, map}
+use Rattle.std.specs.Prelude.{true, false, map}
 use Rattle.text.specs.Bytes.{pick}
 use Rattle.line.specs.Elements.{code_of}
 use Rattle.map.specs.declared.mapping_data.Slot.{Slot}

@@ -5,6 +5,9 @@
 ghost use Rattle.std.specs.Prelude.{◌≡◌};
 ghost use Rattle.map.specs.Keys.{key_number};
 
+use std::io;
+use std::io::{BufWriter, Write};
+
 // The codes of the table: from the first on, up to the last.
 const FIRST: u32 = 0x10100;
 
@@ -29,16 +32,11 @@ fn button_by_rule(code: u32) -> u8
     0
 }
 
-fn say_line(n: u8) {
-    io::print_decimal(1, n as u64);
-    io::write_all(1, b"\n");
-}
-
-fn main() {
-    let mut code = FIRST;
-    while code <= LAST {
-        let n = button_by_rule(code);
-        say_line(n);
-        code += 1;
+fn main(rt: HostRuntime) -> io::Result<()> {
+    let mut out = BufWriter::new(rt.alloc(), io::writer(&rt))?;
+    for code in FIRST..=LAST {
+        let number = button_by_rule(code);
+        writeln!(out, "{number}")?;
     }
+    out.flush()
 }

@@ -22,7 +22,7 @@ use Rattle.line.specs.declared.parser.Answer.TheVariants as An
 use Rattle.line.specs.declared.parser.Token.TheVariants as Tk
 use Rattle.line.specs.Fields.{field, find_from}
 use Rattle.line.specs.Pairs.{refuse}
-use Rattle.line.specs.Parser.{parser_of, step_from, moved}
+use Rattle.line.specs.Parser.{parser_of, moved}
 use Rattle.line.specs.Refusals.{refusal_at, answer_outcome}
 use Rattle.line.specs.declared.refusal.Outcome.{Outcome}
 use Rattle.line.specs.declared.refusal.Outcome.TheVariants.{Passes, Refuses}

@@ -24,9 +24,7 @@ use Rattle.line.specs.Refusals.{refusal, refusal_at, reading_error_of, reading_o
 use Rattle.line.specs.Reading.{refuses, with_name}
 use Rattle.line.specs.Reading.{pairs_from, named_from, headed, line_from, read_line, lists_fit, reading_of}
 use Rattle.line.specs.Walker.{guid_of}
-use Rattle.line.specs.Folds.{after}
 use Rattle.line.specs.Overfull.{place_after, Overfull, PutsTooMany, ElevenExactly}
-use Rattle.line.proofs.ViewLaws.{with}
 use Rattle.line.proofs.KindLaws.{reading_one_to_one}
 use Rattle.line.proofs.OverfullLaws.{Eleven, no_11, OverFrom, only_over, over_says}
 use Rattle.line.proofs.ReadBack.{named, shaped, line_shape}

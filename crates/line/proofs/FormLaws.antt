@@ -17,9 +17,8 @@ use Rattle.text.specs.declared.uuid.UuidParse.TheVariants as Up
 use Rattle.text.proofs.BytesLaws.{first_le}
 use Rattle.text.proofs.ListLaws.{lt_or_le}
 use Rattle.line.specs.declared.parser.FirstForm.TheVariants as Ff
-use Rattle.line.specs.declared.parser.State.TheVariants as St
 use Rattle.line.specs.Calls.{where_uuid, FormOfFirst}
-use Rattle.line.specs.Fields.{find_from, first_field}
+use Rattle.line.specs.Fields.{first_field}
 use Rattle.line.specs.Parser.{parser_of, step_from}
 use Rattle.line.specs.Walker.{start_of, guid_of, uuid_step, field_step_of, step_of, form_in, first_form}
 

@@ -31,7 +31,7 @@ use Rattle.line.specs.declared.parser.Stepped.{Stepped}
 use Rattle.line.specs.declared.parser.Answer.{Answer}
 use Rattle.line.specs.declared.parser.Answer.TheVariants as An
 use Rattle.line.specs.Tables.{key_element}
-use Rattle.line.specs.Fields.{count_of, find_from, field}
+use Rattle.line.specs.Fields.{count_of, find_from}
 use Rattle.line.specs.Values.{starts_with, axis_numbered, axis_value_of, signed_of, button_value_of}
 use Rattle.line.specs.Values.{hat_numbers, hat_of, value_of}
 use Rattle.line.specs.Pairs.{refuse, half_of, skip_of, mapped_of, keyed_of, pair_of}

@@ -2,7 +2,7 @@
 -- all others change places freely; so do flags, and the bytes of whole fields. Assumes nothing.
 use Prim.Native.Nat.{ℕ, ◌+◌, ◌≤◌}
 use mathlib.Core.Path.{◌≡◌, refl, sym, ap, ◌∙◌}
-use mathlib.Core.List.{List, [], ◌∷◌, ◌++◌}
+use mathlib.Core.List.{List, ◌∷◌}
 use mathlib.Core.Bool.{Bool, true, false}
 use native.Mathlib.Omega.{arith}
 use borrow.Author.Tests.{eqb-true, eqb-false}
@@ -27,7 +27,7 @@ use Rattle.line.specs.Refusals.{refusal}
 use Rattle.line.specs.Reading.{refuses, accepted_of, pairs_from, read_line, reading_of, lists_fit}
 use Rattle.line.specs.Effects.{effect_of, entries_of, AllGo}
 use Rattle.line.specs.Folds.{flags_of, or_all, after}
-use Rattle.line.specs.Regrouping.{Permuted, none, keep, swap, then, In, here, there, Alike, Regrouped}
+use Rattle.line.specs.Regrouping.{Permuted, none, keep, swap, then, here, there, Alike, Regrouped}
 use Rattle.line.specs.Regrouping.{ReadsAlike}
 use Rattle.line.proofs.PutLaws.{put_commute}
 use Rattle.line.proofs.PermutationLaws.{permuted_back, in_permuted, permuted_after, permuted_swap, or_swap}

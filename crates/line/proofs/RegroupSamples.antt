@@ -19,7 +19,7 @@ use Rattle.line.specs.declared.reading.SdlMapping.{SdlMapping}
 use Rattle.line.specs.Buttons as B
 use Rattle.line.specs.Axes as A
 use Rattle.line.specs.Elements.{code_of}
-use Rattle.line.specs.Maps.{entry_of, MapView, to_map, empty_map, put_entry, put_of, map_of}
+use Rattle.line.specs.Maps.{entry_of, to_map, empty_map, put_entry, put_of, map_of}
 use Rattle.line.specs.Tables.{axes_sdl, axes_table, row_from, key_row}
 use Rattle.line.specs.Fields.{count_of, fields_of}
 use Rattle.line.specs.Values.{axis_value_of, signed_of, hat_of, value_of}

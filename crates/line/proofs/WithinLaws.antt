@@ -4,7 +4,7 @@ use Prim.Native.Nat.{ℕ, zero, suc, ◌+◌, ◌<◌, ◌≤◌}
 use mathlib.Core.Path.{◌≡◌, refl, sym, subst}
 use mathlib.Core.Bool.{Bool, true, false}
 use mathlib.Core.Logic.{⊎_elim}
-use mathlib.Core.List.{List, [], ◌∷◌}
+use mathlib.Core.List.{List, []}
 use native.Mathlib.Omega.{arith}
 use borrow.Author.Tests.{eqb-false, lt-ltb}
 use lib.Dec.{eqb, leb, ltb}
@@ -37,7 +37,7 @@ use Rattle.line.specs.Maps.{codes_max, empty_map, to_map, held, put_entry, with_
 use Rattle.line.specs.Pairs.{refuse, pair_of}
 use Rattle.line.specs.Puts.{listed, hat_puts, puts_of}
 use Rattle.line.specs.Refusals.{refusal, refusal_at, reading_outcome}
-use Rattle.line.specs.Reading.{accepted_of, refused_of, refuses, follow, with_name, with_hat, stored_at, put_one}
+use Rattle.line.specs.Reading.{accepted_of, refused_of, refuses, follow, with_hat, stored_at, put_one}
 use Rattle.line.specs.Reading.{then_put, flagged, put_all, skips, taken, lists_fit, read_line, reading_of}
 use Rattle.line.specs.Walker.{guid_of, start_of, stepped, uuid_step, field_step_of, step_of}
 use Rattle.line.specs.Parser.{parser_of, moved}

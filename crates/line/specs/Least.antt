@@ -1,6 +1,6 @@
 -- What `map_rev` answers of a list of entries: the theorem `least_code` in ../proofs/LeastLaws.antt.
 -- The theorem rests on these definitions; they assume nothing.
-use Rattle.std.specs.Prelude.{ℕ, ◌≤◌, ◌≡◌, true, List}
+use Rattle.std.specs.Prelude.{◌≤◌, ◌≡◌, true, List}
 use Rattle.line.specs.declared.ev.Code.{Code}
 use Rattle.line.specs.declared.ev.AxisOrBtn.{AxisOrBtn}
 use Rattle.line.specs.declared.mapping.Entry.{Entry}

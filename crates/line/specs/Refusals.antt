@@ -17,7 +17,6 @@ use Rattle.line.specs.declared.reading.SdlAnswer.{SdlAnswer}
 use Rattle.line.specs.declared.reading.SdlAnswer.TheVariants as Sd
 use Rattle.line.specs.declared.refusal.Place.{Place}
 use Rattle.line.specs.declared.refusal.Place.TheVariants.{At, NoPlace}
-use Rattle.line.specs.declared.refusal.Carried.{Carried}
 use Rattle.line.specs.declared.refusal.Carried.TheVariants.{Carries, NoCode}
 use Rattle.line.specs.declared.refusal.Refusal.{Refusal}
 use Rattle.line.specs.declared.refusal.Outcome.{Outcome}

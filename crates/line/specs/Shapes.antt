@@ -1,6 +1,6 @@
 -- The shape of every map that is read: the theorem `reading_shaped`.
 -- The theorem rests on these definitions; they assume nothing.
-use Rattle.std.specs.Prelude.{ℕ, ◌≤◌, ◌≡◌, List, [], length}
+use Rattle.std.specs.Prelude.{◌≤◌, ◌≡◌, length}
 use Rattle.line.specs.declared.mapping.Mapping.{Mapping}
 use Rattle.line.specs.Maps.{codes_max, MapView, to_map, Ascending}
 

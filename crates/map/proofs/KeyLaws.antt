@@ -1,9 +1,9 @@
 -- The table of key codes: its rule at each entry by one computed test, each button in it a single time and nothing else
 -- but 0, and its agreement with the buttons' codes both ways. Assumes nothing.
-use Prim.Native.Nat.{ℕ, zero, suc, ◌+◌, ◌-◌, ◌≤◌, ◌<◌}
-use mathlib.Core.Path.{◌≡◌, refl, ap, sym, ◌∙◌}
+use Prim.Native.Nat.{ℕ, zero, suc, ◌+◌, ◌≤◌, ◌<◌}
+use mathlib.Core.Path.{◌≡◌, refl, ap, ◌∙◌}
 use mathlib.Core.Bool.{Bool, true, false}
-use mathlib.Core.Logic.{◌⊎◌, inl, inr, ⊎_elim}
+use mathlib.Core.Logic.{⊎_elim}
 use mathlib.Core.List.{List, [], ◌∷◌}
 use native.Mathlib.Omega.{arith}
 use borrow.Author.Tests.{eqb-true, ne_eqb, leb-true, lt-leb, le-leb}
@@ -11,7 +11,6 @@ use lib.Dec.{leb, eqb}
 use lib.ListN.{length, get_or}
 use Rattle.text.specs.Bytes.{pick, both}
 use Rattle.text.proofs.ListLaws.{lt_or_le, both_parts}
-use Rattle.line.specs.declared.ev.Code.{Code}
 use Rattle.line.specs.Elements.{code_of, button_code, button_last}
 use Rattle.map.specs.declared.keys.KeyTable.{KeyTable}
 use Rattle.map.specs.Keys.{key_first, key_count, key_number, keys, key_table}

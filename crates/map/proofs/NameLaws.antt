@@ -1,6 +1,6 @@
 -- Laws of a name that is written byte by byte from its row of the names. Assumes nothing.
 use Prim.Native.Nat.{ℕ, ◌+◌, ◌<◌, ◌≤◌}
-use mathlib.Core.Path.{◌≡◌, refl, sym, ap, ◌∙◌}
+use mathlib.Core.Path.{◌≡◌, sym, ap, ◌∙◌}
 use mathlib.Core.List.{List, [], ◌∷◌}
 use native.Mathlib.Omega.{arith}
 use lib.ListN.{length, take, drop, get_or, length-drop}
@@ -11,7 +11,7 @@ use Rattle.text.proofs.BytesLaws.{written_none}
 use Rattle.text.proofs.ListLaws.{at_next}
 use Rattle.line.specs.declared.ev.AxisOrBtn.{AxisOrBtn}
 use Rattle.line.specs.declared.tables.KeyRow.TheVariants.{At, Nowhere}
-use Rattle.line.specs.Tables.{name_rows, name_at, name_in_line, ident_text, element_row}
+use Rattle.line.specs.Tables.{name_rows, name_in_line, ident_text, element_row}
 use Rattle.line.specs.Inner.{until_zero}
 use Rattle.line.proofs.KeyLaws.{until_end, until_more, until_full, row_named}
 

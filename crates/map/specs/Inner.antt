@@ -1,6 +1,6 @@
 -- What the contracts of private functions say.
 -- No public contract rests on these: a reader may leave them out.
-use Rattle.std.specs.Prelude.{ℕ, zero, suc, ◌+◌, ◌-◌, ◌/◌, ◌%◌, ◌<◌, ◌≤◌, ◌≡◌, Bool, false, List, [], ◌∷◌, ◌++◌, map, leb, ltb, length, take, get_or, replicate}
+use Rattle.std.specs.Prelude.{ℕ, zero, suc, ◌+◌, ◌-◌, ◌<◌, ◌≤◌, ◌≡◌, Bool, false, List, [], ◌∷◌, ◌++◌, map, leb, ltb, length, take, get_or, replicate}
 use Rattle.text.specs.Bytes.{byte, pick}
 use Rattle.text.specs.Decimal.{decimal}
 use Rattle.text.specs.Uuid.{uuid_text}

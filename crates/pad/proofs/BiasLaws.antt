@@ -1,14 +1,13 @@
 -- A value counted from the least one, and back. Assumes nothing.
-use Prim.Native.Nat.{ℕ, zero, suc, ◌+◌, ◌-◌, ◌<◌, ◌≤◌, ◌^◌}
+use Prim.Native.Nat.{ℕ, zero, suc, ◌+◌, ◌-◌, ◌<◌, ◌≤◌}
 use mathlib.Core.Path.{◌≡◌, refl, ap}
 use native.Mathlib.Omega.{arith}
 use mathlib.Core.Logic.{◌⊎◌, inl, inr, ⊎_elim}
 use mathlib.Core.Bool.{Bool, true, false}
-use lib.Dec.{ltb, eqb, T}
-use lib.IntN.{ℤ, pos, negsuc, neg_ℤ, nat_abs, sub_ℕ, ◌+ℤ◌, ◌-ℤ◌}
-use lib.Signed.{mag, non_neg}
+use lib.Dec.{ltb, eqb}
+use lib.IntN.{ℤ, pos, negsuc, nat_abs, ◌+ℤ◌}
 use borrow.Author.Tests.{lt-ltb, le-ltb, eqb-true, eqb-false, ltb-true, ltb-false}
-use mir.Syntax.{w16, w32}
+use mir.Syntax.{w16}
 use mir.Val.{SFits}
 use Rattle.pad.specs.Values.{part_of}
 use Rattle.pad.specs.Inner.{shifted, unshifted, share_of, Proper}

@@ -1,6 +1,6 @@
 -- What a program can hand over has 16 bits: an axis value, and the number of an element. Assumes nothing.
 use Prim.Native.Nat.{ℕ, zero, suc, ◌+◌, ◌/◌, ◌%◌, ◌<◌}
-use mathlib.Core.Path.{◌≡◌, refl, subst}
+use mathlib.Core.Path.{◌≡◌, subst}
 use mathlib.Core.Bool.{Bool, true, false}
 use mathlib.Core.List.{List, [], ◌∷◌}
 use native.Mathlib.Omega.{arith}
@@ -8,10 +8,9 @@ use native.Mathlib.Numerals.{add-one}
 use lib.Dec.{eqb}
 use lib.ListN.{length, take, get_or}
 use Rattle.text.specs.Bytes.{pick}
-use Rattle.line.specs.declared.ev.AxisOrBtn.{AxisOrBtn}
 use Rattle.line.specs.declared.ev.AxisOrBtn.TheVariants as El
 use Rattle.line.specs.declared.mapping.Entry.{Entry}
-use Rattle.line.specs.Numbers.{shape_unit, element_of_kind, shaped_entry, entry_in}
+use Rattle.line.specs.Numbers.{shape_unit, shaped_entry, entry_in}
 use Rattle.pad.specs.PadGuarantee.{ShortElement, ShortAll}
 
 -- ---- an entry that its number gives back

@@ -6,17 +6,14 @@ use mathlib.Core.Bool.{Bool, true, false}
 use mathlib.Core.List.{List, [], ◌∷◌, ◌++◌, map, append_assoc}
 use native.Mathlib.Omega.{arith}
 use native.Mathlib.Numerals.{add-one}
-use lib.Dec.{eqb}
 use lib.ListN.{length, take, drop, get_or, set, replicate, length-map, length-set, take-append-drop, get_or-map}
 use lib.ListN.{drop_of_length-le, length-replicate}
 use lib.Seq.{drop-cons, length-take-le, take-suc-set}
-use lib.IntN.{ℤ, pos}
-use Rattle.text.specs.Bytes.{pick}
+use lib.IntN.{ℤ}
 use Rattle.line.specs.declared.mapping.Entry.{Entry}
 use Rattle.line.specs.Numbers.{entry_number}
 use Rattle.line.proofs.PlaceLaws.{copied_more}
 use Rattle.pad.specs.declared.events.Event.{Event}
-use Rattle.pad.specs.declared.events.Events.{Events}
 use Rattle.pad.specs.Pads.{element_at, sameℤ, changes, tabulate}
 use Rattle.pad.specs.States.{unused_event, events_in, entry_numbers}
 use Rattle.pad.specs.Inner.{shifted, unshifted, Small, one_event, Filled, Filling, Listed}

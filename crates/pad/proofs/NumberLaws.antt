@@ -1,8 +1,8 @@
 -- Held codes and entries as numbers, one after the other. Assumes nothing.
-use Prim.Native.Nat.{ℕ, zero, suc, ◌+◌, ◌-◌, ◌/◌, ◌%◌, ◌<◌, ◌≤◌}
+use Prim.Native.Nat.{ℕ, suc, ◌+◌, ◌-◌, ◌/◌, ◌%◌, ◌<◌, ◌≤◌}
 use mathlib.Core.Path.{◌≡◌, refl, sym, ap, subst, ◌∙◌}
 use mathlib.Core.Bool.{Bool, true, false}
-use mathlib.Core.List.{List, [], ◌∷◌, map}
+use mathlib.Core.List.{List, ◌∷◌, map}
 use native.Mathlib.Omega.{arith}
 use native.Mathlib.Numerals.{add-one}
 use borrow.Author.Tests.{eq-eqb, ne_eqb, lt-ltb, le-ltb}
@@ -30,7 +30,7 @@ use Rattle.pad.specs.declared.choice.Best.{Best}
 use Rattle.pad.specs.Values.{entry_value}
 use Rattle.pad.specs.Pads.{given_by, gives, Chosen, none, chosen, prefer, choose, value_in}
 use Rattle.pad.specs.States.{raw_in, held_in}
-use Rattle.pad.specs.Inner.{shifted, unshifted, value_number, helds_in, entries_in, distance_of, prefer_number, Some}
+use Rattle.pad.specs.Inner.{shifted, unshifted, value_number, helds_in, entries_in, distance_of, prefer_number}
 use Rattle.pad.specs.Inner.{Holds}
 use Rattle.pad.proofs.BiasLaws.{shifted_small, unshifted_fits, unshifted-shifted}
 use Rattle.pad.proofs.ValueLaws.{ValueFits, RawFits, value_fits}

@@ -1,29 +1,26 @@
 -- Two claims of the request: full to full gives v back, and larger values never give smaller results. Assumes nothing.
-use Prim.Native.Nat.{ℕ, zero, suc, ◌+◌, ◌-◌, ◌*◌, ◌/◌, ◌<◌, ◌≤◌}
-use mathlib.Core.Path.{◌≡◌, refl, sym, ap, subst, ◌∙◌}
+use Prim.Native.Nat.{ℕ, suc, ◌+◌, ◌-◌, ◌*◌, ◌/◌, ◌<◌, ◌≤◌}
+use mathlib.Core.Path.{◌≡◌, refl, ap, subst, ◌∙◌}
 use mathlib.Core.Bool.{Bool, true, false}
 use native.Mathlib.Omega.{arith}
 use native.Mathlib.Nat.{mul-div_cancel}
-use lib.IntN.{ℤ, pos, negsuc, neg_ℤ}
-use lib.Signed.{◌≤ℤ◌, le_z}
-use lib.Dec.{T, leb, ltb, le→leb, leb→le}
+use lib.IntN.{ℤ, pos, negsuc}
+use lib.Signed.{◌≤ℤ◌}
+use lib.Dec.{ltb, le→leb, leb→le}
 use borrow.Author.Tests.{ltb-true, ltb-false}
 use mir.Syntax.{w16}
 use mir.Val.{SFits}
-use Rattle.pad.specs.Values.{part_of, turned, output_of, axis_value, raw_value}
-use Rattle.pad.specs.ValueClaims.{Within, GivesBack, RisingInput, RisingOutput, NeverSmaller}
+use Rattle.pad.specs.Values.{part_of, output_of, raw_value}
+use Rattle.pad.specs.ValueClaims.{GivesBack, RisingOutput, NeverSmaller}
 use Rattle.line.specs.Maps.{full_ranges}
-use Rattle.pad.specs.Inner.{shifted, unshifted, share_of, output_at, Proper}
+use Rattle.pad.specs.Inner.{unshifted}
 use Rattle.line.specs.declared.ev.Axis.{Axis}
-use Rattle.line.specs.declared.parser.Ranges.{Ranges}
 use Rattle.pad.specs.declared.events.Raw.TheVariants as Rw
 use Rattle.line.specs.declared.ev.AxisOrBtn.{AxisOrBtn}
 use Rattle.line.specs.declared.ev.AxisOrBtn.TheVariants as El
 use Rattle.line.specs.declared.parser.AxisRange.{AxisRange}
 use Rattle.line.specs.declared.parser.AxisRange.TheVariants as Ar
-use Rattle.pad.specs.declared.numbers.Part.{Part}
 use Rattle.pad.specs.declared.numbers.Part.TheVariants as Pt
-use Rattle.pad.specs.declared.value.ElementValue.{ElementValue}
 use Rattle.pad.specs.declared.value.ElementValue.TheVariants as Ev
 use Rattle.pad.proofs.BiasLaws.{unshifted-shifted}
 use Rattle.pad.proofs.ShareLaws.{scaled_mono}

@@ -1,20 +1,17 @@
 -- The reader holds the values worked out afresh, after every list of calls. Assumes nothing.
-use Prim.Native.Nat.{ℕ, zero, suc, ◌+◌, ◌-◌, ◌*◌, ◌/◌, ◌%◌, ◌<◌, ◌≤◌}
+use Prim.Native.Nat.{ℕ, suc, ◌+◌, ◌-◌, ◌*◌, ◌/◌, ◌%◌, ◌<◌, ◌≤◌}
 use mathlib.Core.Path.{◌≡◌, refl, sym, ap, subst, ◌∙◌}
 use mathlib.Core.Bool.{Bool, true, false, not}
 use mathlib.Core.List.{List, [], ◌∷◌, ◌++◌, map}
 use mathlib.Core.Logic.{⊎_elim}
 use native.Mathlib.Omega.{arith}
-use borrow.Author.Tests.{eq-eqb, ne_eqb, eqb-true, eqb-false, le-leb, lt-leb, leb-true, leb-false}
+use borrow.Author.Tests.{ne_eqb, eqb-true, eqb-false, le-leb, lt-leb, leb-true}
 use lib.Dec.{eqb, leb}
-use lib.ListN.{length, take, drop, replicate, length-map, length-append}
-use lib.IntN.{ℤ, pos, negsuc, nat_abs, ◌+ℤ◌}
+use lib.ListN.{length, take, drop, replicate, length-map}
+use lib.IntN.{ℤ, pos, nat_abs, ◌+ℤ◌}
 use Rattle.text.specs.Bytes.{pick, both}
 use Rattle.line.specs.declared.ev.Code.{Code}
-use Rattle.line.specs.declared.ev.AxisOrBtn.{AxisOrBtn}
 use Rattle.line.specs.declared.mapping.Entry.{Entry}
-use Rattle.line.specs.declared.mapping.Entered.{Entered}
-use Rattle.line.specs.declared.mapping.Entered.TheVariants as En
 use Rattle.line.specs.declared.mapping.Mapping.{Mapping}
 use Rattle.line.specs.Elements.{code_of}
 use Rattle.line.specs.Maps as M
@@ -26,7 +23,6 @@ use Rattle.pad.specs.declared.events.Raw.TheVariants as Rw
 use Rattle.pad.specs.declared.events.Held.{Held}
 use Rattle.pad.specs.declared.events.Event.{Event}
 use Rattle.pad.specs.declared.state.Pad.{Pad}
-use Rattle.pad.specs.declared.state.Told.{Told}
 use Rattle.pad.specs.ValueClaims.{RawWithin}
 use Rattle.pad.specs.Pads.{held_max, put_held, choose, value_of, values_of, element_at, tabulate, changes, hears}
 use Rattle.pad.specs.States.{raw_number, raw_in, held_number, held_in, held_of, entries_of, pad_values, new_pad, events_in}
@@ -37,7 +33,7 @@ use Rattle.pad.specs.PadGuarantee.{held_with}
 use Rattle.pad.specs.PadGuarantee.{held_by, map_by, ShortAll, Fitting, ReaderAgrees, ReaderHolds, holds_code}
 use Rattle.pad.specs.PadGuarantee.{NoneTwice, PadHolds, RefusesAt256, OneEvent}
 use Rattle.pad.specs.declared.state.PadAnswer.TheVariants as Pa
-use Rattle.pad.specs.Inner.{shifted, unshifted, Touched}
+use Rattle.pad.specs.Inner.{shifted, Touched}
 use Rattle.pad.proofs.BiasLaws.{lt_or_le, sum_is, shifted_small, unshifted-shifted}
 use Rattle.pad.proofs.ValueLaws.{within_fits}
 use Rattle.pad.proofs.EventLaws.{few_changes}

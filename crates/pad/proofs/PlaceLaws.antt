@@ -10,12 +10,11 @@ use lib.Dec.{eqb, ltb, leb}
 use lib.ListN.{length, take, drop, get_or, set, length-append, length-drop, take-append-drop, drop_of_length-le}
 use lib.Seq.{drop-cons, get_or-take, length-take-le}
 use native.Mathlib.Numerals.{add-one}
-use Rattle.text.specs.Bytes.{pick, both}
 use Rattle.line.specs.declared.ev.AxisOrBtn.{AxisOrBtn}
 use Rattle.line.specs.declared.ev.AxisOrBtn.TheVariants as El
 use Rattle.line.specs.Elements.{same_element}
 use Rattle.pad.specs.declared.events.Held.{Held}
-use Rattle.pad.specs.Pads.{element_count, put_held, element_at, counts, place_from, place_of}
+use Rattle.pad.specs.Pads.{put_held, element_at, counts, place_from, place_of}
 use Rattle.line.specs.Numbers.{code_unit}
 use Rattle.pad.specs.States.{held_in, put_number}
 use Rattle.pad.specs.Inner.{place_in}

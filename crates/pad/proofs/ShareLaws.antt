@@ -1,6 +1,5 @@
 -- A share of d, scaled and rounded down: its bound and its order. Assumes nothing.
-use Prim.Native.Nat.{ℕ, ◌+◌, ◌-◌, ◌*◌, ◌/◌, ◌<◌, ◌≤◌}
-use mathlib.Core.Path.{◌≡◌}
+use Prim.Native.Nat.{ℕ, ◌*◌, ◌/◌, ◌<◌, ◌≤◌}
 use native.Mathlib.Nat.{div-le_of_le-mul, mul-le-mul_right, le-div_iff_mul-le, div-mul-le_self, le_trans}
 
 pub scaled_le : (n d k : ℕ) → n ≤ d → n * k / d ≤ k

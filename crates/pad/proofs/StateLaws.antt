@@ -1,13 +1,13 @@
 -- What the calls of a pad answer, from what their parts do. Assumes nothing.
-use Prim.Native.Nat.{ℕ, zero, suc, ◌+◌, ◌-◌, ◌/◌, ◌<◌, ◌≤◌}
-use mathlib.Core.Path.{◌≡◌, refl, sym, ap, subst, ◌∙◌}
+use Prim.Native.Nat.{ℕ, zero, suc, ◌/◌, ◌<◌, ◌≤◌}
+use mathlib.Core.Path.{◌≡◌, refl, sym, ap, ◌∙◌}
 use mathlib.Core.Bool.{Bool, true, false}
 use mathlib.Core.List.{List, [], ◌∷◌, ◌++◌, map}
 use mathlib.Core.Logic.{⊎_elim}
 use native.Mathlib.Omega.{arith}
 use borrow.Author.Tests.{eq-eqb, ltb-true, ltb-false, lt-ltb, le-ltb, le-leb, lt-leb}
-use lib.Dec.{eqb, ltb, leb}
-use lib.ListN.{length, take, drop, set, replicate, length-map, length-set}
+use lib.Dec.{eqb, ltb}
+use lib.ListN.{length, take, drop, set, length-map}
 use lib.Seq.{length-take-le}
 use lib.IntN.{ℤ, pos}
 use Rattle.text.specs.Bytes.{pick}
@@ -17,7 +17,7 @@ use Rattle.line.specs.declared.mapping.Entry.{Entry}
 use Rattle.line.specs.declared.mapping.Mapping.{Mapping}
 use Rattle.line.specs.Elements.{code_of}
 use Rattle.line.specs.Maps as M
-use Rattle.line.specs.Numbers.{code_unit, entry_number, entry_in}
+use Rattle.line.specs.Numbers.{code_unit, entry_in}
 use Rattle.pad.specs.declared.events.Raw.{Raw}
 use Rattle.pad.specs.declared.events.Held.{Held}
 use Rattle.pad.specs.declared.events.Event.{Event}
@@ -26,7 +26,7 @@ use Rattle.pad.specs.declared.state.Pad.{Pad}
 use Rattle.pad.specs.declared.state.Told.{Told}
 use Rattle.pad.specs.declared.state.PadAnswer.{PadAnswer}
 use Rattle.pad.specs.declared.state.PadAnswer.TheVariants as Pa
-use Rattle.pad.specs.Pads.{held_max, element_count, put_held, place_of, value_of, values_of, changes}
+use Rattle.pad.specs.Pads.{element_count, put_held, place_of, value_of, values_of, changes}
 use Rattle.pad.specs.States.{held_number, held_in, held_of, entries_of, pad_values, pad_value, events_in, told_of}
 use Rattle.pad.specs.States.{put_number}
 use Rattle.pad.specs.States.{with_held, held_after_event, refused_of, raw_event_of, entry_numbers, with_map, change_map_of}

@@ -24,15 +24,13 @@ use Rattle.pad.specs.declared.value.Emitted.TheVariants as Em
 use Rattle.pad.specs.declared.state.Pad.{Pad}
 use Rattle.pad.specs.declared.state.PadAnswer.{PadAnswer}
 use Rattle.pad.specs.declared.state.Told.{Told}
-use Rattle.pad.specs.declared.two.Pads.{Pads}
-use Rattle.pad.specs.declared.two.PadsTold.{PadsTold}
-use Rattle.pad.specs.Pads.{held_max, place_of, element_at, tabulate, value_of, sameℤ, changes}
+use Rattle.pad.specs.Pads.{held_max, element_at, tabulate, value_of, sameℤ, changes}
 use Rattle.pad.specs.States.{held_of, entries_of, pad_values, pad_value, events_in, told_of, with_held, held_after_event}
-use Rattle.pad.specs.States.{unused_event, refused_of, raw_event_of, with_map, change_map_of}
+use Rattle.pad.specs.States.{unused_event, refused_of, raw_event_of, change_map_of}
 use Rattle.pad.specs.PadGuarantee.{told_events}
 use Rattle.pad.specs.TwoPads.{farther, pads_value, pads_values, pads_told_of}
 use Rattle.pad.specs.Inner.{shifted, unshifted, distance_of}
-use Rattle.pad.specs.Inner.{one_event, Filling, joined_of, joined_event, caught, refined, Refining, TellsItself, two}
+use Rattle.pad.specs.Inner.{one_event, joined_of, joined_event, caught, refined, Refining, TellsItself, two}
 use Rattle.pad.specs.Inner.{first_told, second_told}
 use Rattle.pad.proofs.BiasLaws.{unshifted-shifted}
 use Rattle.pad.proofs.NumberLaws.{far}

@@ -1,7 +1,6 @@
 -- All interleavings end alike, and the reader of two pads holds the values of both. Assumes nothing.
-use Prim.Native.Nat.{ℕ}
 use mathlib.Core.Path.{◌≡◌, refl, sym, ap, ◌∙◌}
-use mathlib.Core.List.{List, [], ◌∷◌, map}
+use mathlib.Core.List.{List, [], ◌∷◌}
 use lib.IntN.{ℤ}
 use lib.ListN.{length}
 use Rattle.pad.specs.declared.two.Pads.{Pads}

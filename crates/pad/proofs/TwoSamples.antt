@@ -2,7 +2,6 @@
 use mathlib.Core.Path.{◌≡◌, refl}
 use mathlib.Core.List.{List, [], ◌∷◌}
 use lib.IntN.{ℤ, pos}
-use Rattle.line.specs.declared.mapping.Mapping.{Mapping}
 use Rattle.line.specs.Maps.{entry_at}
 use Rattle.line.specs.Numbers.{ranges_number, entry_number, shaped_entry, entry_in}
 use Rattle.pad.specs.declared.events.Event.{Event}

@@ -1,5 +1,5 @@
 -- The output of a part, counted from the least value, is the output; every value fits, and is within. Assumes nothing.
-use Prim.Native.Nat.{ℕ, zero, suc, ◌+◌, ◌-◌, ◌*◌, ◌/◌, ◌%◌, ◌<◌, ◌≤◌}
+use Prim.Native.Nat.{ℕ, zero, suc, ◌+◌, ◌-◌, ◌*◌, ◌/◌, ◌<◌, ◌≤◌}
 use mathlib.Core.Path.{◌≡◌, refl, sym, ap, subst, ◌∙◌}
 use mathlib.Core.Bool.{Bool, true, false}
 use native.Mathlib.Omega.{arith}
@@ -8,14 +8,14 @@ use borrow.Author.Tests.{lt-ltb, le-ltb}
 use mir.Syntax.{w16}
 use mir.Val.{SFits}
 use Rattle.pad.specs.Values.{output_of, axis_value, turned, part_of, pressed_value, raw_value}
-use Rattle.pad.specs.ValueClaims.{Within, RawWithin, ResultWithin, ResultsWithin}
+use Rattle.pad.specs.ValueClaims.{Within, RawWithin, ResultsWithin}
 use Rattle.line.specs.declared.parser.Ranges.{Ranges}
 use Rattle.pad.specs.declared.events.Raw.{Raw}
 use Rattle.pad.specs.declared.events.Raw.TheVariants as Rw
 use Rattle.pad.proofs.BiasLaws.{unshifted_fits, turned_proper, share_proper, share_is, shifted_small}
 use lib.Dec.{le→leb, leb→le}
 use lib.Signed.{◌≤ℤ◌}
-use Rattle.pad.specs.Inner.{shifted, unshifted, share_of, output_at, Proper}
+use Rattle.pad.specs.Inner.{shifted, unshifted, output_at, Proper}
 use Rattle.line.specs.declared.ev.Button.{Button}
 use Rattle.line.specs.declared.ev.AxisOrBtn.{AxisOrBtn}
 use Rattle.line.specs.declared.ev.AxisOrBtn.TheVariants as El

@@ -1,6 +1,6 @@
 -- What document 02, P13, promises of every list of raw events and map changes.
 -- The theorems `reader_agrees`, `reader_holds` and `pad_holds` rest on these definitions; they assume nothing.
-use Rattle.std.specs.Prelude.{ℕ, ◌≤◌, ◌<◌, ◌≡◌, Bool, true, false, not, ◌&&◌, List, [], ◌∷◌, eqb, leb, length, take, replicate, ℤ, pos}
+use Rattle.std.specs.Prelude.{◌≤◌, ◌<◌, ◌≡◌, Bool, true, false, not, ◌&&◌, List, [], ◌∷◌, eqb, leb, length, take, replicate, ℤ, pos}
 use Rattle.text.specs.Bytes.{pick}
 use Rattle.line.specs.declared.ev.Code.{Code}
 use Rattle.line.specs.declared.ev.AxisOrBtn.{AxisOrBtn}

@@ -1,6 +1,6 @@
 -- Two pads for one player: the values of the elements, and what the calls answer (document 02, P14).
 -- Public contracts rest on these definitions; they assume nothing.
-use Rattle.std.specs.Prelude.{ℕ, List, ltb, ℤ, nat_abs}
+use Rattle.std.specs.Prelude.{List, ltb, ℤ, nat_abs}
 use Rattle.text.specs.Bytes.{pick}
 use Rattle.line.specs.declared.ev.Code.{Code}
 use Rattle.line.specs.declared.ev.AxisOrBtn.{AxisOrBtn}

@@ -7,6 +7,8 @@ use line::ev::AxisOrBtn;
 use line::mapping::{CODES_MAX, Mapping};
 use line::parser::{AxisRange, Ranges};
 use line::refusal::{Carried, Place, Refusal};
+use std::fmt;
+use std::fmt::Write;
 use text::bytes::{Written, write_bytes};
 use text::decimal::write_index;
 
@@ -28,10 +30,37 @@ pub fn put_number(out: &mut [u8], at: usize, n: usize) -> usize {
     next_place(write_index(out, at, n), at)
 }
 
+// The hexadecimal digits of a code, as they are printed.
+#[derive(Clone, Copy)]
+struct Digits {
+    bytes: [u8; 16],
+    len: usize,
+}
+
+impl Write for Digits {
+    fn write_str(&mut self, s: &str) -> fmt::Result {
+        self.len = put(&mut self.bytes, self.len, s.as_bytes());
+        Ok(())
+    }
+}
+
+// What stands in a buffer before `n`.
+pub fn first(s: &[u8], n: usize) -> &[u8] {
+    if n <= s.len() {
+        return &s[..n];
+    }
+    s
+}
+
 pub fn put_code(out: &mut [u8], at: usize, code: u32) -> usize {
-    let mut digits = [0u8; 16];
-    let n = io::hex(code as u64, 1, &mut digits);
-    put(out, at, &digits[..n])
+    let mut digits = Digits {
+        bytes: [0; 16],
+        len: 0,
+    };
+    match write!(digits, "{code:x}") {
+        Ok(()) => put(out, at, first(&digits.bytes, digits.len)),
+        Err(_) => at,
+    }
 }
 
 // `b16` for a button, `a8` for an axis.
@@ -95,14 +124,12 @@ fn held(count: usize) -> usize
 fn put_entries(out: &mut [u8], at: usize, map: Mapping) -> usize {
     let n = held(map.count);
     let mut next = at;
-    let mut i: usize = 0;
-    while i < n {
+    for i in 0..n {
         let e = map.entries[i];
         let code = e.code;
         let element = e.element;
         let ranges = e.ranges;
         next = put_entry(out, next, code.0, element, ranges);
-        i += 1;
     }
     next
 }

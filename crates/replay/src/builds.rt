@@ -1,11 +1,12 @@
 // Cases of build: the slots are filled one after the other, from lists in which some codes stand twice.
-use crate::answers::{ROOM, put, put_map, put_part, put_refusal};
+use crate::answers::{ROOM, first, put, put_map, put_refusal};
 use crate::fields::{after, after_field, before, field_at, number, rest, word};
 use crate::same;
 use line::ev::{Axis, Button, Code};
 use map::error::MappingAnswer;
 use map::from_data::from_data;
 use map::mapping_data::MappingData;
+use std::io;
 use text::uuid::{Uuid, UuidParse};
 
 pub const BUTTONS: [u32; 24] = [
@@ -50,16 +51,8 @@ pub fn uuid_of(s: &[u8]) -> Uuid {
     }
 }
 
-// What stands in a buffer before `n`.
-pub fn first(s: &[u8], n: usize) -> &[u8] {
-    if n <= s.len() {
-        return &s[..n];
-    }
-    s
-}
-
 // `build ANSWER UUID SLOTS NAME`: the answer is the map, a colon and the line, or the refusal and the code it carries.
-pub fn build_case(args: &[u8]) -> bool {
+pub fn build_case(rt: &impl Print, args: &[u8]) -> io::Result<bool> {
     let uuid = rest(args);
     let slots = rest(uuid);
     let mut line = [0u8; 16384];
@@ -79,11 +72,11 @@ pub fn build_case(args: &[u8]) -> bool {
             let end = put_map(&mut out, 0, map);
             let colon = put(&mut out, end, b":");
             let n = put(&mut out, colon, first(&line, built.len));
-            same(&out, n, word(args))
+            same(rt, &out, n, word(args))
         }
         MappingAnswer::Refused(e) => {
             let n = put_refusal(&mut out, 0, e.refusal());
-            same(&out, n, word(args))
+            same(rt, &out, n, word(args))
         }
     }
 }

@@ -9,6 +9,7 @@ use line::ev::AxisOrBtn;
 use line::parser::{Answer, Ranges, Token, start_state, step};
 use line::reading::{SdlAnswer, parse_sdl_mapping};
 use map::default::{DefaultMap, default};
+use std::io;
 use text::uuid::Uuid;
 
 const BUTTONS: [u32; 32] = [
@@ -83,15 +84,13 @@ fn put_steps(out: &mut [u8], line: &[u8], steps: usize) -> usize {
     let mut at: usize = 0;
     let mut pos: usize = 0;
     let mut state = start_state(line);
-    let mut i: usize = 0;
-    while i < steps {
+    for _ in 0..steps {
         let next = step(line, pos, state);
         let answer = next.answer;
         let end = put_answer(out, at, answer);
         at = put(out, end, b"/");
         pos = next.pos;
         state = next.state;
-        i += 1;
     }
     at
 }
@@ -99,25 +98,23 @@ fn put_steps(out: &mut [u8], line: &[u8], steps: usize) -> usize {
 // The slashes in a word.
 fn slashes(s: &[u8]) -> usize {
     let mut n: usize = 0;
-    let mut i: usize = 0;
-    while i < s.len() {
-        if s[i] == b'/' {
+    for b in s {
+        if *b == b'/' {
             n = std::num::wrapping_add_usize(n, 1);
         }
-        i += 1;
     }
     n
 }
 
 // `walk ANSWERS LINE`: a step for each slash.
-pub fn walk_case(args: &[u8]) -> bool {
+pub fn walk_case(rt: &impl Print, args: &[u8]) -> io::Result<bool> {
     let mut out = [0u8; ROOM];
     let n = put_steps(&mut out, rest(args), slashes(word(args)));
-    same(&out, n, word(args))
+    same(rt, &out, n, word(args))
 }
 
 // `read ANSWER LINE`
-pub fn read_case(args: &[u8]) -> bool {
+pub fn read_case(rt: &impl Print, args: &[u8]) -> io::Result<bool> {
     let mut out = [0u8; ROOM];
     let read = parse_sdl_mapping(rest(args), &BUTTONS, &AXES);
     let answer = read.answer;
@@ -125,23 +122,23 @@ pub fn read_case(args: &[u8]) -> bool {
     match answer {
         SdlAnswer::Accepted => {
             let n = put_map(&mut out, 0, map);
-            same(&out, n, word(args))
+            same(rt, &out, n, word(args))
         }
         SdlAnswer::Refused(e) => {
             let n = put_refusal(&mut out, 0, e.refusal());
-            same(&out, n, word(args))
+            same(rt, &out, n, word(args))
         }
     }
 }
 
 // `default ANSWER TAKE`: the default map of the first so many buttons, and of all axes.
-pub fn default_case(args: &[u8]) -> bool {
+pub fn default_case(rt: &impl Print, args: &[u8]) -> io::Result<bool> {
     let mut out = [0u8; ROOM];
     let n = number(rest(args)) as usize;
     let made = default_of(n);
     let map = made.map;
     let end = put_map(&mut out, 0, map);
-    same(&out, end, word(args))
+    same(rt, &out, end, word(args))
 }
 
 fn default_of(n: usize) -> DefaultMap {

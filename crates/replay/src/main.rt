@@ -9,7 +9,13 @@ mod lines;
 mod stores;
 
 use fields::{after_field, field_at, rest, word};
+use std::io::Read;
+use std::rt::Files;
+use std::{fs, io};
 use text::bytes::same_bytes;
+
+// The most bytes of a list.
+const LIST_ROOM: u64 = 65536;
 
 // How many cases were run, and how many of them went wrong.
 #[derive(Clone, Copy)]
@@ -23,22 +29,18 @@ const INDEX: usize = 2100;
 
 const TEXT: usize = 16384;
 
-fn say(text: &[u8]) {
-    io::write_all(1, text);
-}
-
 // Whether the first bytes of an answer are the expected ones; else it is printed.
-pub fn same(out: &[u8], n: usize, expected: &[u8]) -> bool {
+pub fn same(rt: &impl Print, out: &[u8], n: usize, expected: &[u8]) -> io::Result<bool> {
     if out.len() < n {
-        return false;
+        return Ok(false);
     }
     if same_bytes(&out[..n], expected) {
-        return true;
+        return Ok(true);
     }
-    say(b"answer: ");
-    say(&out[..n]);
-    say(b"\n");
-    false
+    rt.write_all(b"answer: ")?;
+    rt.write_all(&out[..n])?;
+    rt.write_all(b"\n")?;
+    Ok(false)
 }
 
 // Whether a line has no case: it is empty, or a comment.
@@ -50,22 +52,22 @@ fn is_blank(line: &[u8]) -> bool {
 }
 
 // Runs one case, by its first word. A kind that nobody knows is wrong.
-fn run_case(line: &[u8], index: &mut [u8], text: &mut [u8]) -> bool {
+fn run_case(rt: &impl Print, line: &[u8], index: &mut [u8], text: &mut [u8]) -> io::Result<bool> {
     let kind = word(line);
     let args = rest(line);
     if same_bytes(kind, b"walk") {
-        return lines::walk_case(args);
+        return lines::walk_case(rt, args);
     }
     if same_bytes(kind, b"read") {
-        return lines::read_case(args);
+        return lines::read_case(rt, args);
     }
     if same_bytes(kind, b"default") {
-        return lines::default_case(args);
+        return lines::default_case(rt, args);
     }
     if same_bytes(kind, b"build") {
-        return builds::build_case(args);
+        return builds::build_case(rt, args);
     }
-    run_store_case(line, index, text)
+    Ok(run_store_case(line, index, text))
 }
 
 fn run_store_case(line: &[u8], index: &mut [u8], text: &mut [u8]) -> bool {
@@ -87,81 +89,91 @@ fn run_store_case(line: &[u8], index: &mut [u8], text: &mut [u8]) -> bool {
 }
 
 // Counts one case more.
-fn counted(totals: Totals, right: bool, line: &[u8]) -> Totals {
+fn counted(rt: &impl Print, totals: Totals, right: bool, line: &[u8]) -> io::Result<Totals> {
     let cases = std::num::wrapping_add_u64(totals.cases, 1);
     if right {
-        return Totals {
+        return Ok(Totals {
             cases,
             wrong: totals.wrong,
-        };
+        });
     }
-    say(b"wrong: ");
-    say(line);
-    say(b"\n");
-    Totals {
+    rt.write_all(b"wrong: ")?;
+    rt.write_all(line)?;
+    rt.write_all(b"\n")?;
+    Ok(Totals {
         cases,
         wrong: std::num::wrapping_add_u64(totals.wrong, 1),
-    }
+    })
 }
 
 // One line of a list: a blank one counts nothing.
-fn take_line(totals: Totals, line: &[u8], index: &mut [u8], text: &mut [u8]) -> Totals {
+fn take_line(
+    rt: &impl Print,
+    totals: Totals,
+    line: &[u8],
+    index: &mut [u8],
+    text: &mut [u8],
+) -> io::Result<Totals> {
     if is_blank(line) {
-        return totals;
+        return Ok(totals);
     }
-    counted(totals, run_case(line, index, text), line)
+    counted(rt, totals, run_case(rt, line, index, text)?, line)
 }
 
 // Runs a whole list, over one store.
-fn run_list(list: &[u8], index: &mut [u8], text: &mut [u8]) -> Totals {
+fn run_list(rt: &impl Print, list: &[u8], index: &mut [u8], text: &mut [u8]) -> io::Result<Totals> {
     let mut totals = Totals { cases: 0, wrong: 0 };
     let mut at: usize = 0;
     while at < list.len() {
         let line = field_at(list, at, b'\n');
-        totals = take_line(totals, line, index, text);
+        totals = take_line(rt, totals, line, index, text)?;
         at = after_field(list, at, b'\n');
     }
-    totals
+    Ok(totals)
 }
 
-fn say_totals(totals: Totals) {
-    io::print_decimal(1, totals.cases);
-    say(b" cases, ");
-    io::print_decimal(1, totals.wrong);
-    say(b" wrong\n");
+fn say_totals(rt: &impl Print, totals: Totals) -> io::Result<()> {
+    let cases = totals.cases;
+    let wrong = totals.wrong;
+    println!(rt; "{cases} cases, {wrong} wrong")
 }
 
 // Runs the list in a file of at most 65536 bytes, and prints a line for it.
-fn run_file(path: &[u8], before: Totals) -> Totals {
-    say(path);
-    say(b": ");
-    let fd = os::open_read(path);
-    if fd < 0 {
-        say(b"no such file\n");
-        return Totals {
-            cases: before.cases,
-            wrong: std::num::wrapping_add_u64(before.wrong, 1),
-        };
-    }
-    let mut space = io::large_buffer();
-    let n = io::read_full(fd, &mut space);
-    libc::close(fd);
-    let mut index = [0u8; INDEX];
-    let mut text = [0u8; TEXT];
-    let totals = run_list(&space[..n], &mut index, &mut text);
-    say_totals(totals);
-    Totals {
-        cases: std::num::wrapping_add_u64(before.cases, totals.cases),
-        wrong: std::num::wrapping_add_u64(before.wrong, totals.wrong),
+fn run_file<R: Files + Print + AllocGlobal>(
+    rt: &R,
+    path: &str,
+    before: Totals,
+) -> io::Result<Totals> {
+    print!(rt; "{path}: ")?;
+    match fs::open(rt, path) {
+        Ok(file) => {
+            let mut list = Vec::new(rt.alloc());
+            file.take(LIST_ROOM).read_to_end(&mut list)?;
+            let mut index = [0u8; INDEX];
+            let mut text = [0u8; TEXT];
+            let totals = run_list(rt, &list, &mut index, &mut text)?;
+            say_totals(rt, totals)?;
+            Ok(Totals {
+                cases: std::num::wrapping_add_u64(before.cases, totals.cases),
+                wrong: std::num::wrapping_add_u64(before.wrong, totals.wrong),
+            })
+        }
+        Err(_) => {
+            println!(rt; "no such file")?;
+            Ok(Totals {
+                cases: before.cases,
+                wrong: std::num::wrapping_add_u64(before.wrong, 1),
+            })
+        }
     }
 }
 
-fn main() {
+fn main(rt: HostRuntime) -> io::Result<()> {
     let none = Totals { cases: 0, wrong: 0 };
-    let corpus = run_file(b"corpus.txt", none);
-    let walks = run_file(b"walks.txt", corpus);
-    let readings = run_file(b"readings.txt", walks);
-    let builds = run_file(b"builds.txt", readings);
-    let all = run_file(b"stores.txt", builds);
-    say_totals(all);
+    let corpus = run_file(&rt, "corpus.txt", none)?;
+    let walks = run_file(&rt, "walks.txt", corpus)?;
+    let readings = run_file(&rt, "readings.txt", walks)?;
+    let builds = run_file(&rt, "builds.txt", readings)?;
+    let all = run_file(&rt, "stores.txt", builds)?;
+    say_totals(&rt, all)
 }

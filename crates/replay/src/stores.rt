@@ -35,10 +35,8 @@ fn spelled(b: u8) -> u8 {
 }
 
 fn with_lf(s: &mut [u8]) {
-    let mut i: usize = 0;
-    while i < s.len() {
-        s[i] = spelled(s[i]);
-        i += 1;
+    for b in s.iter_mut() {
+        *b = spelled(*b);
     }
 }
 

@@ -9,6 +9,7 @@ use line::reading::parse_sdl_mapping;
 use map::error::MappingAnswer;
 use map::from_data::{Built, from_data};
 use map::mapping_data::MappingData;
+use std::io;
 use text::uuid::{Uuid, UuidParse};
 
 // The output is the end of so many dots.
@@ -17,10 +18,8 @@ const DOTS: usize = 16384;
 // A name of so many times one byte.
 fn repeated(n: usize, b: u8) -> Text {
     let mut out = Text::new();
-    let mut i: usize = 0;
-    while i < n {
+    for _ in 0..n {
         out = out.byte(b);
-        i += 1;
     }
     out
 }
@@ -58,12 +57,10 @@ fn uuid_of(s: &[u8]) -> Uuid {
 
 // Whether all bytes from `from` on are dots.
 fn all_dots(s: &[u8], from: usize) -> bool {
-    let mut i = from;
-    while i < s.len() {
+    for i in from..s.len() {
         if s[i] != b'.' {
             return false;
         }
-        i += 1;
     }
     true
 }
@@ -161,7 +158,7 @@ fn build_lists(
 
 // `build ANSWER UUID SLOTS BUTTONS AXES ROOM NAME`: the line, or `#` and its length where that is over 400, and the
 // map.
-pub fn build_case(args: &[u8]) -> bool {
+pub fn build_case(rt: &impl Print, args: &[u8]) -> io::Result<bool> {
     let more = rest(args);
     let lists = rest(rest(more));
     let output = rest(rest(lists));
@@ -171,5 +168,5 @@ pub fn build_case(args: &[u8]) -> bool {
     let name = name_of(rest(output));
     let room = number(word(output));
     let answer = build_lists(data, buttons, axes, name, uuid_of(word(more)), room);
-    answer.is_text(spelled(word(args)))
+    answer.is_text(rt, spelled(word(args)))
 }

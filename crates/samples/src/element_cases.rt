@@ -5,6 +5,7 @@ use crate::written::Text;
 use line::ev::{Axis, AxisOrBtn, Button, Code, SecondAxis, ToNec};
 use line::mapping::{Entered, Entry, Mapped, Mapping, Source};
 use line::parser::{AxisRange, Ranges};
+use std::io;
 
 fn flag(out: Text, on: bool, letter: u8) -> Text {
     if on {
@@ -26,18 +27,18 @@ pub fn element(s: &[u8]) -> AxisOrBtn {
 }
 
 // `button NUMBER ANSWER`: its native code, `d` for a DPad's, `s` for a stick's.
-pub fn button_case(args: &[u8]) -> bool {
+pub fn button_case(rt: &impl Print, args: &[u8]) -> io::Result<bool> {
     let b = Button(short(word(args)));
     let nec = b.to_nec();
     let out = match nec {
         ToNec::Is(code) => Text::new().hex(code.0 as u64),
         ToNec::Nothing => Text::new().byte(b'-'),
     };
-    flag(flag(out, b.is_dpad(), b'd'), b.is_stick(), b's').is(rest(args))
+    flag(flag(out, b.is_dpad(), b'd'), b.is_stick(), b's').is(rt, rest(args))
 }
 
 // `axis NUMBER ANSWER`: `s` for a stick's, and the second axis.
-pub fn axis_case(args: &[u8]) -> bool {
+pub fn axis_case(rt: &impl Print, args: &[u8]) -> io::Result<bool> {
     let a = Axis(short(word(args)));
     let out = flag(Text::new(), a.is_stick(), b's');
     let second = a.second_axis();
@@ -45,15 +46,15 @@ pub fn axis_case(args: &[u8]) -> bool {
         SecondAxis::Is(other) => out.number(other.0 as usize),
         SecondAxis::Nothing => out.byte(b'-'),
     };
-    said.is(rest(args))
+    said.is(rt, rest(args))
 }
 
 // `element ELEMENT OTHER ANSWER`: `b` for a button, `e` where the two are the same.
-pub fn element_case(args: &[u8]) -> bool {
+pub fn element_case(rt: &impl Print, args: &[u8]) -> io::Result<bool> {
     let e = element(word(args));
     let other = element(word(rest(args)));
     let out = flag(Text::new(), e.is_button(), b'b');
-    flag(out, e.eq(other), b'e').is(rest(rest(args)))
+    flag(out, e.eq(other), b'e').is(rt, rest(rest(args)))
 }
 
 fn half(b: u8) -> AxisRange {
@@ -91,7 +92,7 @@ pub fn odd_map(count: usize) -> Mapping {
 }
 
 // `map COUNT CODE ANSWER`: the element of a code in the odd map.
-pub fn map_case(args: &[u8]) -> bool {
+pub fn map_case(rt: &impl Print, args: &[u8]) -> io::Result<bool> {
     let more = rest(args);
     let code = Code(short(word(more)) as u32);
     let mapped = odd_map(number(word(args))).map(code);
@@ -99,18 +100,18 @@ pub fn map_case(args: &[u8]) -> bool {
         Mapped::To(e) => Text::new().element(e),
         Mapped::Nothing => Text::new().byte(b'-'),
     };
-    out.is(rest(more))
+    out.is(rt, rest(more))
 }
 
 // `map-rev COUNT ELEMENT ANSWER`: the least code of an element in the odd map.
-pub fn map_rev_case(args: &[u8]) -> bool {
+pub fn map_rev_case(rt: &impl Print, args: &[u8]) -> io::Result<bool> {
     let more = rest(args);
     let source = odd_map(number(word(args))).map_rev(element(word(more)));
     let out = match source {
         Source::From(code) => Text::new().hex(code.0 as u64),
         Source::Nowhere => Text::new().byte(b'-'),
     };
-    out.is(rest(more))
+    out.is(rt, rest(more))
 }
 
 // The element of an entry, and its ranges where they are not full.
@@ -121,7 +122,7 @@ fn said(out: Text, e: Entry) -> Text {
 }
 
 // `entry COUNT CODE ANSWER`: the first entry of a code in the odd map.
-pub fn entry_case(args: &[u8]) -> bool {
+pub fn entry_case(rt: &impl Print, args: &[u8]) -> io::Result<bool> {
     let more = rest(args);
     let code = Code(short(word(more)) as u32);
     let entered = odd_map(number(word(args))).entry(code);
@@ -129,11 +130,11 @@ pub fn entry_case(args: &[u8]) -> bool {
         Entered::Is(e) => said(Text::new(), e),
         Entered::Absent => Text::new().byte(b'-'),
     };
-    out.is(rest(more))
+    out.is(rt, rest(more))
 }
 
 // `number CODE ELEMENT RANGES ANSWER`: an entry as a number, and the entry of that number, if it is the same.
-pub fn number_case(args: &[u8]) -> bool {
+pub fn number_case(rt: &impl Print, args: &[u8]) -> io::Result<bool> {
     let to = rest(args);
     let halves = rest(to);
     let e = Entry::ranged(
@@ -147,7 +148,7 @@ pub fn number_case(args: &[u8]) -> bool {
         Text::new().hex(e.code.0 as u64),
         e,
     )) {
-        return Text::new().hex(n).is(rest(halves));
+        return Text::new().hex(n).is(rt, rest(halves));
     }
-    false
+    Ok(false)
 }

@@ -10,6 +10,7 @@ use line::mapping::Mapping;
 use line::parser::tokens::{LastRefusal, Tokens, count_tokens, token_at};
 use line::parser::{Answer, AxisRange, Ranges, Token, first_token, start_state};
 use line::reading::{SdlAnswer, SdlMapping, parse_sdl_mapping};
+use std::io;
 use text::bytes::same_bytes;
 
 const NIL: [u8; 32] = *b"00000000000000000000000000000000";
@@ -119,14 +120,12 @@ fn walk(line: &[u8], calls: usize) -> Text {
     let mut out = Text::new();
     let mut pos: usize = 0;
     let mut state = start_state(line);
-    let mut left = calls;
-    while 0 < left {
+    for _ in 0..calls {
         let next = token_at(line, pos, state);
         let answer = next.answer;
         out = answered(out, answer).byte(b'/');
         pos = next.pos;
         state = next.state;
-        left -= 1;
     }
     out
 }
@@ -134,26 +133,24 @@ fn walk(line: &[u8], calls: usize) -> Text {
 // The slashes in a word.
 fn slashes(s: &[u8]) -> usize {
     let mut n: usize = 0;
-    let mut i = 0;
-    while i < s.len() {
-        if s[i] == b'/' {
+    for b in s {
+        if *b == b'/' {
             n = std::num::wrapping_add_usize(n, 1);
         }
-        i += 1;
     }
     n
 }
 
 // `walk ANSWERS TEXT`: a call for each slash; the first also of a walker that is made anew.
-pub fn walk_case(args: &[u8]) -> bool {
+pub fn walk_case(rt: &impl Print, args: &[u8]) -> io::Result<bool> {
     let line = spelled(rest(args));
     let bytes = line.bytes;
     let len = line.len;
     let first = first_token(written(&bytes, len));
-    if answered(Text::new(), first).is(before(word(args), b'/')) {
-        return walk(written(&bytes, len), slashes(word(args))).is(word(args));
+    if answered(Text::new(), first).is(rt, before(word(args), b'/'))? {
+        return walk(written(&bytes, len), slashes(word(args))).is(rt, word(args));
     }
-    false
+    Ok(false)
 }
 
 fn tallied(tokens: Tokens) -> Text {
@@ -166,17 +163,16 @@ fn tallied(tokens: Tokens) -> Text {
 }
 
 // `count ANSWER TEXT`: the number of tokens, and the last refusal.
-pub fn count_case(args: &[u8]) -> bool {
+pub fn count_case(rt: &impl Print, args: &[u8]) -> io::Result<bool> {
     let line = spelled(rest(args));
     let bytes = line.bytes;
     let len = line.len;
-    tallied(count_tokens(written(&bytes, len))).is(word(args))
+    tallied(count_tokens(written(&bytes, len))).is(rt, word(args))
 }
 
 fn entries(out: Text, map: Mapping) -> Text {
     let mut said = out;
-    let mut i: usize = 0;
-    while i < 256 {
+    for i in 0..256 {
         if map.count <= i {
             return said;
         }
@@ -185,7 +181,6 @@ fn entries(out: Text, map: Mapping) -> Text {
         let ranges = e.ranges;
         let entry = said.hex(e.code.0 as u64).byte(b'=').element(element);
         said = ranged(entry, ranges).byte(b',');
-        i += 1;
     }
     said
 }
@@ -207,9 +202,9 @@ pub fn map_text(out: Text, map: Mapping) -> Text {
 }
 
 // `read ANSWER TEXT`, with buttons 10130 and 10131 and axis 30000
-pub fn read_case(args: &[u8]) -> bool {
+pub fn read_case(rt: &impl Print, args: &[u8]) -> io::Result<bool> {
     let line = spelled(rest(args));
     let bytes = line.bytes;
     let len = line.len;
-    said(parse_sdl_mapping(written(&bytes, len), &BUTTONS, &AXES)).is(word(args))
+    said(parse_sdl_mapping(written(&bytes, len), &BUTTONS, &AXES)).is(rt, word(args))
 }

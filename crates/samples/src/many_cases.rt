@@ -4,14 +4,13 @@ use crate::codes::{first, numbered};
 use crate::line_cases::spelled;
 use crate::written::{Text, written};
 use line::reading::{SdlAnswer, SdlMapping, parse_sdl_mapping};
+use std::io;
 
 // The line `START,a:b0,a:b1,..END` with so many pairs.
 fn line_of(start: &[u8], pairs: usize, end: &[u8]) -> Text {
     let mut out = spelled(start);
-    let mut i: usize = 0;
-    while i < pairs {
+    for i in 0..pairs {
         out = out.text(b",a:b").number(i);
-        i += 1;
     }
     out.text(end)
 }
@@ -39,12 +38,12 @@ fn counted(reading: SdlMapping) -> Text {
 }
 
 // `many ANSWER BUTTONS AXES PAIRS START END`: the number of entries; the lists are the codes from 1 on, so many each.
-pub fn many_case(args: &[u8]) -> bool {
+pub fn many_case(rt: &impl Print, args: &[u8]) -> io::Result<bool> {
     let lists = rest(args);
     let more = rest(rest(lists));
     let tail = rest(more);
     let line = line_of(word(tail), number(word(more)), rest(tail));
     let list = numbered();
     let reading = read(line, &list, number(word(lists)), number(word(rest(lists))));
-    counted(reading).is(word(args))
+    counted(reading).is(rt, word(args))
 }

@@ -9,6 +9,7 @@ use line::ev::Code;
 use line::mapping::Entry;
 use pad::events::Raw;
 use pad::value::{ElementValue, Emitted, entry_value, event};
+use std::io;
 use text::bytes::same_bytes;
 
 // A value counted from the least one.
@@ -56,7 +57,7 @@ fn valued(out: Text, v: i16) -> Text {
 }
 
 // `value ELEMENT RANGES RAW ANSWER`: what a raw value gives by an entry.
-pub fn value_case(args: &[u8]) -> bool {
+pub fn value_case(rt: &impl Print, args: &[u8]) -> io::Result<bool> {
     let halves = rest(args);
     let raw = rest(halves);
     let e = Entry::ranged(Code(5), element(word(args)), ranges(word(halves)));
@@ -65,11 +66,11 @@ pub fn value_case(args: &[u8]) -> bool {
         ElementValue::Is(v) => valued(Text::new(), v),
         ElementValue::Nothing => Text::new().byte(b'-'),
     };
-    out.is(rest(raw))
+    out.is(rt, rest(raw))
 }
 
 // `event COUNT CODE RAW ANSWER`: the element that a raw value of a code gives a value in the odd map, and the value.
-pub fn event_case(args: &[u8]) -> bool {
+pub fn event_case(rt: &impl Print, args: &[u8]) -> io::Result<bool> {
     let code = rest(args);
     let raw = rest(code);
     let emitted = event(
@@ -84,5 +85,5 @@ pub fn event_case(args: &[u8]) -> bool {
         }
         Emitted::Nothing => Text::new().byte(b'-'),
     };
-    out.is(rest(raw))
+    out.is(rt, rest(raw))
 }

@@ -4,6 +4,7 @@ use crate::codes::{codes_of, first};
 use crate::line_cases::{said, spelled};
 use crate::written::{Text, written};
 use line::reading::parse_sdl_mapping;
+use std::io;
 
 // What a line reads as, with 16 buttons and 8 axes.
 fn reading(s: &[u8]) -> Text {
@@ -24,10 +25,10 @@ fn reading(s: &[u8]) -> Text {
 }
 
 // `same LINE|OTHER`: both are accepted and have the same map.
-pub fn same_case(args: &[u8]) -> bool {
+pub fn same_case(rt: &impl Print, args: &[u8]) -> io::Result<bool> {
     let one = reading(before(args, b'|'));
     if one.bytes[0] == b'!' {
-        return one.is(b"");
+        return one.is(rt, b"");
     }
-    reading(after(args, b'|')).is_text(one)
+    reading(after(args, b'|')).is_text(rt, one)
 }

@@ -8,6 +8,7 @@ use line::ev::{AxisOrBtn, Code};
 use map::default::{DefaultMap, default};
 use map::error::MappingAnswer;
 use map::mapping_data::{Changed, MappingData, SlotCode};
+use std::io;
 
 // Fills the slot of an element.
 pub fn inserted(slots: MappingData, code: u32, to: AxisOrBtn) -> Changed {
@@ -59,7 +60,7 @@ fn code_text(out: Text, code: SlotCode) -> Text {
 }
 
 // `slots ANSWERS CALLS`: what each call hands back, a code or `-`, with a comma after each.
-pub fn slots_case(args: &[u8]) -> bool {
+pub fn slots_case(rt: &impl Print, args: &[u8]) -> io::Result<bool> {
     let calls = rest(args);
     let mut slots = MappingData::new();
     let mut said = Text::new();
@@ -71,7 +72,7 @@ pub fn slots_case(args: &[u8]) -> bool {
         slots = changed.slots;
         at = after_part(calls, at, b',');
     }
-    said.is(word(args))
+    said.is(rt, word(args))
 }
 
 // The slots after the calls of a word; `-` fills none.
@@ -99,12 +100,12 @@ fn default_text(answered: DefaultMap) -> Text {
 }
 
 // `default ANSWER BUTTONS AXES`: the map, with `d` before it where the default flag is on.
-pub fn default_case(args: &[u8]) -> bool {
+pub fn default_case(rt: &impl Print, args: &[u8]) -> io::Result<bool> {
     let buttons = codes_of(word(rest(args)));
     let axes = codes_of(rest(rest(args)));
     let b = buttons.list;
     let a = axes.list;
     let bn = buttons.len;
     let an = axes.len;
-    default_text(default(first(&b, bn), first(&a, an))).is(word(args))
+    default_text(default(first(&b, bn), first(&a, an))).is(rt, word(args))
 }

@@ -1,6 +1,8 @@
 // A text of at most 8704 bytes that is written piece by piece: what the library answered, or a line of a case.
 use line::ev::AxisOrBtn;
 use line::refusal::{Carried, Place, Refusal};
+use std::fmt::Write;
+use std::{fmt, io};
 use text::bytes::same_bytes;
 
 const ROOM: usize = 8704;
@@ -41,18 +43,18 @@ impl Text {
 
     pub fn text(self, s: &[u8]) -> Text {
         let mut out = self;
-        let mut i = 0;
-        while i < s.len() {
-            out = out.byte(s[i]);
-            i += 1;
+        for b in s {
+            out = out.byte(*b);
         }
         out
     }
 
     pub fn number(self, n: usize) -> Text {
-        let mut digits = [0u8; 20];
-        let len = io::decimal(n as u64, &mut digits);
-        self.text(&digits[..len])
+        let mut out = self;
+        match write!(out, "{n}") {
+            Ok(()) => out,
+            Err(_) => out,
+        }
     }
 
     // A refusal: `!13`, `!4@38` with a place, `!15=131` with a code.
@@ -70,9 +72,11 @@ impl Text {
     }
 
     pub fn hex(self, n: u64) -> Text {
-        let mut digits = [0u8; 16];
-        let len = io::hex(n, 1, &mut digits);
-        self.text(&digits[..len])
+        let mut out = self;
+        match write!(out, "{n:x}") {
+            Ok(()) => out,
+            Err(_) => out,
+        }
     }
 
     // `b16` for a button, `a8` for an axis.
@@ -102,25 +106,33 @@ impl Text {
         same_bytes(written(&bytes, len), other)
     }
 
-    pub fn is_text(self, expected: Text) -> bool {
+    pub fn is_text(self, rt: &impl Print, expected: Text) -> io::Result<bool> {
         let bytes = expected.bytes;
         let len = expected.len;
-        self.is(written(&bytes, len))
+        self.is(rt, written(&bytes, len))
     }
 
     // Whether it is the expected text; else it is printed.
-    pub fn is(self, expected: &[u8]) -> bool {
+    pub fn is(self, rt: &impl Print, expected: &[u8]) -> io::Result<bool> {
         let bytes = self.bytes;
         let len = self.len;
-        compare(written(&bytes, len), expected)
+        compare(rt, written(&bytes, len), expected)
     }
 }
 
-fn compare(answer: &[u8], expected: &[u8]) -> bool {
-    if same_bytes(answer, expected) {
-        return true;
+// No write fails: what is past the end is left out.
+impl Write for Text {
+    fn write_str(&mut self, s: &str) -> fmt::Result {
+        *self = self.text(s.as_bytes());
+        Ok(())
     }
-    io::write_all(1, b"\n  answer: ");
-    io::write_all(1, answer);
-    false
+}
+
+fn compare(rt: &impl Print, answer: &[u8], expected: &[u8]) -> io::Result<bool> {
+    if same_bytes(answer, expected) {
+        return Ok(true);
+    }
+    rt.write_all(b"\n  answer: ")?;
+    rt.write_all(answer)?;
+    Ok(false)
 }

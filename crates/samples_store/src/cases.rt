@@ -95,12 +95,10 @@ pub fn find_case(index: &[u8], text: &[u8], party: Party, args: &[u8]) -> bool {
 
 // Whether all bytes from `from` on are 0.
 fn zero_from(s: &[u8], from: usize) -> bool {
-    let mut i = from;
-    while i < s.len() {
+    for i in from..s.len() {
         if s[i] != 0 {
             return false;
         }
-        i += 1;
     }
     true
 }

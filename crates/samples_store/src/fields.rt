@@ -1,6 +1,5 @@
 // The fields of a case: words with one space between, bytes in hexadecimal, numbers in base ten.
-ghost use Rattle.std.specs.Prelude.{◌<◌, length};
-ghost use Rattle.io.specs.Counts.{IsPrefixLen};
+ghost use Rattle.std.specs.Prelude.{◌<◌, ◌≤◌, length};
 
 use text::bytes::{find_byte, same_bytes};
 use text::decimal::{IndexParse, parse_u16};
@@ -74,17 +73,15 @@ pub fn after_part(s: &[u8], at: usize, b: u8) -> usize
 
 // Puts the bytes that `s` spells into `out`, and returns how many there are.
 pub fn unhex(s: &[u8], out: &mut [u8]) -> usize
-    ensures { IsPrefixLen result out.new }
+    ensures { result ≤ length out.new }
 {
-    let mut n: usize = 0;
-    while n < out.len() {
+    for n in 0..out.len() {
         if s.len() / 2 <= n {
             return n;
         }
         out[n] = byte_at(s, n);
-        n += 1;
     }
-    n
+    out.len()
 }
 
 // The number in a word, or 65535 where it is none.

@@ -16,8 +16,14 @@ ghost use Rattle.std.specs.Prelude.{◌≤◌};
 
 use fields::{after_part, big, part_at, rest, word};
 use parties::{call_of, party_of};
+use std::io::Read;
+use std::rt::Files;
+use std::{fs, io};
 use store::parties::Party;
 use text::bytes::same_bytes;
+
+// The most bytes of a list, and of each of the store's two buffers.
+const ROOM: usize = 65536;
 
 // The lengths of the buffers, and how many cases were run and went wrong, of this group and of all.
 #[derive(Clone, Copy)]
@@ -30,15 +36,8 @@ struct Run {
     all_wrong: u64,
 }
 
-fn say(text: &[u8]) {
-    io::write_all(1, text);
-}
-
-fn say_counts(cases: u64, wrong: u64) {
-    io::print_decimal(1, cases);
-    say(b" cases, ");
-    io::print_decimal(1, wrong);
-    say(b" wrong\n");
+fn say_counts(rt: &impl Print, cases: u64, wrong: u64) -> io::Result<()> {
+    println!(rt; "{cases} cases, {wrong} wrong")
 }
 
 // A comparison of a whole buffer, or a change of its bytes.
@@ -111,26 +110,24 @@ fn run_sized(run: Run, index: &mut [u8], text: &mut [u8], line: &[u8]) -> bool {
 }
 
 // Counts one case more.
-fn counted(run: Run, right: bool, line: &[u8]) -> Run {
+fn counted(rt: &impl Print, run: Run, right: bool, line: &[u8]) -> io::Result<Run> {
     let mut next = run;
     next.cases = std::num::wrapping_add_u64(run.cases, 1);
     next.all = std::num::wrapping_add_u64(run.all, 1);
     if right {
-        return next;
+        return Ok(next);
     }
-    say(b"\n  wrong: ");
-    say(line);
-    say(b"\n  ");
+    rt.write_all(b"\n  wrong: ")?;
+    rt.write_all(line)?;
+    rt.write_all(b"\n  ")?;
     next.wrong = std::num::wrapping_add_u64(run.wrong, 1);
     next.all_wrong = std::num::wrapping_add_u64(run.all_wrong, 1);
-    next
+    Ok(next)
 }
 
 fn zero(s: &mut [u8]) {
-    let mut i = 0;
-    while i < s.len() {
-        s[i] = 0;
-        i += 1;
+    for b in s.iter_mut() {
+        *b = 0;
     }
 }
 
@@ -145,81 +142,91 @@ fn renewed(run: Run, index: &mut [u8], text: &mut [u8], args: &[u8]) -> Run {
 }
 
 // Prints how a group went.
-fn finished(run: Run) -> Run {
+fn finished(rt: &impl Print, run: Run) -> io::Result<Run> {
     if 0 < run.cases {
-        say_counts(run.cases, run.wrong);
+        say_counts(rt, run.cases, run.wrong)?;
     }
     let mut next = run;
     next.cases = 0;
     next.wrong = 0;
-    next
+    Ok(next)
 }
 
-fn titled(run: Run, title: &[u8]) -> Run {
-    let next = finished(run);
-    say(title);
-    say(b": ");
-    next
+fn titled(rt: &impl Print, run: Run, title: &[u8]) -> io::Result<Run> {
+    let next = finished(rt, run)?;
+    rt.write_all(title)?;
+    rt.write_all(b": ")?;
+    Ok(next)
 }
 
-fn run_line(run: Run, index: &mut [u8], text: &mut [u8], line: &[u8]) -> Run {
+fn run_line(
+    rt: &impl Print,
+    run: Run,
+    index: &mut [u8],
+    text: &mut [u8],
+    line: &[u8],
+) -> io::Result<Run> {
     if line.len() == 0 {
-        return run;
+        return Ok(run);
     }
     if line[0] == b'#' {
-        return run;
+        return Ok(run);
     }
     if line[0] == b'=' {
-        return titled(run, rest(line));
+        return titled(rt, run, rest(line));
     }
     if same_bytes(word(line), b"new") {
-        return renewed(run, index, text, rest(line));
+        return Ok(renewed(run, index, text, rest(line)));
     }
     let right = run_sized(run, index, text, line);
     if line[0] == b'p' {
-        return run;
+        return Ok(run);
     }
-    counted(run, right, line)
+    counted(rt, run, right, line)
 }
 
 // Runs a whole list in those buffers.
-fn run_lines(run: Run, index: &mut [u8], text: &mut [u8], list: &[u8]) -> Run {
+fn run_lines(
+    rt: &impl Print,
+    run: Run,
+    index: &mut [u8],
+    text: &mut [u8],
+    list: &[u8],
+) -> io::Result<Run> {
     let mut next = run;
     let mut at: usize = 0;
     while at < list.len() {
-        next = run_line(next, index, text, part_at(list, at, b'\n'));
+        next = run_line(rt, next, index, text, part_at(list, at, b'\n'))?;
         at = after_part(list, at, b'\n');
     }
-    finished(next)
+    finished(rt, next)
 }
 
-fn run_list(run: Run, list: &[u8]) -> Run {
-    let mut index = io::large_buffer();
-    let mut text = io::large_buffer();
-    run_lines(run, &mut index, &mut text, list)
+fn run_list(rt: &impl Print, run: Run, list: &[u8]) -> io::Result<Run> {
+    let mut index = [0u8; ROOM];
+    let mut text = [0u8; ROOM];
+    run_lines(rt, run, &mut index, &mut text, list)
 }
 
 // Runs the list in a file of at most 65536 bytes.
-fn run_file(run: Run, path: &[u8]) -> Run {
-    let fd = os::open_read(path);
-    if fd < 0 {
-        say(b"no file ");
-        say(path);
-        say(b"\n");
-        return run;
+fn run_file<R: Files + Print + AllocGlobal>(rt: &R, run: Run, path: &str) -> io::Result<Run> {
+    match fs::open(rt, path) {
+        Ok(file) => {
+            let mut list = Vec::new(rt.alloc());
+            file.take(ROOM as u64).read_to_end(&mut list)?;
+            if list.len() == ROOM {
+                println!(rt; "too long: {path}")?;
+            }
+            run_list(rt, run, &list)
+        }
+        Err(_) => {
+            println!(rt; "no file {path}")?;
+            Ok(run)
+        }
     }
-    let mut space = io::large_buffer();
-    let n = io::read_full(fd, &mut space);
-    libc::close(fd);
-    if n == 65536 {
-        say(b"too long: ");
-        say(path);
-        say(b"\n");
-    }
-    run_list(run, &space[..n])
 }
 
-fn main() {
+fn main(rt: HostRuntime) -> io::Result<()> {
     let mut run = Run {
         index: 0,
         text: 0,
@@ -228,14 +235,14 @@ fn main() {
         all: 0,
         all_wrong: 0,
     };
-    run = run_file(run, b"store.txt");
-    run = run_file(run, b"damage.txt");
-    run = run_file(run, b"history.txt");
-    run = run_file(run, b"parties.txt");
-    run = run_file(run, b"owned-damage.txt");
-    run = run_file(run, b"party-history.txt");
-    run = run_file(run, b"shares.txt");
-    run = run_file(run, b"share-damage.txt");
-    run = run_file(run, b"share-history.txt");
-    say_counts(run.all, run.all_wrong);
+    run = run_file(&rt, run, "store.txt")?;
+    run = run_file(&rt, run, "damage.txt")?;
+    run = run_file(&rt, run, "history.txt")?;
+    run = run_file(&rt, run, "parties.txt")?;
+    run = run_file(&rt, run, "owned-damage.txt")?;
+    run = run_file(&rt, run, "party-history.txt")?;
+    run = run_file(&rt, run, "shares.txt")?;
+    run = run_file(&rt, run, "share-damage.txt")?;
+    run = run_file(&rt, run, "share-history.txt")?;
+    say_counts(&rt, run.all, run.all_wrong)
 }

@@ -55,8 +55,7 @@ fn slots_of(s: &[u8]) -> MappingData {
 }
 
 fn same_entries(a: Mapping, b: Mapping) -> bool {
-    let mut i: usize = 0;
-    while i < 256 {
+    for i in 0..256 {
         let x = a.entries[i];
         let y = b.entries[i];
         let to = x.element;
@@ -67,7 +66,6 @@ fn same_entries(a: Mapping, b: Mapping) -> bool {
         if !to.eq(other) {
             return false;
         }
-        i += 1;
     }
     true
 }

@@ -32,20 +32,16 @@ fn with(text: Text, b: u8) -> Text {
 
 fn with_all(text: Text, s: &[u8]) -> Text {
     let mut next = text;
-    let mut i = 0;
-    while i < s.len() {
-        next = with(next, s[i]);
-        i += 1;
+    for b in s {
+        next = with(next, *b);
     }
     next
 }
 
 fn repeated(text: Text, n: usize, b: u8) -> Text {
     let mut next = text;
-    let mut i: usize = 0;
-    while i < n {
+    for _ in 0..n {
         next = with(next, b);
-        i += 1;
     }
     next
 }

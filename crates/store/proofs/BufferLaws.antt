@@ -12,7 +12,7 @@ use lib.ListN.{drop_of_length-le, take-append-drop}
 use lib.Seq.{get_or-drop, take_all, drop-drop, drop-cons, take_at, length-take-le, drop-append-add}
 use borrow.Author.Tests.{ne_eqb}
 use borrow.Rule.Slice.PartMut.{put_mid, mid_of}
-use Rattle.text.proofs.LentLaws.{tail_part, tail_back, tail_lent}
+use Rattle.text.proofs.LentLaws.{tail_lent}
 use Rattle.text.specs.Bytes.{written}
 use Rattle.store.specs.Decode.{zeroes}
 use Rattle.store.proofs.BoolLaws.{and_false_left}

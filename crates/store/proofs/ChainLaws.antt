@@ -9,17 +9,17 @@ use Prim.Native.Nat.{ℕ, ◌+◌, ◌-◌, ◌≤◌, ◌<◌}
 use native.Mathlib.Nat.{eq-or-lt_of_le}
 use native.Mathlib.Omega.{arith}
 use lib.Dec.{eqb, ltb}
-use lib.ListN.{length, get_or, set, replicate, get_or-replicate, length-replicate, length-set}
+use lib.ListN.{get_or, set, replicate, get_or-replicate, length-replicate, length-set}
 use lib.Seq.{get_or-set_same, get_or-set_other}
 use borrow.Author.Count.{below_more}
 use borrow.Author.Tests.{ltb-true, ltb-false, eqb-true, eqb-false, eq-eqb, ne_eqb}
 use Rattle.store.specs.Held.{Key, same_key}
 use Rattle.store.specs.Keys.{rows_max, bucket, AllApart, Twice, NotIn, Kin, Last, Linked, Headed}
-use Rattle.store.specs.Keys.{Chained, Seeks, Sought, Says, Tells, seek_says, told_of}
+use Rattle.store.specs.Keys.{Chained, Seeks, Sought, Says, Tells, told_of}
 use Rattle.store.specs.declared.chains.Verdict.{Verdict}
 use Rattle.store.specs.declared.chains.Verdict.TheVariants as Vd
 use Rattle.text.specs.Bytes.{pick}
-use Rattle.store.proofs.HeldLaws.{same_refl, same_eq}
+use Rattle.store.proofs.HeldLaws.{same_refl}
 
 pub unlike : (a b : Key) → same_key a b ≡ false → a ≡ b → ⊥
 unlike a b n e =

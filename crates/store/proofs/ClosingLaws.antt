@@ -1,15 +1,14 @@
 -- The numbers before the first one that is struck out stay as they are; the index behind their records is lent, closed up
 -- and given back.
 -- Assumes nothing.
-use mathlib.Core.Bool.{Bool, true, false}
-use mathlib.Core.List.{List, [], ◌∷◌, ◌++◌, append_assoc}
+use mathlib.Core.List.{List, ◌++◌, append_assoc}
 use mathlib.Core.Option.{some}
 use mathlib.Core.Path.{◌≡◌, refl, sym, ap, ap₂, ◌∙◌, subst}
-use Prim.Native.Nat.{ℕ, zero, suc, ◌+◌, ◌-◌, ◌≤◌, ◌<◌}
-use native.Mathlib.Nat.{zero-add, add-zero, add_assoc}
+use Prim.Native.Nat.{ℕ, ◌+◌, ◌-◌, ◌≤◌, ◌<◌}
+use native.Mathlib.Nat.{add_assoc}
 use native.Mathlib.Omega.{arith}
 use lib.Dec.{ltb}
-use lib.ListN.{length, get_or, take, drop, replicate, length-append, length-replicate, take-append-drop}
+use lib.ListN.{length, take, drop, replicate, length-append, length-replicate, take-append-drop}
 use lib.Seq.{take_at, drop_at, drop-append-add, take-append-add}
 use borrow.Author.Count.{below_more}
 use borrow.Rule.Slice.PartMut.{put_mid, mid_of}
@@ -24,13 +23,13 @@ use Rattle.store.specs.Layout.{Bytes}
 use Rattle.store.specs.Inner.{Sized, sizes}
 use Rattle.store.specs.Keys.{rows_max}
 use Rattle.store.specs.Rows.{key_in, start_in, len_in}
-use Rattle.store.specs.Layout.{record_bytes, records, texts, encode_records, encode_text}
-use Rattle.store.specs.Table.{living, line_at, Whole, Tabled, Takes_up, Keepable, Keeps, Extends, kept_lines}
+use Rattle.store.specs.Layout.{record_bytes, records, texts, encode_records}
+use Rattle.store.specs.Table.{living, line_at, Whole, Tabled, Takes_up, Keepable, Keeps, Extends}
 use Rattle.store.specs.Table.{behind_kept, Lent, Closes, Closed, Settles, Settled}
 use Rattle.store.proofs.BufferLaws.{tail_written}
 use Rattle.store.proofs.DecodeLaws.{Laid, laid, long_index, long_text}
 use Rattle.store.proofs.HeldLaws.{texts-append}
-use Rattle.store.proofs.RowLaws.{records-append, sizes-append, texts_sum, sizes-none, texts-none}
+use Rattle.store.proofs.RowLaws.{records-append, sizes-append, sizes-none, texts-none}
 use Rattle.store.proofs.LivingLaws.{sizes_within, texts_within, place_more, used_more}
 use Rattle.store.proofs.SettleLaws.{Settling, off_within, settle_skip, settle_turn, fits_index, settled_index}
 use Rattle.store.proofs.SettleLaws.{settled_text}

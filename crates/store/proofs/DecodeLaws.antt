@@ -17,7 +17,7 @@ use Rattle.store.specs.Inner.{Good, known, sizes}
 use Rattle.store.specs.Held.{Key, Held, distinct, index_max, text_max}
 use Rattle.store.specs.Layout.{Bytes}
 use Rattle.store.specs.Inner.{head_of, Lies}
-use Rattle.store.specs.Layout.{Shapes, record_of, records, texts, padded, encode_records, encode_text}
+use Rattle.store.specs.Layout.{record_of, records, texts, padded, encode_records, encode_text}
 use Rattle.store.proofs.BoolLaws.{and_left, and_right, and_both}
 use Rattle.store.proofs.HeldLaws.{zeroes-replicate}
 use Rattle.store.proofs.RecordLaws.{size_some, head_proper, read_back, Fits, fits_of, fits_all}

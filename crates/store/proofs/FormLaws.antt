@@ -2,23 +2,19 @@
 -- Assumes nothing.
 use mathlib.Core.Bool.{Bool, true, false}
 use mathlib.Core.List.{List, [], ◌∷◌, ◌++◌}
-use mathlib.Core.Option.{Option, none, some}
+use mathlib.Core.Option.{some}
 use mathlib.Core.Path.{◌≡◌, refl, sym, ap, ◌∙◌}
 use Prim.Native.Nat.{ℕ, zero, suc, ◌+◌, ◌≤◌}
 use native.Mathlib.Omega.{arith}
 use lib.ListN.{length, take}
 use Rattle.text.specs.Bytes.{pick}
 use Rattle.text.specs.Utf8.{is_utf8, valid_run}
-use Rattle.text.specs.Uuid.{uuid_of}
-use Rattle.text.specs.declared.uuid.Spelled.{Spelled}
 use Rattle.text.specs.declared.uuid.UuidParse.{UuidParse}
 use Rattle.text.specs.declared.uuid.UuidParse.TheVariants.{Parsed, Invalid}
-use Rattle.line.specs.Fields.{first_field}
 use Rattle.store.specs.declared.calls.Answer.TheVariants as A
 use Rattle.store.specs.declared.calls.Tally.{Tally}
 use Rattle.store.specs.declared.owners.Owner.{Owner}
-use Rattle.store.specs.declared.owners.Owner.TheVariants as O
-use Rattle.store.specs.Parties.{owner_of, by_owner}
+use Rattle.store.specs.Parties.{by_owner}
 use Rattle.store.specs.Book.{Caller, caller, Turn, room_for, by_room, under, Reached, after, stopped, reach}
 use Rattle.store.specs.Book.{insert_turn, on_reached, insert_lines}
 use Rattle.store.specs.Book.{book_walk, other_spelling, other_spellings, book_insert, Saving, Call, insert, Reply}
@@ -28,7 +24,7 @@ use Rattle.store.specs.declared.table.Room.{Room}
 use Rattle.store.specs.Decode.{content}
 use Rattle.store.specs.Filings.{Filing, filed_line, filed_lines}
 use Rattle.store.specs.Forms.{other_filings, CountsFilings, FoundAnyForm}
-use Rattle.store.specs.Guarantee.{Calls, booked, caller_after, next, Guarantee}
+use Rattle.store.specs.Guarantee.{Calls, booked, caller_after, next}
 use Rattle.store.specs.Held.{Held, key_by, file, find, index_max, text_max}
 use Rattle.store.specs.Lines.{lines_of, wanted}
 use Rattle.store.specs.Saves.{saving}

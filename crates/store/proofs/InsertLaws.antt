@@ -31,7 +31,7 @@ use Rattle.store.specs.Held.{Held, file, index_max, text_max, line_max}
 use Rattle.store.specs.Layout.{Bytes, encode_records, encode_index, encode_text}
 use Rattle.store.specs.Lines.{lines_of, wanted}
 use Rattle.store.specs.Shares.{Content, share_sizes}
-use Rattle.store.specs.Store.{Done, on_lines, store_walk}
+use Rattle.store.specs.Store.{on_lines, store_walk}
 use Rattle.store.proofs.BoolLaws.{true-false}
 use Rattle.store.proofs.ClaimLaws.{not_of-file}
 use Rattle.store.proofs.DecodeLaws.{Laid, laid, good, lines_of_lem, index_kept, text_kept, length_index}

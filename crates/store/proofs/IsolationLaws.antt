@@ -1,11 +1,10 @@
 -- A party's look-ups go by what it filed itself since the last clear, which its own calls and their results tell.
 -- Assumes nothing.
-use mathlib.Core.Bool.{Bool, true, false, ◌&&◌}
+use mathlib.Core.Bool.{Bool, true, false}
 use mathlib.Core.List.{List, [], ◌∷◌, ◌++◌, append-nil}
 use mathlib.Core.Option.{Option, none, some}
-use mathlib.Core.Path.{◌≡◌, refl, sym, ap, ◌∙◌, subst}
+use mathlib.Core.Path.{◌≡◌, refl, sym, ap, ◌∙◌}
 use Prim.Native.Nat.{ℕ, zero, suc, ◌≤◌}
-use native.Mathlib.Omega.{arith}
 use lib.Dec.{eqb}
 use borrow.Author.Tests.{eqb-true, eqb-false, ne_eqb}
 use Rattle.text.specs.Bytes.{pick}
@@ -17,8 +16,7 @@ use Rattle.text.specs.declared.uuid.UuidParse.TheVariants.{Parsed, Invalid}
 use Rattle.store.specs.declared.calls.Saved.{Saved}
 use Rattle.store.specs.declared.owners.Owner.{Owner}
 use Rattle.store.specs.declared.owners.Owner.TheVariants as O
-use Rattle.store.specs.declared.parties.Party.{Party}
-use Rattle.store.specs.Parties.{owner_of, by_owner, Named}
+use Rattle.store.specs.Parties.{owner_of, by_owner}
 use Rattle.store.specs.Held.{Key, Held, key_by, same_key, index_max, text_max}
 use Rattle.store.specs.Lines.{lines_of, wanted}
 use Rattle.store.specs.Refusals.{save_number}
@@ -27,12 +25,12 @@ use Rattle.store.specs.Book.{Caller, clear, insert, save, share, Reply, cleared,
 use Rattle.store.specs.Book.{book_turn, book_after, run_book}
 use Rattle.store.specs.Shares.{Content, nothing_held}
 use Rattle.store.specs.Store.{no_owner, looked_in, look_up}
-use Rattle.store.specs.Saves.{SaveArgs, SaveCall, attempt_of, refused_save, saving}
+use Rattle.store.specs.Saves.{SaveCall, attempt_of, refused_save, saving}
 use Rattle.store.specs.Filings.{Filing, filed_lines, filed_attempt, filed_by, since, filings, later_or, last_filed}
 use Rattle.store.specs.Filings.{line_filed}
-use Rattle.store.specs.Guarantee.{Calls, stored, booked, last_of}
+use Rattle.store.specs.Guarantee.{Calls, stored, last_of}
 use Rattle.store.specs.Near.{nobody, near_in, near_up}
-use Rattle.store.specs.Isolation.{Own, clears, inserts, saves, own_call, Deed, and_deed, deeds, FindsSame, Isolated}
+use Rattle.store.specs.Isolation.{Own, clears, inserts, saves, own_call, Deed, and_deed, deeds, Isolated}
 use Rattle.store.specs.declared.calls.SaveAnswer.TheVariants as Sv
 use Rattle.store.proofs.BoolLaws.{and_false_left}
 use Rattle.store.proofs.NearLaws.{near_after}

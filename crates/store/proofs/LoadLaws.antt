@@ -4,11 +4,9 @@ use mathlib.Core.Bool.{Bool, true, false}
 use mathlib.Core.List.{List, [], ◌∷◌, ◌++◌, append_assoc, append-nil}
 use mathlib.Core.Option.{some}
 use mathlib.Core.Path.{◌≡◌, refl, sym, ap, ap₂, ◌∙◌, subst}
-use Prim.Native.Nat.{ℕ, zero, suc, ◌+◌, ◌-◌, ◌*◌, ◌≤◌, ◌<◌}
-use native.Mathlib.Nat.{zero-add}
+use Prim.Native.Nat.{ℕ, ◌+◌, ◌-◌, ◌*◌, ◌≤◌, ◌<◌}
 use native.Mathlib.Numerals.{add-one}
 use native.Mathlib.Omega.{arith}
-use lib.Dec.{ltb}
 use lib.ListN.{length, take, drop}
 use lib.Seq.{take_at, drop_at}
 use borrow.Author.Count.{below_more}
@@ -16,19 +14,19 @@ use borrow.Author.Tests.{lt-ltb}
 use Rattle.text.specs.Bytes.{pick}
 use Rattle.store.specs.declared.records.Head.{Head}
 use Rattle.store.specs.declared.table.Fill.{Fill}
-use Rattle.store.specs.Decode.{head_at, decode}
+use Rattle.store.specs.Decode.{head_at}
 use Rattle.store.specs.Held.{Key, Held, distinct, index_max}
 use Rattle.store.specs.Layout.{Bytes}
 use Rattle.store.specs.Inner.{Lies, size_of, sizes}
 use Rattle.store.specs.Keys.{rows_max, Chained}
 use Rattle.store.specs.Rows.{Row, row_in, key_in, start_in, len_in, row_put, Long}
 use Rattle.store.specs.Layout.{Shapes, texts}
-use Rattle.store.specs.Table.{living, source_of, line_at, Tabled, Extends, InRows, Loads}
+use Rattle.store.specs.Table.{living, line_at, Extends, InRows, Loads}
 use Rattle.store.proofs.DecodeLaws.{Laid, laid, good}
 use Rattle.store.proofs.HeldLaws.{texts-append}
 use Rattle.store.proofs.OnceLaws.{Listing, list_first, list_end, list_turn, twice_once}
 use Rattle.store.proofs.RecordLaws.{head_least, size_move}
-use Rattle.store.proofs.RowLaws.{Rest, first, Onward, ended, stands, onward, size_not, next_within}
+use Rattle.store.proofs.RowLaws.{Rest, first, Onward, ended, stands, onward, size_not}
 use Rattle.store.proofs.RowLaws.{sizes-append, sizes_cons, sizes-none}
 use Rattle.store.proofs.RowLaws.{texts_sum, texts_cons, texts-none, texts-first}
 use Rattle.store.proofs.LivingLaws.{living_front}

@@ -1,12 +1,11 @@
 -- A look-up that also tries a UUID without its checksum: what it says beside the old one, and after every list of calls.
 -- Assumes nothing.
-use mathlib.Core.Bool.{true, false}
+use mathlib.Core.Bool.{false}
 use mathlib.Core.List.{List}
 use mathlib.Core.Option.{Option, none, some}
-use mathlib.Core.Path.{◌≡◌, refl, sym, ap, ap₂, ◌∙◌, subst}
-use Prim.Native.Nat.{ℕ, ◌+◌, ◌≤◌, ◌<◌}
+use mathlib.Core.Path.{◌≡◌, refl, sym, ap, ◌∙◌, subst}
+use Prim.Native.Nat.{ℕ, ◌≤◌, ◌<◌}
 use native.Mathlib.Omega.{arith}
-use lib.ListN.{length, take, drop}
 use Rattle.text.specs.Uuid.{without_checksum}
 use Rattle.store.specs.declared.look.Part.{Part}
 use Rattle.store.specs.declared.near.NearSeen.{NearSeen}
@@ -22,7 +21,7 @@ use Rattle.store.specs.declared.parties.Party.{Party}
 use Rattle.store.specs.Parties.{owner_of, by_owner}
 use Rattle.store.specs.Held.{Key, key_by, find, index_max, text_max}
 use Rattle.store.specs.Inner.{known}
-use Rattle.store.specs.Near.{Nearby, exact, near, neither, damaged, nobody, near_in, plain_key, near_at, near_by}
+use Rattle.store.specs.Near.{nobody, near_in, plain_key, near_at, near_by}
 use Rattle.store.specs.Near.{near_up}
 use Rattle.store.specs.Near.{Beside, BesideLookUp, NeverNear, NearAfter}
 use Rattle.store.specs.Sights.{Spot, nowhere, there, NearSees}

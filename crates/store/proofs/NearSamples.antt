@@ -1,7 +1,7 @@
 -- Request P5's cases, computed by the definitions.
 -- Assumes nothing.
 use mathlib.Core.Path.{◌≡◌, refl}
-use mathlib.Core.List.{List, [], ◌∷◌, ◌++◌}
+use mathlib.Core.List.{[], ◌∷◌, ◌++◌}
 use Prim.Native.Nat.{ℕ, ◌*◌}
 use lib.ListN.{replicate}
 use Rattle.text.specs.Bytes.{ascii}

@@ -1,17 +1,16 @@
 -- The keys written down are those of the lines that lie in the index: apart exactly when the lines are distinct.
 -- Assumes nothing.
-use mathlib.Core.Bool.{Bool, true, false, not, ◌&&◌, ◌||◌}
+use mathlib.Core.Bool.{Bool, true, false, not, ◌||◌}
 use mathlib.Core.List.{List, [], ◌∷◌}
 use mathlib.Core.Path.{◌≡◌, refl, sym, ap, ◌∙◌, subst}
-use Prim.Native.Nat.{ℕ, zero, suc, ◌+◌, ◌-◌, ◌≤◌, ◌<◌}
-use native.Mathlib.Numerals.{add-one}
+use Prim.Native.Nat.{ℕ, zero, suc, ◌+◌, ◌≤◌, ◌<◌}
 use native.Mathlib.Omega.{arith}
 use lib.ListN.{length, drop}
 use borrow.Author.Count.{below_more}
 use Rattle.store.specs.declared.records.Head.{Head}
 use Rattle.store.specs.Decode.{head_at}
 use Rattle.store.specs.Held.{Key, Held, same_key, holds, distinct}
-use Rattle.store.specs.Inner.{head_of, Lies, Once}
+use Rattle.store.specs.Inner.{Lies, Once}
 use Rattle.store.specs.Keys.{rows_max, key_of, Lists, AllApart, Twice, Tells}
 use Rattle.store.specs.Rows.{Row, key_in, row_put, Long}
 use Rattle.store.proofs.BoolLaws.{and_both, and_false_left, and_false_right, or_false}

@@ -1,7 +1,7 @@
 -- Lines in another form than 32 digits: counted line by line, and those that an insert filed.
 -- Assumes nothing.
 use mathlib.Core.Bool.{Bool, true, false}
-use mathlib.Core.List.{List, [], ◌∷◌, ◌++◌}
+use mathlib.Core.List.{List, [], ◌∷◌}
 use mathlib.Core.Path.{◌≡◌, refl, sym, ap, ◌∙◌}
 use Prim.Native.Nat.{ℕ, zero, suc, ◌+◌, ◌-◌, ◌≤◌, ◌<◌}
 use native.Mathlib.Omega.{arith}
@@ -18,7 +18,6 @@ use Rattle.text.proofs.BytesLaws.{first_le}
 use Rattle.text.proofs.SpellingLaws.{reader_forms}
 use Rattle.line.specs.Fields.{first_field}
 use Rattle.text.specs.Search.{lf}
-use Rattle.store.specs.declared.calls.Inserted.{Inserted}
 use Rattle.store.specs.declared.calls.Tally.{Tally}
 use Rattle.store.specs.Book.{other_form, other_spelling, other_spellings, inserted_of, nobody_inserts}
 use Rattle.store.specs.Inner.{first_line}

@@ -1,7 +1,6 @@
 -- Request P9's cases, computed by the definitions.
 -- Assumes nothing.
 use mathlib.Core.Path.{◌≡◌, refl}
-use mathlib.Core.Bool.{true, false}
 use mathlib.Core.Option.{none, some}
 use mathlib.Core.List.{List, [], ◌∷◌, ◌++◌, map}
 use Prim.Native.Nat.{ℕ}
@@ -14,7 +13,6 @@ use Rattle.text.specs.Search.{first_text}
 use Rattle.text.specs.declared.uuid.Uuid.{Uuid}
 use Rattle.map.specs.declared.mapping_data.MappingData.{MappingData}
 use Rattle.store.specs.declared.calls.Answer.TheVariants as A
-use Rattle.store.specs.declared.calls.Look.TheVariants as L
 use Rattle.store.specs.declared.calls.SaveAnswer.TheVariants as Sv
 use Rattle.store.specs.declared.parties.Party.TheVariants as P
 use Rattle.store.specs.Parties.{Named}
@@ -29,11 +27,11 @@ use Rattle.store.specs.Book.{caller, under, record_sizes, no_index_of, no_text, 
 use Rattle.store.specs.Book.{number_of, other_spellings, insert, clear}
 use Rattle.store.specs.Store.{store_clear, store_walk, own_insert, store_insert, store_call, run_store, look_by, look_up}
 use Rattle.store.specs.Store.{found, nothing, unsound, no_owner, says_of, line_of}
-use Rattle.store.specs.Saves.{SaveArgs, save_args, store_save, refused_save}
+use Rattle.store.specs.Saves.{save_args, store_save, refused_save}
 use Rattle.store.specs.Refusals.{outcome_number, number, save_number, look_outcome}
 use Rattle.store.specs.declared.refusal.LookOutcome.TheVariants.{CannotLook}
 use Rattle.store.specs.Guarantee.{Calls, stored}
-use Rattle.store.specs.Near.{near, nobody, near_by, near_up, near_says, near_line, near_outcome}
+use Rattle.store.specs.Near.{near, nobody, near_by, near_up, near_says, near_outcome}
 use Rattle.line.specs.Refusals.{refusal}
 
 -- U, and zeros with a one

@@ -1,20 +1,20 @@
 -- Writing out the lines that are still held: one line moved down or copied, a number's turn, and the end.
 -- Assumes nothing.
 use mathlib.Core.Bool.{Bool, true, false}
-use mathlib.Core.List.{List, [], ◌∷◌, ◌++◌, append_assoc}
+use mathlib.Core.List.{List, ◌++◌, append_assoc}
 use mathlib.Core.Path.{◌≡◌, refl, sym, ap, ap₂, ◌∙◌, subst}
-use Prim.Native.Nat.{ℕ, zero, suc, ◌+◌, ◌-◌, ◌≤◌, ◌<◌}
+use Prim.Native.Nat.{ℕ, ◌+◌, ◌-◌, ◌≤◌, ◌<◌}
 use native.Mathlib.Omega.{arith}
 use lib.Dec.{ltb}
-use lib.ListN.{length, get_or, take, drop, replicate, length-append, length-replicate, length-drop, take-append-drop}
+use lib.ListN.{length, take, drop, replicate, length-append, length-replicate, length-drop, take-append-drop}
 use lib.Seq.{take_at, drop_at, drop-drop, take-add, drop-append-le, length-take-le}
 use borrow.Author.Tests.{ltb-true}
 use borrow.Rule.Slice.PartMut.{put_mid, mid_of}
 use Rattle.text.specs.Bytes.{pick, written, write_buffer}
 use Rattle.text.proofs.BytesLaws.{buffer_fits, written-length}
-use Rattle.store.specs.Held.{Key, Held}
+use Rattle.store.specs.Held.{Held}
 use Rattle.store.specs.Inner.{sizes, Sized}
-use Rattle.store.specs.Layout.{record_bytes, record_of, records, texts, padded, encode_records, encode_text}
+use Rattle.store.specs.Layout.{record_bytes, records, texts, padded, encode_records, encode_text}
 use Rattle.store.specs.Table.{living, held_at, line_at, Tabled}
 use Rattle.store.specs.Rows.{key_in, start_in, len_in}
 use Rattle.store.proofs.BufferLaws.{written_part}

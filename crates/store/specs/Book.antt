@@ -2,7 +2,7 @@
 -- store". Document 02, P9: it "is told each call's party, checks 24 first, and keeps its lines by party and UUID". P10: its
 -- "list may hold share settings too; the book answers each by the rules here, 19 left out".
 -- Public contracts rest on these definitions; they assume nothing.
-use Rattle.std.specs.Prelude.{Bool, List, [], ◌∷◌, ℕ, suc, ◌+◌, ◌<◌, ltb, length, take}
+use Rattle.std.specs.Prelude.{Bool, List, [], ◌∷◌, ℕ, suc, ◌+◌, ltb, length, take}
 use Rattle.text.specs.Bytes.{pick}
 use Rattle.text.specs.Utf8.{is_utf8, valid_run}
 use Rattle.text.specs.declared.uuid.Uuid.{Uuid}

@@ -1,7 +1,7 @@
 -- How the lines that an insert files are spelled (document 02, P11), proved as `counts-filings` and `found_any_form` in
 -- ../proofs/FormLaws.antt.
 -- The theorems rest on these definitions; they assume nothing.
-use Rattle.std.specs.Prelude.{◌≡◌, true, false, List, [], ◌∷◌, ◌++◌, ℕ, ◌+◌, ◌≤◌, length}
+use Rattle.std.specs.Prelude.{◌≡◌, true, List, [], ◌∷◌, ◌++◌, ℕ, ◌+◌, ◌≤◌, length}
 use Rattle.text.specs.Utf8.{is_utf8}
 use Rattle.text.specs.Uuid.{uuid_of}
 use Rattle.text.specs.declared.uuid.Spelled.{Spelled}

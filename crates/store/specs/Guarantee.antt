@@ -4,7 +4,6 @@
 -- The guarantee rests on these definitions; they assume nothing.
 use Rattle.std.specs.Prelude.{◌≡◌, true, List, [], ◌∷◌, ◌++◌, map, ℕ, suc, ◌≤◌, length, replicate}
 use Rattle.std.proofs.Math.Option.{Option, some}
-use Rattle.text.specs.Bytes.{pick}
 use Rattle.text.specs.Utf8.{is_utf8}
 use Rattle.text.specs.declared.uuid.Spelled.{Spelled}
 use Rattle.text.specs.declared.uuid.UuidParse.TheVariants.{Parsed}

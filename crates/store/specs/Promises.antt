@@ -2,7 +2,7 @@
 -- ../proofs/RefusedLaws.antt and `saved_again`, `saved_is_found` in ../proofs/FoundLaws.antt.
 -- The theorems rest on these definitions; they assume nothing.
 use Rattle.std.specs.Prelude.{◌≡◌, Bool, true, false, List, [], ◌∷◌, ◌++◌, ℕ, zero, suc, eqb, length, take}
-use Rattle.std.proofs.Math.Option.{Option, none}
+use Rattle.std.proofs.Math.Option.{none}
 use Rattle.text.specs.Bytes.{pick}
 use Rattle.text.specs.Search.{lf}
 use Rattle.text.specs.Utf8.{is_utf8}
@@ -15,7 +15,6 @@ use Rattle.map.specs.declared.mapping_data.MappingData.{MappingData}
 use Rattle.map.specs.Build.{built_line, build_of, output_of}
 use Rattle.store.specs.declared.calls.Answer.TheVariants as A
 use Rattle.store.specs.declared.calls.SaveAnswer.TheVariants as Sv
-use Rattle.store.specs.declared.calls.Inserted.{Inserted}
 use Rattle.store.specs.declared.calls.Saved.{Saved}
 use Rattle.store.specs.declared.parties.Party.{Party}
 use Rattle.store.specs.declared.owners.Owner.TheVariants as O
@@ -23,7 +22,7 @@ use Rattle.store.specs.Parties.{owner_of, Named}
 use Rattle.store.specs.Held.{key_by}
 use Rattle.store.specs.Lines.{lines_of, wanted}
 use Rattle.store.specs.Refusals.{number, save_number}
-use Rattle.store.specs.Book.{Call, clear, insert, save, share, saved}
+use Rattle.store.specs.Book.{clear, insert, save, share, saved}
 use Rattle.store.specs.Store.{Done, unchanged, store_clear, store_insert, store_share, look_up, found}
 use Rattle.store.specs.Saves.{SaveArgs, SaveCall, store_save, saving, ReadsBack}
 use Rattle.store.specs.Filings.{Filing, filings, last_filed}

@@ -3,7 +3,6 @@
 -- Public contracts rest on these definitions; they assume nothing.
 use Rattle.std.specs.Prelude.{ℕ}
 use Rattle.line.specs.Refusals.{refusal, refusal_at}
-use Rattle.line.specs.declared.refusal.Refusal.{Refusal}
 use Rattle.line.specs.declared.refusal.Outcome.{Outcome}
 use Rattle.line.specs.declared.refusal.Outcome.TheVariants.{Passes, Refuses}
 use Rattle.map.specs.Refusals.{mapping_refusal}

@@ -18,7 +18,7 @@ use Rattle.store.specs.Held.{Key, key_by, find, index_max, text_max}
 use Rattle.store.specs.Shares.{Content, share_of, use_of, with_held}
 use Rattle.store.specs.Layout.{encode_index, encode_text}
 use Rattle.store.specs.Decode.{content}
-use Rattle.store.specs.Book.{caller, Turn, turn, book_walk, inserted_of, nobody_inserts, book_attempt, Attempt, refused}
+use Rattle.store.specs.Book.{caller, Turn, book_walk, inserted_of, nobody_inserts, book_attempt, Attempt, refused}
 use Rattle.store.specs.Book.{files, Setting, book_share, Saving, Call, clear, insert, save, share}
 use Rattle.store.specs.Book.{Reply, cleared, inserted, saved, shared}
 

@@ -1,10 +1,8 @@
 -- A UUID without its checksum, byte by byte.
 -- Assumes nothing.
 use mathlib.Core.Path.{◌≡◌, refl, sym, ap, ◌∙◌}
-use mathlib.Core.List.{List, [], ◌∷◌, ◌++◌}
 use Prim.Native.Nat.{ℕ, ◌+◌, ◌*◌, ◌/◌, ◌%◌}
 use native.Mathlib.Omega.{arith}
-use Rattle.text.specs.declared.uuid.Uuid.{Uuid}
 use Rattle.text.specs.Uuid.{big_endian, without_checksum, ChecksumBytes}
 
 abbrev cut : ℕ → ℕ

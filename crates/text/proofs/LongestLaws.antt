@@ -6,12 +6,12 @@ use mathlib.Core.Logic.{⊎_elim}
 use mathlib.Core.Bool.{Bool, true, false}
 use mathlib.Core.List.{List, [], ◌∷◌, ◌++◌, append_assoc}
 use native.Mathlib.Omega.{arith}
-use borrow.Author.Tests.{leb-true, eqb-true}
+use borrow.Author.Tests.{leb-true}
 use lib.Dec.{leb, eqb}
 use lib.ListN.{length, take, drop, length-append, take-append-drop}
 use lib.Seq.{drop-append_seam, length-take-le}
 use Rattle.text.specs.Bytes.{pick, both}
-use Rattle.text.specs.Utf8.{Range, Alternative, utf8_char, in_range, begins, first_length, char_length, run_of}
+use Rattle.text.specs.Utf8.{Alternative, utf8_char, in_range, begins, first_length, char_length, run_of}
 use Rattle.text.specs.Utf8.{valid_run, AllWhole, together, WholeCut, LongestRun}
 use Rattle.text.proofs.ListLaws.{off, both_parts, lt_or_le}
 use Rattle.text.proofs.Utf8Laws.{valid_step, char_long}

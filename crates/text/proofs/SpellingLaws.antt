@@ -1,12 +1,11 @@
 -- Four spellings are one UUID: a text of 32 bytes is the list of its bytes by number, over which each spelling computes.
 -- A number read from digits is written as these digits in lower case. Assumes nothing.
-use Prim.Native.Nat.{ℕ, zero, suc, ◌+◌, ◌*◌, ◌-◌, ◌/◌, ◌%◌, ◌<◌, ◌≤◌}
+use Prim.Native.Nat.{ℕ, zero, suc, ◌+◌, ◌*◌, ◌-◌, ◌/◌, ◌%◌, ◌<◌}
 use mathlib.Core.Path.{◌≡◌, refl, sym, subst, ap, ◌∙◌}
-use mathlib.Core.Logic.{⊎_elim}
 use mathlib.Core.Bool.{Bool, true, false}
 use mathlib.Core.List.{List, [], ◌∷◌, ◌++◌, map, append_assoc}
 use native.Mathlib.Omega.{arith}
-use borrow.Author.Tests.{lt-ltb, le-ltb, ltb-true, leb-true, le-leb, lt-leb, eqb-true}
+use borrow.Author.Tests.{lt-ltb, le-ltb, ltb-true, leb-true, eqb-true}
 use lib.Dec.{ltb, leb, eqb}
 use lib.ListN.{length, get_or, take, drop, length-drop, take-append-drop}
 use lib.Seq.{length-take-le}
@@ -14,7 +13,7 @@ use Rattle.text.specs.Bytes.{pick, both, same}
 use Rattle.text.specs.Uuid.{is_from, hex_digit, read_hex, hyphen_at, first_groups, last_groups, hyphenated, joined}
 use Rattle.text.specs.Uuid.{of_digits, simple, in_braces, after_urn, uuid_of}
 use Rattle.text.specs.Uuid.{lower_digit, hex_text, uuid_text}
-use Rattle.text.specs.Spellings.{with_hyphens, with_braces, with_urn, in_form, SpelledAlike, form_length, FormTold, ReaderForms}
+use Rattle.text.specs.Spellings.{in_form, SpelledAlike, form_length, FormTold, ReaderForms}
 use Rattle.text.specs.Spellings.{lower_byte, LowerText}
 use Rattle.text.specs.declared.uuid.Spelled.{Spelled}
 use Rattle.text.specs.declared.uuid.Form.{Form}
@@ -23,7 +22,7 @@ use Rattle.text.specs.declared.uuid.UuidParse.{UuidParse}
 use Rattle.text.specs.declared.uuid.UuidParse.TheVariants.{Parsed, Invalid}
 use Rattle.text.specs.declared.uuid.Hex.{Hex}
 use Rattle.text.specs.declared.uuid.Hex.TheVariants.{Number, NotHex}
-use Rattle.text.proofs.ListLaws.{off, both_parts, lt_or_le}
+use Rattle.text.proofs.ListLaws.{both_parts}
 use Rattle.text.proofs.UuidLaws.{uuid_32}
 
 -- ---- a list by its numbers

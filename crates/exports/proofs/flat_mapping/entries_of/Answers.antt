@@ -3,7 +3,6 @@ use Rattle.exports.proofs.FlatLaws.{flat_past, laid_more, laid_all}
 use Rattle.exports.specs.FlatMaps.{entry_in}
 use lib.ListN.{length, replicate, length-replicate}
 use mathlib.Core.Path.{◌≡◌, refl, ◌∙◌}
-use Prim.Native.Nat.{◌-◌}
 use native.Mathlib.Omega.{arith}
 use borrow.Author.Rules.{rules}
 use Rattle.exports.proofs.flat_mapping.entries_of.Goals as goal

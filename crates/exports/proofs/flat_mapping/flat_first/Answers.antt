@@ -3,7 +3,6 @@ use Rattle.exports.proofs.FlatLaws.{flat_unused, laid_more, laid_first}
 use Rattle.exports.specs.FlatMaps.{flat_entry}
 use lib.ListN.{length, replicate, length-replicate}
 use mathlib.Core.Path.{◌≡◌, refl, ◌∙◌}
-use Prim.Native.Nat.{◌-◌}
 use native.Mathlib.Omega.{arith}
 use borrow.Author.Rules.{rules}
 use Rattle.exports.proofs.flat_mapping.flat_first.Goals as goal

@@ -1,7 +1,6 @@
 -- `parser::read_guid` meets its contract: whether the field is `xinput`. Assumes nothing.
 use Rattle.line.specs.Walker.{guid_of}
 use mathlib.Core.Path.{sym, ◌∙◌}
-use borrow.Author.Rules.{rules}
 use Rattle.line.proofs.parser.read_guid.Goals as goal
 
 -- (no goal found) slice-aggregate-same-bytes : tie.Need-slice-aggregate-same-bytes

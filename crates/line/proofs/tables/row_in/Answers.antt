@@ -1,5 +1,4 @@
 use mathlib.Core.Path.{refl, sym, ◌∙◌}
-use Prim.Native.Nat.{◌-◌}
 use native.Mathlib.Omega.{arith}
 use Rattle.line.specs.Tables.{element_row}
 use Rattle.line.proofs.KeyLaws.{element_told, element_here, element_past, element_none}

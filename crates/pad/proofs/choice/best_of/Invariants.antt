@@ -1,4 +1,4 @@
-use Prim.Native.Nat.{◌≤◌, ◌-◌}
+use Prim.Native.Nat.{◌≤◌}
 use lib.ListN.{drop}
 use Rattle.pad.specs.Pads.{choose}
 use Rattle.pad.specs.Inner.{helds_in, entries_in, Holds}

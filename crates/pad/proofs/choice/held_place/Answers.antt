@@ -1,4 +1,4 @@
-use Prim.Native.Nat.{◌<◌, ◌-◌}
+use Prim.Native.Nat.{◌<◌}
 use native.Mathlib.Omega.{arith}
 use Rattle.pad.proofs.PlaceLaws.{place_found, place_passed, place_none}
 use Rattle.pad.proofs.choice.held_place.Goals as goal

@@ -1,4 +1,4 @@
-use Prim.Native.Nat.{◌-◌, ◌<◌}
+use Prim.Native.Nat.{◌<◌}
 use native.Mathlib.Omega.{arith}
 use Rattle.pad.proofs.ListLaws.{small_nth, none-listed, listed_same, listed_other, all_listed}
 use Rattle.pad.proofs.telling.differences.Goals as goal

@@ -1,16 +1,15 @@
 use mathlib.Core.Logic.{⊎_elim}
 use mathlib.Core.Path.{sym, ap, ◌∙◌}
-use Prim.Native.Nat.{◌-◌, ◌≤◌, ◌<◌}
+use Prim.Native.Nat.{◌-◌, ◌≤◌}
 use native.Mathlib.Nat.{eq-or-lt_of_le}
 use native.Mathlib.Omega.{arith}
 use lib.ListN.{length, take, drop}
-use borrow.Author.Tests.{not-true, not-false, ltb-true, ltb-false}
+use borrow.Author.Tests.{not-true, not-false}
 use Rattle.text.specs.Bytes.{first_of}
 use Rattle.text.proofs.ListLaws.{part_to_end}
 use Rattle.text.proofs.LentLaws.{tail_length}
 use Rattle.text.proofs.BytesLaws.{first_le}
 use Rattle.text.specs.Search.{lf}
-use Rattle.store.specs.Keys.{rows_max}
 use Rattle.store.proofs.BatchLaws.{take-first, take_on, first_at_lem, taken, line_part, take_off, take-turn}
 use Rattle.store.proofs.batch.take_lines.Goals as goal
 use Rattle.store.proofs.batch.take_lines.Goals.{then-loop-at-test+else-fill-lt-ROWS, else-loop-at-test}

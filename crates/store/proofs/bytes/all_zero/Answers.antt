@@ -1,5 +1,4 @@
 use mathlib.Core.Path.{sym, ◌∙◌}
-use Prim.Native.Nat.{◌-◌}
 use borrow.Author.Rules.{rules}
 use Rattle.store.proofs.BufferLaws.{zeroes-turn, zeroes-stop, zeroes_end}
 use Rattle.store.proofs.bytes.all_zero.Goals as goal

@@ -1,5 +1,4 @@
 use mathlib.Core.Path.{refl}
-use Prim.Native.Nat.{◌-◌}
 use Rattle.store.proofs.EightLaws.{gap_turn_eight}
 use borrow.Author.Rules.{rules}
 use Rattle.store.proofs.bytes.close_front.Goals as goal

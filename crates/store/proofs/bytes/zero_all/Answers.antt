@@ -1,5 +1,5 @@
 use Rattle.store.proofs.EightLaws.{zero-length, zero_turn, zero_all}
-use Prim.Native.Nat.{◌≤◌, ◌-◌, ◌+◌}
+use Prim.Native.Nat.{◌≤◌, ◌+◌}
 use native.Mathlib.Omega.{arith}
 use mathlib.Core.Path.{refl}
 use lib.ListN.{length}

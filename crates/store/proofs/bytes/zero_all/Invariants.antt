@@ -1,5 +1,5 @@
 -- The loop's invariant: the first i bytes are 0, the others as they were.
-use Prim.Native.Nat.{◌≤◌, ◌-◌, ◌+◌}
+use Prim.Native.Nat.{◌≤◌, ◌-◌}
 use mathlib.Core.Path.{◌≡◌}
 use lib.ListN.{length, drop, take, replicate}
 use mathlib.Core.List.{◌++◌}

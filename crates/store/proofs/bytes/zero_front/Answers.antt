@@ -1,5 +1,4 @@
 use mathlib.Core.Path.{refl, sym, ◌∙◌}
-use Prim.Native.Nat.{◌-◌}
 use borrow.Author.Rules.{rules}
 use Rattle.store.proofs.EightLaws.{eight-zero}
 use Rattle.store.proofs.bytes.zero_front.Goals as goal

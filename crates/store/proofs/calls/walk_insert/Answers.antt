@@ -1,7 +1,6 @@
 -- 19 and 10 where they apply; else the part behind the shares is lent to `insert_all`.
 use mathlib.Core.Path.{sym, ◌∙◌}
 use native.Mathlib.Omega.{arith}
-use borrow.Author.Tests.{not-false}
 use Rattle.store.proofs.InsertLaws.{walk_unsound, walk-not_utf8, walk_lent}
 use Rattle.store.proofs.PartLaws.{whole, part_lines}
 use Rattle.store.proofs.calls.walk_insert.Goals as goal

@@ -1,5 +1,4 @@
 use native.Mathlib.Omega.{arith}
-use Prim.Native.Nat.{◌-◌}
 use borrow.Author.Rules.{rules}
 use Rattle.store.specs.Rows.{key_in}
 use Rattle.store.proofs.ChainLaws.{chain_from, chain_sought, apart_turn, found_twice, tells_apart, tells_twice}

@@ -1,5 +1,4 @@
 use mathlib.Core.Path.{ap}
-use Prim.Native.Nat.{◌-◌}
 use native.Mathlib.Omega.{arith}
 use Rattle.store.specs.Held.{Key}
 use Rattle.store.proofs.UseLaws.{add_first, add_most, add_next, add_end, owner_byte}

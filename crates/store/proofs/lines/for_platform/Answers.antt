@@ -3,7 +3,6 @@ use mathlib.Core.Path.{sym, ap, ◌∙◌}
 use Prim.Native.Nat.{ℕ, ◌+◌, ◌-◌}
 use native.Mathlib.Omega.{arith}
 use lib.ListN.{length, take, drop}
-use borrow.Author.Rules.{rules}
 use Rattle.text.specs.Bytes.{byte, same, first_of}
 use Rattle.text.proofs.ListLaws.{part_to_end}
 use Rattle.text.proofs.LentLaws.{tail_length}

@@ -1,5 +1,4 @@
 -- LF first, then `platform:`, each sought in the whole name.
-use borrow.Author.Rules.{rules}
 use Rattle.store.proofs.SaveCallLaws.{unsaved_lf, unsaved_platform}
 use Rattle.store.proofs.saving.unsaved_name.Goals as goal
 

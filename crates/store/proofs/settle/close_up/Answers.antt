@@ -1,5 +1,4 @@
 use mathlib.Core.Path.{sym, ◌∙◌}
-use Prim.Native.Nat.{◌-◌}
 use native.Mathlib.Omega.{arith}
 use Rattle.store.proofs.ClosingLaws.{close_first, close_skip, close_most, close_within}
 use Rattle.store.proofs.ClosingLaws.{close_later, close_ends, close_off, close_end}

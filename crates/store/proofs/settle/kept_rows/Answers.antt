@@ -1,4 +1,3 @@
-use Prim.Native.Nat.{◌-◌}
 use native.Mathlib.Omega.{arith}
 use Rattle.store.proofs.ClosingLaws.{keep-first, kept_most, keep_end}
 use Rattle.store.proofs.ReadLaws.{read_keeps, read_kept}

@@ -1,5 +1,4 @@
 use mathlib.Core.Path.{refl}
-use Prim.Native.Nat.{◌-◌}
 use native.Mathlib.Omega.{arith}
 use Rattle.store.proofs.BoolLaws.{true-false}
 use Rattle.store.proofs.ShareBufferLaws.{none-turn, none_all}

@@ -2,7 +2,6 @@ use mathlib.Core.Path.{ap, ◌∙◌}
 use Prim.Native.Nat.{◌-◌, ◌≤◌}
 use native.Mathlib.Omega.{arith}
 use lib.ListN.{length, take, drop}
-use borrow.Author.Tests.{ltb-true, ltb-false}
 use Rattle.text.specs.Bytes.{first_of}
 use Rattle.text.specs.Search.{lf}
 use Rattle.text.proofs.ListLaws.{part_to_end}

@@ -1,4 +1,3 @@
-use Prim.Native.Nat.{◌-◌}
 use native.Mathlib.Omega.{arith}
 use Rattle.text.proofs.BytesLaws.{first_at_lem, first_on, first_end}
 use Rattle.text.proofs.bytes.find_byte.Goals as goal

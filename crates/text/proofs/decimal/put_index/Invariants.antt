@@ -1,6 +1,6 @@
 -- From the last digit to the first: the digits of `upper` are still to come, those behind them stand in the buffer.
 -- Assumes nothing.
-use Prim.Native.Nat.{◌+◌, ◌-◌}
+use Prim.Native.Nat.{◌+◌}
 use mathlib.Core.Path.{◌≡◌}
 use lib.ListN.{length}
 use Rattle.text.specs.Decimal.{decimal}

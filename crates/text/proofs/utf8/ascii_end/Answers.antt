@@ -1,4 +1,3 @@
-use Prim.Native.Nat.{◌-◌}
 use native.Mathlib.Omega.{arith}
 use Rattle.text.proofs.AsciiLaws.{ascii_goes}
 use Rattle.text.proofs.utf8.ascii_end.Goals as goal

@@ -1,5 +1,4 @@
 use mathlib.Core.Path.{sym, ◌∙◌}
-use Prim.Native.Nat.{◌-◌}
 use native.Mathlib.Omega.{arith}
 use Rattle.text.proofs.AsciiLaws.{asciis_go}
 use Rattle.text.proofs.utf8.ascii_front.Goals as goal

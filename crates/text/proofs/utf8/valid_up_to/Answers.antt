@@ -1,5 +1,4 @@
 use mathlib.Core.Path.{sym, ◌∙◌}
-use Prim.Native.Nat.{◌-◌}
 use native.Mathlib.Omega.{arith}
 use Rattle.text.proofs.Utf8Laws.{run_ends, run_goes}
 use Rattle.text.proofs.utf8.valid_up_to.Goals as goal

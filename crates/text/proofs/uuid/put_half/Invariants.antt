@@ -1,6 +1,6 @@
 -- The digits that are left to write are those of the number divided by sixteen.
 -- Assumes nothing.
-use Prim.Native.Nat.{◌≤◌, ◌-◌}
+use Prim.Native.Nat.{◌≤◌}
 use Rattle.text.specs.Uuid.{hex_text}
 use Rattle.text.proofs.BytesLaws.{Backward}
 use Rattle.text.proofs.uuid.put_half.Given as goal

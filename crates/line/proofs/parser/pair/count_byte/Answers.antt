@@ -1,6 +1,5 @@
 use Rattle.line.proofs.CountLaws.{count_at, count_on, count_end}
 use native.Mathlib.Omega.{arith}
-use Prim.Native.Nat.{◌-◌}
 use Rattle.line.proofs.parser.pair.count_byte.Goals as goal
 use Rattle.line.proofs.parser.pair.count_byte.Goals.{then-s-i, else-s-i}
 

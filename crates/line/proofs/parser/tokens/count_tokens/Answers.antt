@@ -1,5 +1,4 @@
 use Rattle.line.proofs.TokenLaws.{counted-first, counted_stays, counted_on, counted-done}
-use Prim.Native.Nat.{◌-◌}
 use mathlib.Core.Path.{◌∙◌}
 use native.Mathlib.Omega.{arith}
 use Rattle.line.proofs.parser.tokens.count_tokens.Goals as goal

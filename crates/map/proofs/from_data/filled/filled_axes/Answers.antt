@@ -1,4 +1,3 @@
-use Prim.Native.Nat.{◌-◌}
 use native.Mathlib.Omega.{arith}
 use Rattle.line.specs.Tables.{as_axis}
 use Rattle.map.specs.Slots.{axis_slots}

@@ -1,4 +1,3 @@
-use Prim.Native.Nat.{◌-◌}
 use native.Mathlib.Omega.{arith}
 use Rattle.line.specs.Tables.{as_button}
 use Rattle.map.specs.Slots.{button_slots}

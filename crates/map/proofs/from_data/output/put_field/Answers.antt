@@ -4,7 +4,6 @@ use native.Mathlib.Omega.{arith}
 use Rattle.text.specs.Bytes.{byte}
 use lib.ListN.{length-append}
 use Rattle.map.proofs.OutputLaws.{put_room, put_then}
-use borrow.Author.Rules.{rules}
 use Rattle.map.proofs.from_data.output.put_field.Goals as goal
 
 pub put_bytes-comma-requires : goal.put_bytes-comma-requires

@@ -4,7 +4,6 @@ use Rattle.text.specs.Bytes.{byte}
 use Rattle.text.specs.Uuid.{uuid_text}
 use Rattle.map.specs.Inner.{with_comma}
 use Rattle.map.proofs.OutputLaws.{room_first, room_second, room_third, three_put}
-use borrow.Author.Rules.{rules}
 use Rattle.map.proofs.from_data.output.put_head.Goals as goal
 
 pub put_uuid-comma-requires : goal.put_uuid-comma-requires

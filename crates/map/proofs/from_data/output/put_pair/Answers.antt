@@ -4,7 +4,6 @@ use Rattle.text.specs.Bytes.{byte}
 use Rattle.line.specs.Tables.{ident_text}
 use Rattle.map.specs.Inner.{value_text}
 use Rattle.map.proofs.OutputLaws.{room_first, room_second, room_third, three_put}
-use borrow.Author.Rules.{rules}
 use Rattle.map.proofs.from_data.output.put_pair.Goals as goal
 
 pub put_ident-colon-requires : goal.put_ident-colon-requires
