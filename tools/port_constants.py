@@ -35,26 +35,24 @@ NEW = {
     "ROWS": "row_count",
     "SHAPE_UNIT": "shape_unit",
 }
-TOKEN = re.compile(r"(?<![\w'.-])(specs\.)?([A-Z][A-Z0-9_]*)(?![\w'-])")
+TOKEN = re.compile(r"--[^\n]*\"[^\n]*|(?<![\w'.-])(specs\.)?([A-Z][A-Z0-9_]*)(?![\w'-])")
 
 
 def turn(text, names):
-    return TOKEN.sub(lambda m: (m.group(1) or "") + (NEW[m.group(2)] if m.group(2) in NEW and (m.group(1) or m.group(2) in names) else m.group(2)), text)
+    """(what a comment quotes of a paper stays)"""
+    return TOKEN.sub(lambda m: m.group(0) if not m.group(2) else (m.group(1) or "") + (NEW[m.group(2)] if m.group(2) in NEW and (m.group(1) or m.group(2) in names) else m.group(2)), text)
 
 
 def turn_source(text):
     names = set()
     for uses in re.findall(r"^ghost use [^;{]*specs\.[^;{]*\.\{([^}]*)\};", text, re.M):
         names |= {n.strip() for n in uses.split(",")}
-    out, clause = [], False
+    out, opened = [], 0
     for line in text.split("\n"):
-        start = re.match(r"\s*(requires|ensures|ghost)\b", line)
-        if start or clause:
-            body = turn(line, names)
-            clause = body.count("{") > body.count("}") if start else clause and not re.search(r"\}\s*[;,]?$", line)
-            out.append(body)
-        else:
-            out.append(line)
+        if opened or re.match(r"\s*(requires|ensures|ghost)\b", line):
+            opened += line.count("{") - line.count("}")
+            line = turn(line, names)
+        out.append(line)
     return "\n".join(out)
 
 

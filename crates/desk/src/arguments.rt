@@ -1,4 +1,5 @@
 // Arguments of the command line that several commands take.
+use crate::console::{Console, argument, argument_count};
 use crate::fields::before;
 use crate::files::arg_space;
 use text::bytes::same_bytes;
@@ -9,18 +10,18 @@ pub fn is_party(arg: &[u8]) -> bool {
 }
 
 // Whether argument `i` is that word.
-fn is_word(word: &[u8], i: usize) -> bool {
+fn is_word(console: &Console, word: &[u8], i: usize) -> bool {
     let mut space = arg_space();
-    let n = os::arg(i, &mut space);
+    let n = argument(console, i, &mut space);
     same_bytes(&space[..n], word)
 }
 
 // Whether an argument from `from` on is that word.
-pub fn has_word(word: &[u8], from: usize) -> bool {
-    let count = os::arg_count();
+pub fn has_word(console: &Console, word: &[u8], from: usize) -> bool {
+    let count = argument_count(console);
     let mut i = from;
     while i < count {
-        if is_word(word, i) {
+        if is_word(console, word, i) {
             return true;
         }
         i += 1;

@@ -1,12 +1,16 @@
 // How a store is changed. The script `hub` holds the lock of the store's folder while a command that changes it runs.
 // The new store is written into STORE.new, the one that it takes the place of into STORE.old.new, and both are synced;
 // then STORE.old.new becomes STORE.old and STORE.new becomes STORE, by a rename each, and the folder is synced. A file
-// of those names that a broken-off hub left is removed first.
+// of those names that a broken-off hub left is removed first. Where the reader of an output has gone, nothing is changed.
 use crate::codes::{CodeParse, parse_code};
+use crate::console::{Console, argument, create_new, open_read, remove_file, rename};
 use crate::fields::first;
 use crate::files::arg_space;
 use crate::say::{DONE, TROUBLE, complain};
 use crate::shown::fail;
+use std::fs::{File, Permissions};
+use std::io::{Error, Result, Write};
+use std::os::unix::fs::{PermissionsExt, fchown};
 use text::bytes::{same_bytes, write_bytes};
 
 // The room for a path that is made of an argument.
@@ -39,22 +43,22 @@ pub fn not_held() -> Held {
     }
 }
 
-fn code_arg(i: usize) -> CodeParse {
+fn code_arg(console: &Console, i: usize) -> CodeParse {
     let mut space = arg_space();
-    let n = os::arg(i, &mut space);
+    let n = argument(console, i, &mut space);
     parse_code(&space[..n])
 }
 
 // What the arguments from `at` on say: `locked` or `unlocked`, then mode, owner and group in hexadecimal, or a hyphen
 // for each.
-pub fn held_from(at: usize) -> Held {
+pub fn held_from(console: &Console, at: usize) -> Held {
     let mut space = arg_space();
-    let n = os::arg(at, &mut space);
+    let n = argument(console, at, &mut space);
     let mut held = not_held();
     held.locked = same_bytes(&space[..n], b"locked");
-    let mode = code_arg(std::num::wrapping_add_usize(at, 1));
-    let owner = code_arg(std::num::wrapping_add_usize(at, 2));
-    let group = code_arg(std::num::wrapping_add_usize(at, 3));
+    let mode = code_arg(console, std::num::wrapping_add_usize(at, 1));
+    let owner = code_arg(console, std::num::wrapping_add_usize(at, 2));
+    let group = code_arg(console, std::num::wrapping_add_usize(at, 3));
     if let CodeParse::Parsed(m) = mode {
         if let CodeParse::Parsed(o) = owner {
             if let CodeParse::Parsed(g) = group {
@@ -69,9 +73,12 @@ pub fn held_from(at: usize) -> Held {
 }
 
 // Whether a command may change a store: only where the lock is held.
-pub fn may_change(held: Held) -> bool {
+pub fn may_change(console: &Console, held: Held) -> bool {
     if !held.locked {
-        complain(b"A store is changed by the script hub, which holds its lock.\n");
+        complain(
+            console,
+            b"A store is changed by the script hub, which holds its lock.\n",
+        );
     }
     held.locked
 }
@@ -87,70 +94,81 @@ fn named(store: &[u8], ending: &[u8]) -> Path {
     }
 }
 
-fn remove(store: &[u8], ending: &[u8]) {
+// What is not there needs no removal.
+fn remove(console: &Console, store: &[u8], ending: &[u8]) {
     let path = named(store, ending);
     let bytes = path.bytes;
-    os::unlink(first(&bytes, path.len));
+    let _ = remove_file(console, first(&bytes, path.len));
 }
 
-fn renamed(store: &[u8], from: &[u8], to: &[u8]) -> bool {
+fn renamed(console: &Console, store: &[u8], from: &[u8], to: &[u8]) -> Result<()> {
     let old = named(store, from);
     let old_bytes = old.bytes;
     let new = named(store, to);
     let new_bytes = new.bytes;
-    let moved = os::rename(first(&old_bytes, old.len), first(&new_bytes, new.len));
-    moved == 0
+    rename(
+        console,
+        first(&old_bytes, old.len),
+        first(&new_bytes, new.len),
+    )
 }
 
 // Owner, group and mode of the file; where the owner can't be given, the group.
-fn keep(fd: i32, held: Held) -> bool {
+fn keep(console: &Console, file: &File, held: Held) -> Result<()> {
     if !held.kept {
-        return true;
+        return Ok(());
     }
-    let owned = libc::fchown(fd, held.owner, held.group);
-    if owned < 0 {
-        complain(b"The store's owner can't be kept: the new store is yours.\n");
-        libc::fchown(fd, 4294967295, held.group);
+    let owned = fchown(file, Some(held.owner), Some(held.group));
+    if owned.is_err() {
+        complain(
+            console,
+            b"The store's owner can't be kept: the new store is yours.\n",
+        );
+        let _ = fchown(file, None, Some(held.group));
     }
-    let set = libc::fchmod(fd, held.mode);
-    set == 0
+    file.set_permissions(Permissions::from_mode(held.mode))
 }
 
-fn filled(fd: i32, held: Held, index: &[u8], text: &[u8]) -> bool {
-    if !keep(fd, held) {
-        return false;
-    }
-    if !io::write_all(fd, index) {
-        return false;
-    }
-    if !io::write_all(fd, text) {
-        return false;
-    }
-    let synced = libc::fsync(fd);
-    synced == 0
+fn fill(console: &Console, mut file: File, held: Held, index: &[u8], text: &[u8]) -> Result<()> {
+    keep(console, &file, held)?;
+    file.write_all(index)?;
+    file.write_all(text)?;
+    file.sync_all()
 }
 
 // Writes a store beside the store.
-fn written(store: &[u8], ending: &[u8], held: Held, index: &[u8], text: &[u8]) -> bool {
-    remove(store, ending);
+fn written(
+    console: &Console,
+    store: &[u8],
+    ending: &[u8],
+    held: Held,
+    index: &[u8],
+    text: &[u8],
+) -> Result<()> {
+    remove(console, store, ending);
     let path = named(store, ending);
     let bytes = path.bytes;
-    let fd = os::create(first(&bytes, path.len));
-    if fd < 0 {
-        return false;
-    }
-    let whole = filled(fd, held, index, text);
-    libc::close(fd);
-    whole
+    let file = create_new(console, first(&bytes, path.len))?;
+    fill(console, file, held, index, text)
 }
 
 // Says why the store could not be written, and leaves nothing beside it.
-fn unwritten(store: &[u8]) -> u8 {
-    fail(store);
-    complain(b"The new store could not be written; the store is as it was.\n");
-    remove(store, b".new");
-    remove(store, b".old.new");
+fn unwritten(console: &Console, store: &[u8], error: Error) -> u8 {
+    fail(console, store, error);
+    complain(
+        console,
+        b"The new store could not be written; the store is as it was.\n",
+    );
+    remove(console, store, b".new");
+    remove(console, store, b".old.new");
     TROUBLE
+}
+
+fn changed(console: &Console, store: &[u8], done: Result<()>) -> u8 {
+    match done {
+        Ok(()) => DONE,
+        Err(error) => unwritten(console, store, error),
+    }
 }
 
 // The length of the folder's path: up to the last slash.
@@ -166,42 +184,57 @@ fn folder_len(path: &[u8]) -> usize {
     len
 }
 
-fn sync(folder: &[u8]) {
-    let fd = os::open_read(folder);
-    if fd < 0 {
-        return;
-    }
-    libc::fsync(fd);
-    libc::close(fd);
+fn sync(console: &Console, folder: &[u8]) -> Result<()> {
+    open_read(console, folder)?.sync_all()
 }
 
-fn sync_folder(store: &[u8]) {
+// A folder that can't be synced is left to the system.
+fn sync_folder(console: &Console, store: &[u8]) {
     let len = folder_len(store);
     if len == 0 {
-        sync(b".");
+        let _ = sync(console, b".");
         return;
     }
-    sync(first(store, len));
+    let _ = sync(console, first(store, len));
 }
 
-fn placed(store: &[u8]) -> u8 {
-    if !renamed(store, b".new", b"") {
-        return unwritten(store);
-    }
-    sync_folder(store);
-    DONE
+fn place_new(console: &Console, store: &[u8]) -> Result<()> {
+    renamed(console, store, b".new", b"")?;
+    sync_folder(console, store);
+    Ok(())
+}
+
+fn place_all(console: &Console, store: &[u8], held: Held, index: &[u8], text: &[u8]) -> Result<()> {
+    written(console, store, b".new", held, index, text)?;
+    place_new(console, store)
 }
 
 // Puts a store where there is none.
-pub fn place(store: &[u8], held: Held, index: &[u8], text: &[u8]) -> u8 {
-    if !written(store, b".new", held, index, text) {
-        return unwritten(store);
+pub fn place(console: &Console, store: &[u8], held: Held, index: &[u8], text: &[u8]) -> u8 {
+    if console.is_closed() {
+        return TROUBLE;
     }
-    placed(store)
+    changed(console, store, place_all(console, store, held, index, text))
+}
+
+fn replace_all(
+    console: &Console,
+    store: &[u8],
+    held: Held,
+    former_index: &[u8],
+    former_text: &[u8],
+    index: &[u8],
+    text: &[u8],
+) -> Result<()> {
+    written(console, store, b".new", held, index, text)?;
+    written(console, store, b".old.new", held, former_index, former_text)?;
+    renamed(console, store, b".old.new", b".old")?;
+    place_new(console, store)
 }
 
 // Puts a store in the place of a former one, which is kept as STORE.old.
 pub fn replace(
+    console: &Console,
     store: &[u8],
     held: Held,
     former_index: &[u8],
@@ -214,21 +247,19 @@ pub fn replace(
             return DONE;
         }
     }
-    if !written(store, b".new", held, index, text) {
-        return unwritten(store);
+    if console.is_closed() {
+        return TROUBLE;
     }
-    if !written(store, b".old.new", held, former_index, former_text) {
-        return unwritten(store);
-    }
-    if !renamed(store, b".old.new", b".old") {
-        return unwritten(store);
-    }
-    placed(store)
+    changed(
+        console,
+        store,
+        replace_all(console, store, held, former_index, former_text, index, text),
+    )
 }
 
 // Reads STORE.old.
-pub fn load_old(store: &[u8], index: &mut [u8], text: &mut [u8]) -> u8 {
+pub fn load_old(console: &Console, store: &[u8], index: &mut [u8], text: &mut [u8]) -> u8 {
     let path = named(store, b".old");
     let bytes = path.bytes;
-    crate::files::load(first(&bytes, path.len), index, text)
+    crate::files::load(console, first(&bytes, path.len), index, text)
 }

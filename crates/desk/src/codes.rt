@@ -1,5 +1,6 @@
 // Codes on the command line: hexadecimal, a list with commas, a range with a hyphen. A code is its kind, 1 for buttons
 // and 3 for axes, and four digits.
+use crate::console::{Console, argument, argument_count};
 use crate::fields::{after, after_part, before, first, part_at};
 use crate::files::arg_space;
 use crate::say::{ERR, complain, put_code};
@@ -117,63 +118,77 @@ fn is_number(kind: u32, number: u32) -> bool {
     number < 0x40
 }
 
-fn complain_meant(spelling: &[u8], s: &[u8], kind: u32, number: u16) {
+fn complain_meant(console: &Console, spelling: &[u8], s: &[u8], kind: u32, number: u16) {
     if is_number(kind, number as u32) {
-        complain(spelling);
-        complain_shown(s);
-        complain(b" is ");
-        put_code(ERR, code_of(kind, number));
+        complain(console, spelling);
+        complain_shown(console, s);
+        complain(console, b" is ");
+        put_code(console, ERR, code_of(kind, number));
     }
 }
 
 // What a number without its kind would be, in decimal and in hexadecimal.
-fn complain_spellings(s: &[u8], code: u32, kind: u32) {
+fn complain_spellings(console: &Console, s: &[u8], code: u32, kind: u32) {
     let decimal = parse_u16(s);
     if let IndexParse::Parsed(n) = decimal {
-        complain_meant(b"; evtest's decimal ", s, kind, n);
+        complain_meant(console, b"; evtest's decimal ", s, kind, n);
     }
     if code < 10 {
         return;
     }
     if code < KIND_UNIT {
-        complain_meant(b"; hexadecimal ", digits_of(s), kind, code as u16);
+        complain_meant(console, b"; hexadecimal ", digits_of(s), kind, code as u16);
     }
 }
 
 // Turns away a code of another kind.
-pub fn complain_kind(s: &[u8], code: u32, kind: u32) {
-    complain_shown(s);
+pub fn complain_kind(console: &Console, s: &[u8], code: u32, kind: u32) {
+    complain_shown(console, s);
     if kind == KEY {
-        complain(b": no code of a button, which is 1 and four hexadecimal digits, as 10130");
+        complain(
+            console,
+            b": no code of a button, which is 1 and four hexadecimal digits, as 10130",
+        );
     } else {
-        complain(b": no code of an axis, which is 3 and four hexadecimal digits, as 30000");
+        complain(
+            console,
+            b": no code of an axis, which is 3 and four hexadecimal digits, as 30000",
+        );
     }
-    complain_spellings(s, code, kind);
-    complain(b"\n");
+    complain_spellings(console, s, code, kind);
+    complain(console, b"\n");
 }
 
 // The codes from one to another, both of the kind.
-fn with_ends(codes: Codes, low: &[u8], a: u32, high: &[u8], b: u32, kind: u32) -> Codes {
+fn with_ends(
+    console: &Console,
+    codes: Codes,
+    low: &[u8],
+    a: u32,
+    high: &[u8],
+    b: u32,
+    kind: u32,
+) -> Codes {
     if !is_of_kind(a, kind) {
-        complain_kind(low, a, kind);
+        complain_kind(console, low, a, kind);
         return with_bad(codes);
     }
     if !is_of_kind(b, kind) {
-        complain_kind(high, b, kind);
+        complain_kind(console, high, b, kind);
         return with_bad(codes);
     }
     if b < a {
-        complain_shown(low);
-        complain(b"-");
-        complain_shown(high);
-        complain(b": the range ends before it starts\n");
+        complain_shown(console, low);
+        complain(console, b"-");
+        complain_shown(console, high);
+        complain(console, b": the range ends before it starts\n");
         return with_bad(codes);
     }
     with_range(codes, a, b)
 }
 
 // `10130`, or `10130-1013e`
-fn with_part(codes: Codes, s: &[u8], kind: u32) -> Codes {
+fn with_part(console: &Console, codes: Codes, s: &[u8], kind: u32) -> Codes {
     let low = before(s, b'-');
     let mut high = after(s, b'-');
     if low.len() == s.len() {
@@ -183,46 +198,49 @@ fn with_part(codes: Codes, s: &[u8], kind: u32) -> Codes {
     let to = parse_code(high);
     if let CodeParse::Parsed(a) = from {
         if let CodeParse::Parsed(b) = to {
-            return with_ends(codes, low, a, high, b, kind);
+            return with_ends(console, codes, low, a, high, b, kind);
         }
     }
-    complain_shown(s);
-    complain(b": no code or range of codes; a code has 1 to 8 hexadecimal digits\n");
+    complain_shown(console, s);
+    complain(
+        console,
+        b": no code or range of codes; a code has 1 to 8 hexadecimal digits\n",
+    );
     with_bad(codes)
 }
 
-fn with_parts(codes: Codes, s: &[u8], kind: u32) -> Codes {
+fn with_parts(console: &Console, codes: Codes, s: &[u8], kind: u32) -> Codes {
     let mut next = codes;
     let mut at: usize = 0;
     while at < s.len() {
-        next = with_part(next, part_at(s, at, b','), kind);
+        next = with_part(console, next, part_at(s, at, b','), kind);
         at = after_part(s, at, b',');
     }
     next
 }
 
 // Argument `i` after the codes, where it is `KEY=CODES`.
-fn with_arg(codes: Codes, key: &[u8], kind: u32, i: usize) -> Codes {
+fn with_arg(console: &Console, codes: Codes, key: &[u8], kind: u32, i: usize) -> Codes {
     let mut space = arg_space();
-    let n = os::arg(i, &mut space);
+    let n = argument(console, i, &mut space);
     let pair = &space[..n];
     if same_bytes(before(pair, b'='), key) {
-        return with_parts(codes, after(pair, b'='), kind);
+        return with_parts(console, codes, after(pair, b'='), kind);
     }
     codes
 }
 
 // The codes of a kind that the arguments from `from` on give under a key, as `buttons`.
-pub fn codes_named(key: &[u8], kind: u32, from: usize) -> Codes {
+pub fn codes_named(console: &Console, key: &[u8], kind: u32, from: usize) -> Codes {
     let mut codes = Codes {
         list: [0u32; LONGEST],
         len: 0,
         bad: false,
     };
-    let count = os::arg_count();
+    let count = argument_count(console);
     let mut i = from;
     while i < count {
-        codes = with_arg(codes, key, kind, i);
+        codes = with_arg(console, codes, key, kind, i);
         i += 1;
     }
     codes

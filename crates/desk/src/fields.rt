@@ -94,7 +94,7 @@ pub fn nth_part(s: &[u8], n: usize, b: u8) -> &[u8] {
 }
 
 // A text without one `b` at its end.
-fn without(s: &[u8], b: u8) -> &[u8] {
+pub fn without(s: &[u8], b: u8) -> &[u8] {
     if s.len() == 0 {
         return s;
     }

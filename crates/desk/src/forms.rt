@@ -1,4 +1,5 @@
 // How the UUIDs of a list are spelled: consoles read only 32 digits.
+use crate::console::Console;
 use crate::fields::before;
 use crate::say::{say, say_number};
 use text::uuid::{Form, Uuid, UuidParse};
@@ -27,30 +28,30 @@ pub fn has_other_form(line: &[u8]) -> bool {
     }
 }
 
-fn say_spelled(words: &[u8]) {
-    say(b"the UUID is spelled ");
-    say(words);
-    say(b", not in 32 digits\n");
+fn say_spelled(console: &Console, words: &[u8]) {
+    say(console, b"the UUID is spelled ");
+    say(console, words);
+    say(console, b", not in 32 digits\n");
 }
 
 // Says which other form it is.
-pub fn say_form(line: &[u8]) {
+pub fn say_form(console: &Console, line: &[u8]) {
     let form = form_of(line);
     match form {
         Form::Simple => {}
-        Form::Hyphenated => say_spelled(b"with hyphens"),
-        Form::Braced => say_spelled(b"in braces"),
-        Form::Urn => say_spelled(b"after urn:uuid:"),
+        Form::Hyphenated => say_spelled(console, b"with hyphens"),
+        Form::Braced => say_spelled(console, b"in braces"),
+        Form::Urn => say_spelled(console, b"after urn:uuid:"),
         Form::Xinput => {}
     }
 }
 
 // How many lines were filed, or would be, in another form.
-pub fn say_other_forms(n: usize) {
+pub fn say_other_forms(console: &Console, n: usize) {
     if n == 0 {
         return;
     }
-    say(b"  ");
-    say_number(n);
-    say(b" with a UUID that is not spelled in 32 digits\n");
+    say(console, b"  ");
+    say_number(console, n);
+    say(console, b" with a UUID that is not spelled in 32 digits\n");
 }

@@ -1,11 +1,13 @@
 // Help, and what is said after a command that is none or has other arguments than it should.
+use crate::console::Console;
 use crate::manual::{put_filing, put_holding, put_mappings, put_others, put_sharing};
 use crate::say::{DONE, ERR, OUT, TROUBLE, complain, say};
 use crate::shown::complain_shown;
 use crate::suggest::{nothing_near, put_suggestion, with_names};
 
-pub fn help() -> u8 {
+pub fn help(console: &Console) -> u8 {
     say(
+        console,
         b"hub: mapping lines of game pads, in a hall's store file
 
   hub new STORE                  makes a fresh store file
@@ -36,31 +38,31 @@ where the output can't be written. Refusals and trouble go to standard error.
 }
 
 // `hub --version`
-pub fn version() -> u8 {
-    say(b"hub 0.1.0 (Raspteal)\n");
+pub fn version(console: &Console) -> u8 {
+    say(console, b"hub 0.1.0 (Raspteal)\n");
     DONE
 }
 
 // Whether a command of that name was found, and its help printed.
-fn put_help(fd: i32, command: &[u8]) -> bool {
-    if put_filing(fd, command) {
+fn put_help(console: &Console, fd: i32, command: &[u8]) -> bool {
+    if put_filing(console, fd, command) {
         return true;
     }
-    if put_holding(fd, command) {
+    if put_holding(console, fd, command) {
         return true;
     }
-    if put_sharing(fd, command) {
+    if put_sharing(console, fd, command) {
         return true;
     }
-    if put_mappings(fd, command) {
+    if put_mappings(console, fd, command) {
         return true;
     }
-    put_others(fd, command)
+    put_others(console, fd, command)
 }
 
-fn no_command(command: &[u8]) -> u8 {
-    complain_shown(command);
-    complain(b": no such command (hub help lists them)");
+fn no_command(console: &Console, command: &[u8]) -> u8 {
+    complain_shown(console, command);
+    complain(console, b": no such command (hub help lists them)");
     let near = with_names(
         nothing_near(),
         command,
@@ -81,24 +83,24 @@ default
 demo
 help",
     );
-    put_suggestion(ERR, near, command);
-    complain(b"\n");
+    put_suggestion(console, ERR, near, command);
+    complain(console, b"\n");
     TROUBLE
 }
 
 // `hub help COMMAND`
-pub fn help_on(command: &[u8]) -> u8 {
-    if put_help(OUT, command) {
+pub fn help_on(console: &Console, command: &[u8]) -> u8 {
+    if put_help(console, OUT, command) {
         return DONE;
     }
-    no_command(command)
+    no_command(console, command)
 }
 
 // After a command that is none, or has the wrong number of arguments.
-pub fn wrong_use(command: &[u8]) -> u8 {
-    if put_help(ERR, command) {
-        complain(b"The arguments are not as above.\n");
+pub fn wrong_use(console: &Console, command: &[u8]) -> u8 {
+    if put_help(console, ERR, command) {
+        complain(console, b"The arguments are not as above.\n");
         return TROUBLE;
     }
-    no_command(command)
+    no_command(console, command)
 }

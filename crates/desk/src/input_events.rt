@@ -2,6 +2,8 @@
 // 24 bytes a record. Its time in seconds (8 bytes) and microseconds (8); then type (2 bytes), code (2) and value (4,
 // signed), the low byte first. What is done with an event stands elsewhere.
 use crate::files::{Got, read_all};
+use std::fs::File;
+use std::io::Error;
 
 const RECORD: usize = 24;
 
@@ -21,7 +23,7 @@ pub enum NextInput {
     Is(Input),
     End,
     Cut(usize),
-    Failed,
+    Failed(Error),
 }
 
 // A number of two bytes.
@@ -70,9 +72,9 @@ pub fn is_before(a: Input, b: Input) -> bool {
 }
 
 // Reads one record.
-pub fn next_input(fd: i32) -> NextInput {
+pub fn next_input(file: &mut File) -> NextInput {
     let mut record = [0u8; RECORD];
-    let got = read_all(fd, &mut record);
+    let got = read_all(file, &mut record);
     match got {
         Got::Bytes(n) => {
             if n == RECORD {
@@ -83,6 +85,6 @@ pub fn next_input(fd: i32) -> NextInput {
             }
             NextInput::Cut(n)
         }
-        Got::Failed => NextInput::Failed,
+        Got::Failed(error) => NextInput::Failed(error),
     }
 }

@@ -4,6 +4,7 @@
 pub mod arguments;
 pub mod changing;
 pub mod codes;
+pub mod console;
 pub mod fields;
 pub mod files;
 pub mod forms;

@@ -1,9 +1,11 @@
 // What `hub help COMMAND` says. Each function answers whether the command is one of its own.
+use crate::console::Console;
 use crate::say::put;
 use text::bytes::same_bytes;
 
-fn put_insert(fd: i32) {
+fn put_insert(console: &Console, fd: i32) {
     put(
+        console,
         fd,
         b"hub insert STORE FILE [party=NUMBER]
   Files the lines of a list of at most 1048576 bytes; lines end at LF or CR LF. A line is
@@ -23,9 +25,10 @@ fn put_insert(fd: i32) {
 }
 
 // The commands that change a store, but for save.
-pub fn put_filing(fd: i32, command: &[u8]) -> bool {
+pub fn put_filing(console: &Console, fd: i32, command: &[u8]) -> bool {
     if same_bytes(command, b"new") {
         put(
+            console,
             fd,
             b"hub new STORE
   Makes a fresh store file, which holds no line: 131070 bytes, all 0.
@@ -35,11 +38,12 @@ pub fn put_filing(fd: i32, command: &[u8]) -> bool {
         return true;
     }
     if same_bytes(command, b"insert") {
-        put_insert(fd);
+        put_insert(console, fd);
         return true;
     }
     if same_bytes(command, b"clear") {
         put(
+            console,
             fd,
             b"hub clear STORE
   Empties the store, the hall's lines and the organisers', and drops the shares, whether it was
@@ -51,6 +55,7 @@ pub fn put_filing(fd: i32, command: &[u8]) -> bool {
     }
     if same_bytes(command, b"undo") {
         put(
+            console,
             fd,
             b"hub undo STORE
   Brings back the store as it was before the last command that changed it: each such command
@@ -64,9 +69,10 @@ pub fn put_filing(fd: i32, command: &[u8]) -> bool {
 }
 
 // The commands that look into a store.
-pub fn put_holding(fd: i32, command: &[u8]) -> bool {
+pub fn put_holding(console: &Console, fd: i32, command: &[u8]) -> bool {
     if same_bytes(command, b"find") {
         put(
+            console,
             fd,
             b"hub find STORE UUID [party=NUMBER]
   Prints the line held under that UUID, or says 'none'. A UUID has 32 hexadecimal digits, or
@@ -81,6 +87,7 @@ pub fn put_holding(fd: i32, command: &[u8]) -> bool {
     }
     if same_bytes(command, b"list") {
         put(
+            console,
             fd,
             b"hub list STORE
   Prints the lines held, in the order in which they were filed, and the room left, beside the
@@ -92,6 +99,7 @@ pub fn put_holding(fd: i32, command: &[u8]) -> bool {
     }
     if same_bytes(command, b"check") {
         put(
+            console,
             fd,
             b"hub check STORE
   Says that the store is sound, how many lines it holds and which room is left, and where a share
@@ -104,9 +112,10 @@ pub fn put_holding(fd: i32, command: &[u8]) -> bool {
 }
 
 // The commands on the parties' shares.
-pub fn put_sharing(fd: i32, command: &[u8]) -> bool {
+pub fn put_sharing(console: &Console, fd: i32, command: &[u8]) -> bool {
     if same_bytes(command, b"share") {
         put(
+            console,
             fd,
             b"hub share STORE PARTY BYTES
   Gives a party a share of the text, which others can't fill: PARTY is 'hall' or a league
@@ -122,6 +131,7 @@ pub fn put_sharing(fd: i32, command: &[u8]) -> bool {
     }
     if same_bytes(command, b"shares") {
         put(
+            console,
             fd,
             b"hub shares STORE
   Says of each party that has lines or a share how many bytes of the text it uses, its share, and
@@ -133,8 +143,9 @@ pub fn put_sharing(fd: i32, command: &[u8]) -> bool {
     false
 }
 
-fn put_save(fd: i32) {
+fn put_save(console: &Console, fd: i32) {
     put(
+        console,
         fd,
         b"hub save STORE UUID NAME buttons=CODES axes=CODES ELEMENT=CODE .. [party=NUMBER] [anyway]
   Builds a mapping line for the pad and files it; prints the line and its map, and where it
@@ -162,8 +173,9 @@ fn put_save(fd: i32) {
     );
 }
 
-fn put_test(fd: i32) {
+fn put_test(console: &Console, fd: i32) {
     put(
+        console,
         fd,
         b"hub test STORE UUID buttons=CODES axes=CODES [party=NUMBER] from=FILE [after=N:UUID ..]
          [with=FILE [uuid2=UUID] [buttons2=CODES] [axes2=CODES] [after2=N:UUID ..]]
@@ -196,13 +208,14 @@ fn put_test(fd: i32) {
 }
 
 // The commands on mappings.
-pub fn put_mappings(fd: i32, command: &[u8]) -> bool {
+pub fn put_mappings(console: &Console, fd: i32, command: &[u8]) -> bool {
     if same_bytes(command, b"save") {
-        put_save(fd);
+        put_save(console, fd);
         return true;
     }
     if same_bytes(command, b"show") {
         put(
+            console,
             fd,
             b"hub show STORE UUID buttons=CODES axes=CODES [party=NUMBER]
   Reads the line held under that UUID with the pad's codes, and prints it with its map: each
@@ -215,11 +228,12 @@ pub fn put_mappings(fd: i32, command: &[u8]) -> bool {
         return true;
     }
     if same_bytes(command, b"test") {
-        put_test(fd);
+        put_test(console, fd);
         return true;
     }
     if same_bytes(command, b"default") {
         put(
+            console,
             fd,
             b"hub default buttons=CODES axes=CODES
   Prints the map that a pad with these codes gets where no line is held for it.
@@ -234,9 +248,10 @@ hub default layout [--csv]
 }
 
 // The commands that need no store.
-pub fn put_others(fd: i32, command: &[u8]) -> bool {
+pub fn put_others(console: &Console, fd: i32, command: &[u8]) -> bool {
     if same_bytes(command, b"lint") {
         put(
+            console,
             fd,
             b"hub lint FILE
   Reads every line of a list of at most 1048576 bytes, and shows each refused one, up to 1000,
@@ -251,6 +266,7 @@ pub fn put_others(fd: i32, command: &[u8]) -> bool {
     }
     if same_bytes(command, b"demo") {
         put(
+            console,
             fd,
             b"hub demo
   Shows the main job on a small list: a fresh store, insert, save, find, read back. The
@@ -261,6 +277,7 @@ pub fn put_others(fd: i32, command: &[u8]) -> bool {
     }
     if same_bytes(command, b"help") {
         put(
+            console,
             fd,
             b"hub help [COMMAND]
   Lists the commands, or says more about one; so do 'hub --help' and 'hub COMMAND --help'.

@@ -1,8 +1,10 @@
 // Texts that others wrote, on the screen: no control byte reaches the terminal. Where a text has any, each is written
 // as \x and two digits; a text that is not UTF-8 has none of its bytes over 127 left. Under a mark each byte takes one
 // column.
+use crate::console::{Console, write_error};
 use crate::fields::first;
 use crate::say::{ERR, OUT, put, put_hex_byte};
+use std::io::Error;
 use text::utf8::is_utf8;
 
 // The most columns before a mark.
@@ -51,46 +53,46 @@ fn has_controls(s: &[u8], utf8: bool) -> bool {
     false
 }
 
-fn put_byte(fd: i32, s: &[u8], i: usize, utf8: bool) {
+fn put_byte(console: &Console, fd: i32, s: &[u8], i: usize, utf8: bool) {
     let b = byte_at(s, i);
     if is_control(s, i, utf8) {
-        put(fd, b"\\x");
-        put_hex_byte(fd, b);
+        put(console, fd, b"\\x");
+        put_hex_byte(console, fd, b);
         return;
     }
     let byte = [b];
-    put(fd, &byte);
+    put(console, fd, &byte);
 }
 
-fn put_bytes(fd: i32, s: &[u8], utf8: bool) {
+fn put_bytes(console: &Console, fd: i32, s: &[u8], utf8: bool) {
     let mut i: usize = 0;
     while i < s.len() {
-        put_byte(fd, s, i, utf8);
+        put_byte(console, fd, s, i, utf8);
         i += 1;
     }
 }
 
-pub fn put_shown(fd: i32, s: &[u8]) {
+pub fn put_shown(console: &Console, fd: i32, s: &[u8]) {
     let utf8 = is_utf8(s);
     if has_controls(s, utf8) {
-        put_bytes(fd, s, utf8);
+        put_bytes(console, fd, s, utf8);
         return;
     }
-    put(fd, s);
+    put(console, fd, s);
 }
 
-pub fn say_shown(s: &[u8]) {
-    put_shown(OUT, s);
+pub fn say_shown(console: &Console, s: &[u8]) {
+    put_shown(console, OUT, s);
 }
 
-pub fn complain_shown(s: &[u8]) {
-    put_shown(ERR, s);
+pub fn complain_shown(console: &Console, s: &[u8]) {
+    put_shown(console, ERR, s);
 }
 
 // Says what failed, and why, by the system's words.
-pub fn fail(what: &[u8]) {
-    complain_shown(what);
-    os::fail(b"");
+pub fn fail(console: &Console, what: &[u8], error: Error) {
+    complain_shown(console, what);
+    write_error(console, error);
 }
 
 // Whether a byte takes one column.
@@ -101,13 +103,13 @@ fn is_plain(b: u8) -> bool {
     b <= b'~'
 }
 
-fn put_column(fd: i32, b: u8) {
+fn put_column(console: &Console, fd: i32, b: u8) {
     if is_plain(b) {
         let byte = [b];
-        put(fd, &byte);
+        put(console, fd, &byte);
         return;
     }
-    put(fd, b".");
+    put(console, fd, b".");
 }
 
 fn is_all_plain(s: &[u8]) -> bool {
@@ -121,25 +123,25 @@ fn is_all_plain(s: &[u8]) -> bool {
     true
 }
 
-fn put_columns(fd: i32, s: &[u8]) {
+fn put_columns(console: &Console, fd: i32, s: &[u8]) {
     let mut i: usize = 0;
     while i < s.len() {
-        put_column(fd, s[i]);
+        put_column(console, fd, s[i]);
         i += 1;
     }
 }
 
 // A text in which each byte takes one column: one that is no printable ASCII is a dot.
-pub fn put_plain(fd: i32, s: &[u8]) {
+pub fn put_plain(console: &Console, fd: i32, s: &[u8]) {
     if is_all_plain(s) {
-        put(fd, s);
+        put(console, fd, s);
         return;
     }
-    put_columns(fd, s);
+    put_columns(console, fd, s);
 }
 
 // That many columns of space.
-pub fn put_space(fd: i32, n: usize) {
+pub fn put_space(console: &Console, fd: i32, n: usize) {
     let columns = [b' '; COLUMNS];
-    put(fd, first(&columns, n));
+    put(console, fd, first(&columns, n));
 }

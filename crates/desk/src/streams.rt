@@ -1,17 +1,17 @@
 // Recordings that are open, one or two, taken record by record in the order of their times. Each keeps its own order,
 // also where its times go backwards.
+use crate::console::{Console, open_read};
 use crate::fields::{after, before};
 use crate::input_events::{Input, NextInput, is_before, next_input};
 use crate::say::{DONE, ERR, TROUBLE, complain, put_number};
 use crate::shown::{complain_shown, fail};
+use std::fs::File;
+use std::io::Error;
 
-// The descriptor of no file.
-const NO_FILE: i32 = -1;
-
-// A recording: where it is read, and its next record.
-#[derive(Clone, Copy)]
+// A recording: where it is read, if it is open, and its next record.
+#[derive(Drop)]
 pub struct Stream {
-    pub fd: i32,
+    pub file: Option<File>,
     pub next: NextInput,
 }
 
@@ -26,54 +26,56 @@ pub enum Turn {
 // No recording.
 pub fn no_stream() -> Stream {
     Stream {
-        fd: NO_FILE,
+        file: None,
         next: NextInput::End,
     }
 }
 
 // The recording that an argument names; what can't be opened is said.
-pub fn open_stream(arg: &[u8]) -> Stream {
+pub fn open_stream(console: &Console, arg: &[u8]) -> Stream {
     let path = after(arg, b'=');
     if path.len() == 0 {
-        complain_shown(before(arg, b'='));
-        complain(b"=: no file is named\n");
+        complain_shown(console, before(arg, b'='));
+        complain(console, b"=: no file is named\n");
         return no_stream();
     }
-    let fd = os::open_read(path);
-    if fd < 0 {
-        fail(path);
-        return no_stream();
-    }
-    Stream {
-        fd,
-        next: NextInput::End,
+    match open_read(console, path) {
+        Ok(file) => Stream {
+            file: Some(file),
+            next: NextInput::End,
+        },
+        Err(error) => {
+            fail(console, path, error);
+            no_stream()
+        }
     }
 }
 
-pub fn is_open(stream: Stream) -> bool {
-    0 <= stream.fd
-}
-
-pub fn close_stream(stream: Stream) {
-    if 0 <= stream.fd {
-        libc::close(stream.fd);
-    }
+pub fn is_open(stream: &Stream) -> bool {
+    stream.file.is_some()
 }
 
 // The recording at its next record.
 pub fn moved(stream: Stream) -> Stream {
-    let fd = stream.fd;
-    if fd < 0 {
-        return stream;
+    let Stream { file, next } = stream;
+    match file {
+        Some(file) => read_on(file),
+        None => Stream { file: None, next },
     }
-    let next = next_input(fd);
-    Stream { fd, next }
 }
 
-fn has_failed(stream: Stream) -> bool {
+fn read_on(mut file: File) -> Stream {
+    let next = next_input(&mut file);
+    Stream {
+        file: Some(file),
+        next,
+    }
+}
+
+fn has_failed(stream: &Stream) -> bool {
     let next = stream.next;
     match next {
-        NextInput::Failed => true,
+        NextInput::Failed(_) => true,
         _ => false,
     }
 }
@@ -100,7 +102,7 @@ fn earlier(a: Input, second: NextInput) -> Turn {
 }
 
 // Whose record comes next; it is over where one can't be read on.
-pub fn turn_of(first: Stream, second: Stream) -> Turn {
+pub fn turn_of(first: &Stream, second: &Stream) -> Turn {
     if has_failed(first) {
         return Turn::Over;
     }
@@ -115,26 +117,29 @@ pub fn turn_of(first: Stream, second: Stream) -> Turn {
     }
 }
 
-fn complain_cut(path: &[u8], left: usize) -> u8 {
-    complain_shown(path);
-    complain(b": a record has 24 bytes, and the last one only ");
-    put_number(ERR, left);
-    complain(b"; such a file is no whole recording of input events\n");
+fn complain_cut(console: &Console, path: &[u8], left: usize) -> u8 {
+    complain_shown(console, path);
+    complain(console, b": a record has 24 bytes, and the last one only ");
+    put_number(console, ERR, left);
+    complain(
+        console,
+        b"; such a file is no whole recording of input events\n",
+    );
     TROUBLE
 }
 
-fn complain_failed(path: &[u8]) -> u8 {
-    fail(path);
+fn complain_failed(console: &Console, path: &[u8], error: Error) -> u8 {
+    fail(console, path, error);
     TROUBLE
 }
 
 // Says where the recording that an argument names ends inside a record, or can't be read on.
-pub fn end_status(stream: Stream, arg: &[u8]) -> u8 {
+pub fn end_status(console: &Console, stream: &Stream, arg: &[u8]) -> u8 {
     let path = after(arg, b'=');
     let next = stream.next;
     match next {
-        NextInput::Cut(left) => complain_cut(path, left),
-        NextInput::Failed => complain_failed(path),
+        NextInput::Cut(left) => complain_cut(console, path, left),
+        NextInput::Failed(error) => complain_failed(console, path, error),
         _ => DONE,
     }
 }

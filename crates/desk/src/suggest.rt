@@ -1,5 +1,6 @@
 // The nearest of some names to one that is none of them. How far two names are apart: what is left of the longer one
 // without their common start and their common end, capital letters or not.
+use crate::console::Console;
 use crate::fields::{after_part, first, less, part_at};
 use crate::say::put;
 use text::bytes::write_bytes;
@@ -112,7 +113,7 @@ pub fn with_names(near: Near, key: &[u8], names: &[u8]) -> Near {
 }
 
 // A name with nothing in common is no suggestion.
-pub fn put_suggestion(fd: i32, near: Near, key: &[u8]) {
+pub fn put_suggestion(console: &Console, fd: i32, near: Near, key: &[u8]) {
     if key.len() <= near.apart {
         return;
     }
@@ -120,7 +121,7 @@ pub fn put_suggestion(fd: i32, near: Near, key: &[u8]) {
         return;
     }
     let name = near.name;
-    put(fd, b"; did you mean '");
-    put(fd, first(&name, near.len));
-    put(fd, b"'?");
+    put(console, fd, b"; did you mean '");
+    put(console, fd, first(&name, near.len));
+    put(console, fd, b"'?");
 }

@@ -1,4 +1,5 @@
 // What became of the records of a recording, counted.
+use crate::console::Console;
 use crate::say::{DONE, REFUSED, say, say_number};
 use std::num::wrapping_add_usize;
 
@@ -43,45 +44,61 @@ fn sum(a: usize, b: usize, c: usize, d: usize) -> usize {
     wrapping_add_usize(wrapping_add_usize(a, b), wrapping_add_usize(c, d))
 }
 
-fn say_count(n: usize, words: &[u8]) {
+fn say_count(console: &Console, n: usize, words: &[u8]) {
     if n == 0 {
         return;
     }
-    say(b"  ");
-    say_number(n);
-    say(words);
-    say(b"\n");
+    say(console, b"  ");
+    say_number(console, n);
+    say(console, words);
+    say(console, b"\n");
 }
 
 // How many events the changes of map told.
-fn say_changes(tally: Tally) {
+fn say_changes(console: &Console, tally: Tally) {
     if tally.changes == 0 {
         return;
     }
-    say_number(tally.changed);
-    say(b" events more at ");
-    say_number(tally.changes);
-    say(b" changes of map\n");
+    say_number(console, tally.changed);
+    say(console, b" events more at ");
+    say_number(console, tally.changes);
+    say(console, b" changes of map\n");
 }
 
 // What became of the records.
-pub fn say_tally(tally: Tally) {
+pub fn say_tally(console: &Console, tally: Tally) {
     let held = sum(tally.unmapped, tally.valueless, tally.kept, tally.left_out);
     let other = sum(tally.repeats, tally.beyond, tally.refused, 0);
-    say_number(tally.told);
-    say(b" events told, ");
-    say_number(wrapping_add_usize(held, other));
-    say(b" without one, ");
-    say_number(tally.others);
-    say(b" records of other kinds skipped\n");
-    say_count(tally.unmapped, b" of codes that are not in the map");
-    say_count(tally.valueless, b" of values that the line gives none");
-    say_count(tally.kept, b" of elements that keep their value");
-    say_count(tally.left_out, b" of elements that are left out");
-    say_count(tally.repeats, b" of buttons that repeat");
-    say_count(tally.beyond, b" of values that no button or axis has");
-    say_count(tally.refused, b" of codes over the 256 that a pad holds");
-    say_changes(tally);
+    say_number(console, tally.told);
+    say(console, b" events told, ");
+    say_number(console, wrapping_add_usize(held, other));
+    say(console, b" without one, ");
+    say_number(console, tally.others);
+    say(console, b" records of other kinds skipped\n");
+    say_count(
+        console,
+        tally.unmapped,
+        b" of codes that are not in the map",
+    );
+    say_count(
+        console,
+        tally.valueless,
+        b" of values that the line gives none",
+    );
+    say_count(console, tally.kept, b" of elements that keep their value");
+    say_count(console, tally.left_out, b" of elements that are left out");
+    say_count(console, tally.repeats, b" of buttons that repeat");
+    say_count(
+        console,
+        tally.beyond,
+        b" of values that no button or axis has",
+    );
+    say_count(
+        console,
+        tally.refused,
+        b" of codes over the 256 that a pad holds",
+    );
+    say_changes(console, tally);
 }
 
 // Refused where a value is one that no button or axis has, and where a pad has too many codes.

@@ -1,15 +1,17 @@
 // Refusals in words: document 01's number, what it means, and what it is about. bindings/declared holds these words to those of
 // the header and of the Rust crate.
+use crate::console::Console;
 use crate::fields::nth_part;
 use crate::say::{ERR, REFUSED, complain, put, put_code, put_number};
 use crate::shown::complain_shown;
 
 // `refused 21: no room in the index`
-pub fn put_refused(fd: i32, number: usize) {
-    put(fd, b"refused ");
-    put_number(fd, number);
-    put(fd, b": ");
+pub fn put_refused(console: &Console, fd: i32, number: usize) {
+    put(console, fd, b"refused ");
+    put_number(console, fd, number);
+    put(console, fd, b": ");
     put(
+        console,
         fd,
         nth_part(
             b"\nthe first field is no UUID
@@ -45,47 +47,51 @@ more than 256 codes held by a pad",
     );
 }
 
-pub fn put_place(fd: i32, place: usize) {
-    put(fd, b" (place ");
-    put_number(fd, place);
-    put(fd, b")\n");
+pub fn put_place(console: &Console, fd: i32, place: usize) {
+    put(console, fd, b" (place ");
+    put_number(console, fd, place);
+    put(console, fd, b")\n");
 }
 
-pub fn refused(number: usize) -> u8 {
-    put_refused(ERR, number);
-    complain(b"\n");
+pub fn refused(console: &Console, number: usize) -> u8 {
+    put_refused(console, ERR, number);
+    complain(console, b"\n");
     if number == 24 {
         complain(
+            console,
             b"  name an organiser, party=1 to party=255, or leave party= out: then it is the hall's line\n",
         );
     }
     REFUSED
 }
 
-pub fn refused_at(number: usize, place: usize) -> u8 {
-    put_refused(ERR, number);
-    put_place(ERR, place);
+pub fn refused_at(console: &Console, number: usize, place: usize) -> u8 {
+    put_refused(console, ERR, number);
+    put_place(console, ERR, place);
     REFUSED
 }
 
-pub fn refused_code(number: usize, code: u32) -> u8 {
-    put_refused(ERR, number);
-    complain(b" (code ");
-    put_code(ERR, code);
-    complain(b")\n");
+pub fn refused_code(console: &Console, number: usize, code: u32) -> u8 {
+    put_refused(console, ERR, number);
+    complain(console, b" (code ");
+    put_code(console, ERR, code);
+    complain(console, b")\n");
     REFUSED
 }
 
-pub fn refused_file(path: &[u8]) -> u8 {
-    put_refused(ERR, 19);
-    complain(b" (");
-    complain_shown(path);
-    complain(b" has not the 131070 bytes of a store file, and is left alone)\n");
+pub fn refused_file(console: &Console, path: &[u8]) -> u8 {
+    put_refused(console, ERR, 19);
+    complain(console, b" (");
+    complain_shown(console, path);
+    complain(
+        console,
+        b" has not the 131070 bytes of a store file, and is left alone)\n",
+    );
     REFUSED
 }
 
 // Nothing was found.
-pub fn none() -> u8 {
-    complain(b"none\n");
+pub fn none(console: &Console) -> u8 {
+    complain(console, b"none\n");
     REFUSED
 }

@@ -1,6 +1,7 @@
 // Which elements are bound: by the pairs of a line, or by slots. What a line in place of another no longer binds, and
 // which code is given to two elements.
 use crate::elements::{ELEMENTS, element_at, place_of, put_element};
+use desk::console::Console;
 use desk::say::{OUT, say};
 use line::ev::{AxisOrBtn, Code};
 use line::parser::tokens::token_at;
@@ -97,36 +98,36 @@ fn is_lost(former: Bound, now: Bound, k: usize) -> bool {
 }
 
 // Names the element at `k` if it is no longer bound, after others or as the first; whether one was named.
-fn say_if_lost(former: Bound, now: Bound, k: usize, named: bool) -> bool {
+fn say_if_lost(console: &Console, former: Bound, now: Bound, k: usize, named: bool) -> bool {
     if !is_lost(former, now, k) {
         return named;
     }
     if named {
-        say(b", ");
+        say(console, b", ");
     } else {
-        say(b"no longer bound: ");
+        say(console, b"no longer bound: ");
     }
-    put_element(OUT, element_at(k));
+    put_element(console, OUT, element_at(k));
     true
 }
 
-fn say_end(named: bool) {
+fn say_end(console: &Console, named: bool) {
     if named {
-        say(b"\n");
+        say(console, b"\n");
     }
 }
 
 // Names the elements that one line binds, and the line in its place does not.
-pub fn say_lost(former: &[u8], line: &[u8]) {
+pub fn say_lost(console: &Console, former: &[u8], line: &[u8]) {
     let had = bound_by(former);
     let has = bound_by(line);
     let mut named = false;
     let mut k: usize = 0;
     while k < ELEMENTS {
-        named = say_if_lost(had, has, k, named);
+        named = say_if_lost(console, had, has, k, named);
         k += 1;
     }
-    say_end(named);
+    say_end(console, named);
 }
 
 fn slot_code(slots: MappingData, k: usize) -> SlotCode {

@@ -1,4 +1,5 @@
 // Elements by name: the SDL idents, which the library's tables hold, and the source's names.
+use desk::console::Console;
 use desk::fields::{after_part, first, less, nth_part, part_at};
 use desk::say::{OUT, put, say};
 use desk::shown::put_space;
@@ -139,54 +140,54 @@ fn with_idents(near: Near, key: &[u8]) -> Near {
 }
 
 // The nearest ident to a key of a line.
-pub fn put_nearest_ident(fd: i32, key: &[u8]) {
-    put_suggestion(fd, with_idents(nothing_near(), key), key);
+pub fn put_nearest_ident(console: &Console, fd: i32, key: &[u8]) {
+    put_suggestion(console, fd, with_idents(nothing_near(), key), key);
 }
 
 // The nearest ident or name.
-pub fn put_nearest_element(fd: i32, key: &[u8]) {
+pub fn put_nearest_element(console: &Console, fd: i32, key: &[u8]) {
     let idents = with_idents(nothing_near(), key);
     let buttons = with_names(idents, key, &BUTTON_NAMES);
-    put_suggestion(fd, with_names(buttons, key, &AXIS_NAMES), key);
+    put_suggestion(console, fd, with_names(buttons, key, &AXIS_NAMES), key);
 }
 
 // `a`, or the source's name where an element has no ident.
-pub fn put_ident(fd: i32, e: AxisOrBtn) {
+pub fn put_ident(console: &Console, fd: i32, e: AxisOrBtn) {
     let ident = ident_of(e);
     let name = ident.name;
     if ident.len == 0 {
-        put_name(fd, e);
+        put_name(console, fd, e);
         return;
     }
-    put(fd, first(&name, ident.len));
+    put(console, fd, first(&name, ident.len));
 }
 
-fn put_name(fd: i32, e: AxisOrBtn) {
+fn put_name(console: &Console, fd: i32, e: AxisOrBtn) {
     match e {
         AxisOrBtn::Btn(b) => {
-            put(fd, nth_part(&BUTTON_NAMES, b.0 as usize, b'\n'));
+            put(console, fd, nth_part(&BUTTON_NAMES, b.0 as usize, b'\n'));
         }
         AxisOrBtn::Axis(a) => {
-            put(fd, nth_part(&AXIS_NAMES, a.0 as usize, b'\n'));
+            put(console, fd, nth_part(&AXIS_NAMES, a.0 as usize, b'\n'));
         }
     }
 }
 
 // A button's name, with space up to that width.
-pub fn say_button(b: Button, width: usize) {
+pub fn say_button(console: &Console, b: Button, width: usize) {
     let name = nth_part(&BUTTON_NAMES, b.0 as usize, b'\n');
-    say(name);
-    put_space(OUT, less(width, name.len()));
+    say(console, name);
+    put_space(console, OUT, less(width, name.len()));
 }
 
 // `South (a)`
-pub fn put_element(fd: i32, e: AxisOrBtn) {
-    put_name(fd, e);
+pub fn put_element(console: &Console, fd: i32, e: AxisOrBtn) {
+    put_name(console, fd, e);
     let ident = ident_of(e);
     let name = ident.name;
     if 0 < ident.len {
-        put(fd, b" (");
-        put(fd, first(&name, ident.len));
-        put(fd, b")");
+        put(console, fd, b" (");
+        put(console, fd, first(&name, ident.len));
+        put(console, fd, b")");
     }
 }

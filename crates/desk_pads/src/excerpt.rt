@@ -1,6 +1,7 @@
 // A refused line: its number and meaning, what it is about, and the line itself about the place, with a mark under it.
 // UUID and name are shown, then the pair to its end; two dots stand where the line is cut.
 use crate::elements::put_nearest_ident;
+use desk::console::Console;
 use desk::fields::{after, after_part, before, first, less, part_at, section};
 use desk::say::{REFUSED, put};
 use desk::shown::{put_plain, put_shown, put_space};
@@ -85,24 +86,25 @@ fn gap(cut: Cut) -> usize {
     0
 }
 
-fn put_excerpt(fd: i32, line: &[u8], place: usize) {
+fn put_excerpt(console: &Console, fd: i32, line: &[u8], place: usize) {
     let cut = cut_about(line, place);
-    put(fd, b"  ");
-    put_plain(fd, first(line, cut.head));
-    put(fd, first(b"..", gap(cut)));
-    put_plain(fd, section(line, cut.from, less(cut.to, cut.from)));
+    put(console, fd, b"  ");
+    put_plain(console, fd, first(line, cut.head));
+    put(console, fd, first(b"..", gap(cut)));
+    put_plain(console, fd, section(line, cut.from, less(cut.to, cut.from)));
     if cut.to < line.len() {
-        put(fd, b"..");
+        put(console, fd, b"..");
     }
-    put(fd, b"\n  ");
+    put(console, fd, b"\n  ");
     put_space(
+        console,
         fd,
         wrapping_add_usize(
             wrapping_add_usize(cut.head, gap(cut)),
             less(place, cut.from),
         ),
     );
-    put(fd, b"^\n");
+    put(console, fd, b"^\n");
 }
 
 // A key without the sign of its half.
@@ -117,15 +119,15 @@ fn unsigned(key: &[u8]) -> &[u8] {
 }
 
 // A text, with dots where it is cut.
-pub fn put_start(fd: i32, s: &[u8]) {
-    put_shown(fd, first(s, HEAD));
+pub fn put_start(console: &Console, fd: i32, s: &[u8]) {
+    put_shown(console, fd, first(s, HEAD));
     if HEAD < s.len() {
-        put(fd, b"..");
+        put(console, fd, b"..");
     }
 }
 
 // What the refusals of a pair are about: 4 and 7 its value, 5 and 6 its key.
-fn put_cause(fd: i32, number: usize, line: &[u8], place: usize) {
+fn put_cause(console: &Console, fd: i32, number: usize, line: &[u8], place: usize) {
     if number < 4 {
         return;
     }
@@ -134,29 +136,29 @@ fn put_cause(fd: i32, number: usize, line: &[u8], place: usize) {
     }
     let pair = part_at(line, field_start(line, place), b',');
     let key = before(pair, b':');
-    put(fd, b": '");
+    put(console, fd, b": '");
     if number == 4 {
-        put_start(fd, after(pair, b':'));
+        put_start(console, fd, after(pair, b':'));
     } else if number == 7 {
-        put_start(fd, after(pair, b':'));
+        put_start(console, fd, after(pair, b':'));
     } else {
-        put_start(fd, key);
+        put_start(console, fd, key);
     }
-    put(fd, b"'");
+    put(console, fd, b"'");
     if number == 5 {
-        put_nearest_ident(fd, unsigned(key));
+        put_nearest_ident(console, fd, unsigned(key));
     }
     if number == 6 {
-        put_nearest_ident(fd, unsigned(key));
+        put_nearest_ident(console, fd, unsigned(key));
     }
 }
 
 // The refusal of a line at a place.
-fn marked(fd: i32, number: usize, place: usize, line: &[u8]) -> u8 {
-    put_refused(fd, number);
-    put_cause(fd, number, line, place);
-    put_place(fd, place);
-    put_excerpt(fd, line, place);
+fn marked(console: &Console, fd: i32, number: usize, place: usize, line: &[u8]) -> u8 {
+    put_refused(console, fd, number);
+    put_cause(console, fd, number, line, place);
+    put_place(console, fd, place);
+    put_excerpt(console, fd, line, place);
     REFUSED
 }
 
@@ -213,27 +215,27 @@ fn bad_hat_place(line: &[u8]) -> usize {
 }
 
 // A refused reading.
-pub fn put_reading_refused(fd: i32, e: ParseSdlMappingError, line: &[u8]) -> u8 {
+pub fn put_reading_refused(console: &Console, fd: i32, e: ParseSdlMappingError, line: &[u8]) -> u8 {
     if let ParseSdlMappingError::UnknownHatDirection = e {
-        return marked(fd, 7, bad_hat_place(line), line);
+        return marked(console, fd, 7, bad_hat_place(line), line);
     }
-    put_refusal(fd, e.refusal(), line)
+    put_refusal(console, fd, e.refusal(), line)
 }
 
 // A refusal of the first field, which stands at place 0.
-pub fn put_first_refused(fd: i32, e: Error, line: &[u8]) -> u8 {
-    put_refusal(fd, e.refusal(), line)
+pub fn put_first_refused(console: &Console, fd: i32, e: Error, line: &[u8]) -> u8 {
+    put_refusal(console, fd, e.refusal(), line)
 }
 
 // A refusal of a line; 12 is about a list and has no place.
-fn put_refusal(fd: i32, refusal: Refusal, line: &[u8]) -> u8 {
+fn put_refusal(console: &Console, fd: i32, refusal: Refusal, line: &[u8]) -> u8 {
     let number = refusal.number as usize;
     let place = refusal.place;
     match place {
-        Place::At(p) => marked(fd, number, p, line),
+        Place::At(p) => marked(console, fd, number, p, line),
         Place::NoPlace => {
-            put_refused(fd, number);
-            put(fd, b"\n");
+            put_refused(console, fd, number);
+            put(console, fd, b"\n");
             REFUSED
         }
     }

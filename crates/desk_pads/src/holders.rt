@@ -1,6 +1,7 @@
 // What holds an element at its value: a code of the pad, or the pad beside it.
 use crate::playing::{Play, pad_of, say_beside, seat_of};
 use crate::values::{AxisValue, axis_value, distance};
+use desk::console::Console;
 use desk::say::{OUT, put_code, say};
 use line::ev::{AxisOrBtn, Code};
 use line::mapping::Mapping;
@@ -77,11 +78,15 @@ fn holder(pad: Pad, map: Mapping, element: AxisOrBtn, value: i16) -> u32 {
 }
 
 // `code 30005`
-fn say_holder(play: Play, which: Which, element: AxisOrBtn, value: i16) {
+fn say_holder(console: &Console, play: Play, which: Which, element: AxisOrBtn, value: i16) {
     let seat = seat_of(play, which);
     let map = seat.map;
-    say(b"code ");
-    put_code(OUT, holder(pad_of(play, which), map, element, value));
+    say(console, b"code ");
+    put_code(
+        console,
+        OUT,
+        holder(pad_of(play, which), map, element, value),
+    );
 }
 
 // Whether the pad itself has an element at that value.
@@ -91,32 +96,42 @@ fn is_own(play: Play, which: Which, element: AxisOrBtn, value: i16) -> bool {
 }
 
 // `, held by code 30005`, `, held by pad 2`: nothing for an element at 0.
-pub fn say_held_by(play: Play, which: Which, element: AxisOrBtn, value: i16) {
+pub fn say_held_by(console: &Console, play: Play, which: Which, element: AxisOrBtn, value: i16) {
     if value == 0 {
         return;
     }
-    say(b", held by ");
+    say(console, b", held by ");
     if is_own(play, which, element, value) {
-        say_holder(play, which, element, value);
+        say_holder(console, play, which, element, value);
     } else {
-        say_beside(which);
+        say_beside(console, which);
     }
 }
 
 // Why an element does not take a value from a code, where it has another one.
-pub fn say_reason(play: Play, which: Which, element: AxisOrBtn, value: i16, given: i16) {
+pub fn say_reason(
+    console: &Console,
+    play: Play,
+    which: Which,
+    element: AxisOrBtn,
+    value: i16,
+    given: i16,
+) {
     let near = distance(given) < distance(value);
     let own = is_own(play, which, element, value);
     if own {
-        say_holder(play, which, element, value);
+        say_holder(console, play, which, element, value);
     } else {
-        say_beside(which);
+        say_beside(console, which);
     }
     if near {
-        say(b" holds it farther from zero");
+        say(console, b" holds it farther from zero");
     } else if own {
-        say(b" holds it as far from zero, and is the smaller code");
+        say(
+            console,
+            b" holds it as far from zero, and is the smaller code",
+        );
     } else {
-        say(b" holds it as far from zero, and is the first pad");
+        say(console, b" holds it as far from zero, and is the first pad");
     }
 }

@@ -1,6 +1,7 @@
 // The pads of one player while recordings are told: their states and the map of each, and what was counted.
 use crate::elements::{ELEMENTS, element_at, put_element};
 use crate::values::put_value;
+use desk::console::Console;
 use desk::say::{OUT, say, say_number};
 use desk::tally::{Tally, nothing_told};
 use line::ev::AxisOrBtn;
@@ -89,78 +90,78 @@ pub fn pad_of(play: Play, which: Which) -> Pad {
 }
 
 // `pad 1`
-pub fn say_which(which: Which) {
+pub fn say_which(console: &Console, which: Which) {
     match which {
-        Which::First => say(b"pad 1"),
-        Which::Second => say(b"pad 2"),
+        Which::First => say(console, b"pad 1"),
+        Which::Second => say(console, b"pad 2"),
     }
 }
 
 // `pad 2`, for the first one.
-pub fn say_beside(which: Which) {
+pub fn say_beside(console: &Console, which: Which) {
     match which {
-        Which::First => say(b"pad 2"),
-        Which::Second => say(b"pad 1"),
+        Which::First => say(console, b"pad 2"),
+        Which::Second => say(console, b"pad 1"),
     }
 }
 
 // Whose line it is, where there are two pads.
-pub fn say_pad(play: Play, which: Which) {
+pub fn say_pad(console: &Console, play: Play, which: Which) {
     if play.two {
-        say_which(which);
-        say(b": ");
+        say_which(console, which);
+        say(console, b": ");
     }
 }
 
 // `South (a) 32767`
-pub fn say_element(element: AxisOrBtn, value: i16) {
-    put_element(OUT, element);
-    say(b" ");
-    put_value(OUT, value);
+pub fn say_element(console: &Console, element: AxisOrBtn, value: i16) {
+    put_element(console, OUT, element);
+    say(console, b" ");
+    put_value(console, OUT, value);
 }
 
 // Prints an element that is not at 0; whether all up to it are.
-fn say_moved(pads: Pads, element: AxisOrBtn, at_rest: bool) -> bool {
+fn say_moved(console: &Console, pads: Pads, element: AxisOrBtn, at_rest: bool) -> bool {
     let value = pads.value(element);
     if value == 0 {
         return at_rest;
     }
-    say(b"  ");
-    say_element(element, value);
-    say(b"\n");
+    say(console, b"  ");
+    say_element(console, element, value);
+    say(console, b"\n");
     false
 }
 
-fn say_rest(at_rest: bool) {
+fn say_rest(console: &Console, at_rest: bool) {
     if at_rest {
-        say(b"  every element is at 0\n");
+        say(console, b"  every element is at 0\n");
     }
 }
 
 // The elements that are not at 0.
-fn say_values(pads: Pads) {
+fn say_values(console: &Console, pads: Pads) {
     let mut at_rest = true;
     let mut k: usize = 0;
     while k < ELEMENTS {
-        at_rest = say_moved(pads, element_at(k), at_rest);
+        at_rest = say_moved(console, pads, element_at(k), at_rest);
         k += 1;
     }
-    say_rest(at_rest);
+    say_rest(console, at_rest);
 }
 
 // How many codes are held, and the values of the elements.
-pub fn say_end(play: Play) {
+pub fn say_end(console: &Console, play: Play) {
     let pads = play.pads;
     let first = pads.first;
     let second = pads.second;
-    say(b"at the end, with ");
-    say_number(first.count);
-    say(b" codes held");
+    say(console, b"at the end, with ");
+    say_number(console, first.count);
+    say(console, b" codes held");
     if play.two {
-        say(b" by pad 1 and ");
-        say_number(second.count);
-        say(b" by pad 2");
+        say(console, b" by pad 1 and ");
+        say_number(console, second.count);
+        say(console, b" by pad 2");
     }
-    say(b":\n");
-    say_values(pads);
+    say(console, b":\n");
+    say_values(console, pads);
 }

@@ -2,6 +2,7 @@
 use crate::elements::{element_named, put_nearest_element};
 use desk::arguments::is_party;
 use desk::codes::{ABS, CodeParse, KEY, complain_kind, is_of_kind, parse_code};
+use desk::console::{Console, argument, argument_count};
 use desk::fields::{after, before};
 use desk::files::arg_space;
 use desk::say::{ERR, complain};
@@ -25,11 +26,11 @@ fn with_bad(slots: Slots) -> Slots {
     next
 }
 
-fn with_changed(slots: Slots, pair: &[u8], changed: Changed) -> Slots {
+fn with_changed(console: &Console, slots: Slots, pair: &[u8], changed: Changed) -> Slots {
     let former = changed.former;
     if former.is_some() {
-        complain_shown(pair);
-        complain(b": the element is given twice\n");
+        complain_shown(console, pair);
+        complain(console, b": the element is given twice\n");
         return with_bad(slots);
     }
     let filled = changed.slots;
@@ -40,11 +41,11 @@ fn with_changed(slots: Slots, pair: &[u8], changed: Changed) -> Slots {
     }
 }
 
-fn with_element(slots: Slots, pair: &[u8], e: AxisOrBtn, code: u32) -> Slots {
+fn with_element(console: &Console, slots: Slots, pair: &[u8], e: AxisOrBtn, code: u32) -> Slots {
     let filled = slots.filled;
     match e {
-        AxisOrBtn::Btn(b) => with_changed(slots, pair, filled.insert_btn(Code(code), b)),
-        AxisOrBtn::Axis(a) => with_changed(slots, pair, filled.insert_axis(Code(code), a)),
+        AxisOrBtn::Btn(b) => with_changed(console, slots, pair, filled.insert_btn(Code(code), b)),
+        AxisOrBtn::Axis(a) => with_changed(console, slots, pair, filled.insert_axis(Code(code), a)),
     }
 }
 
@@ -57,27 +58,27 @@ pub fn kind_of(e: AxisOrBtn) -> u32 {
 }
 
 // A code is of one of the two kinds; whether it is in the element's list is the library's to say.
-fn with_kind(slots: Slots, pair: &[u8], e: AxisOrBtn, code: u32) -> Slots {
+fn with_kind(console: &Console, slots: Slots, pair: &[u8], e: AxisOrBtn, code: u32) -> Slots {
     if is_of_kind(code, KEY) {
-        return with_element(slots, pair, e, code);
+        return with_element(console, slots, pair, e, code);
     }
     if is_of_kind(code, ABS) {
-        return with_element(slots, pair, e, code);
+        return with_element(console, slots, pair, e, code);
     }
-    complain_kind(after(pair, b'='), code, kind_of(e));
+    complain_kind(console, after(pair, b'='), code, kind_of(e));
     with_bad(slots)
 }
 
-fn with_code(slots: Slots, pair: &[u8], code: u32) -> Slots {
+fn with_code(console: &Console, slots: Slots, pair: &[u8], code: u32) -> Slots {
     let key = before(pair, b'=');
     let element = element_named(key);
     match element {
-        KeyElement::Is(e) => with_kind(slots, pair, e, code),
+        KeyElement::Is(e) => with_kind(console, slots, pair, e, code),
         KeyElement::Missing => {
-            complain_shown(pair);
-            complain(b": no element has this name");
-            put_nearest_element(ERR, key);
-            complain(b"\n");
+            complain_shown(console, pair);
+            complain(console, b": no element has this name");
+            put_nearest_element(console, ERR, key);
+            complain(console, b"\n");
             with_bad(slots)
         }
     }
@@ -99,38 +100,41 @@ fn is_no_pair(arg: &[u8]) -> bool {
 }
 
 // `a=10130`
-fn with_pair(slots: Slots, pair: &[u8]) -> Slots {
+fn with_pair(console: &Console, slots: Slots, pair: &[u8]) -> Slots {
     if is_no_pair(pair) {
         return slots;
     }
     let code = parse_code(after(pair, b'='));
     match code {
-        CodeParse::Parsed(c) => with_code(slots, pair, c),
+        CodeParse::Parsed(c) => with_code(console, slots, pair, c),
         CodeParse::Invalid => {
-            complain_shown(pair);
-            complain(b": not of the form ELEMENT=CODE; a code has 1 to 8 hexadecimal digits\n");
+            complain_shown(console, pair);
+            complain(
+                console,
+                b": not of the form ELEMENT=CODE; a code has 1 to 8 hexadecimal digits\n",
+            );
             with_bad(slots)
         }
     }
 }
 
-fn with_arg(slots: Slots, i: usize) -> Slots {
+fn with_arg(console: &Console, slots: Slots, i: usize) -> Slots {
     let mut space = arg_space();
-    let n = os::arg(i, &mut space);
-    with_pair(slots, &space[..n])
+    let n = argument(console, i, &mut space);
+    with_pair(console, slots, &space[..n])
 }
 
 // The slots that the arguments from `from` on fill.
-pub fn slots_named(from: usize) -> Slots {
+pub fn slots_named(console: &Console, from: usize) -> Slots {
     let mut slots = Slots {
         filled: MappingData::new(),
         given: 0,
         bad: false,
     };
-    let count = os::arg_count();
+    let count = argument_count(console);
     let mut i = from;
     while i < count {
-        slots = with_arg(slots, i);
+        slots = with_arg(console, slots, i);
         i += 1;
     }
     slots

@@ -1,6 +1,7 @@
 // Values of axes and elements, from -32768 to 32767: made of the four bytes of an input event, and printed.
 ghost use Rattle.std.specs.Prelude.{◌<◌};
 
+use desk::console::Console;
 use desk::say::{put, put_number};
 
 // A value of an axis, if it is within.
@@ -41,16 +42,16 @@ pub fn axis_value(value: u32) -> AxisValue {
 }
 
 // Four bytes in two's complement, in decimal.
-pub fn put_signed(fd: i32, value: u32) {
+pub fn put_signed(console: &Console, fd: i32, value: u32) {
     if value < 0x80000000 {
-        put_number(fd, value as usize);
+        put_number(console, fd, value as usize);
         return;
     }
-    put(fd, b"-");
-    put_number(fd, std::num::wrapping_sub_u32(0, value) as usize);
+    put(console, fd, b"-");
+    put_number(console, fd, std::num::wrapping_sub_u32(0, value) as usize);
 }
 
 // A value, in decimal.
-pub fn put_value(fd: i32, v: i16) {
-    put_signed(fd, std::num::wrapping_sub_u32(biased(v), 32768));
+pub fn put_value(console: &Console, fd: i32, v: i16) {
+    put_signed(console, fd, std::num::wrapping_sub_u32(biased(v), 32768));
 }

@@ -1,5 +1,6 @@
 // The map of a line that is held, read with a pad's codes.
 use desk::codes::{Codes, first_codes};
+use desk::console::Console;
 use desk::near::complain_near;
 use desk::say::{DONE, ERR, complain};
 use desk::shown::complain_shown;
@@ -32,47 +33,55 @@ pub fn read_with(line: &[u8], lists: Lists) -> SdlMapping {
 }
 
 // The argument that a complaint is about; nothing where it is the command's own UUID.
-fn complain_about(arg: &[u8]) {
+fn complain_about(console: &Console, arg: &[u8]) {
     if 0 < arg.len() {
-        complain_shown(arg);
-        complain(b": ");
+        complain_shown(console, arg);
+        complain(console, b": ");
     }
 }
 
 // Whether a party holds a line for a UUID: what is not exact is said.
-pub fn held_status(index: &[u8], text: &[u8], party: Party, id: Uuid, arg: &[u8]) -> u8 {
+pub fn held_status(
+    console: &Console,
+    index: &[u8],
+    text: &[u8],
+    party: Party,
+    id: Uuid,
+    arg: &[u8],
+) -> u8 {
     let look = found_near(index, text, party, id);
     match look {
         NearLook::Exact => DONE,
         NearLook::Near => {
-            complain_about(arg);
-            complain_near(id);
+            complain_about(console, arg);
+            complain_near(console, id);
             DONE
         }
         NearLook::Missing => {
-            complain_about(arg);
-            none()
+            complain_about(console, arg);
+            none(console)
         }
-        NearLook::Unsound => refused_outcome(look.outcome()),
-        NearLook::NoOwner => refused_outcome(look.outcome()),
+        NearLook::Unsound => refused_outcome(console, look.outcome()),
+        NearLook::NoOwner => refused_outcome(console, look.outcome()),
     }
 }
 
 // Whether a line is accepted: what is refused is said.
-pub fn reading_status(line: &[u8], lists: Lists, arg: &[u8]) -> u8 {
+pub fn reading_status(console: &Console, line: &[u8], lists: Lists, arg: &[u8]) -> u8 {
     let reading = read_with(line, lists);
     let answer = reading.answer;
     match answer {
         SdlAnswer::Accepted => DONE,
         SdlAnswer::Refused(e) => {
-            complain_about(arg);
-            put_reading_refused(ERR, e, line)
+            complain_about(console, arg);
+            put_reading_refused(console, ERR, e, line)
         }
     }
 }
 
 // Whether a party holds a line for a UUID, and it is accepted.
 pub fn map_status(
+    console: &Console,
     index: &[u8],
     text: &[u8],
     party: Party,
@@ -80,9 +89,9 @@ pub fn map_status(
     lists: Lists,
     arg: &[u8],
 ) -> u8 {
-    let status = held_status(index, text, party, id, arg);
+    let status = held_status(console, index, text, party, id, arg);
     if status != DONE {
         return status;
     }
-    reading_status(get_near(index, text, party, id), lists, arg)
+    reading_status(console, get_near(index, text, party, id), lists, arg)
 }

@@ -1,6 +1,7 @@
 // The commands that look into a store: find, list, check.
 use crate::parties::{Caller, OWNED_RECORD, RECORD, SHARE_RECORD, caller_named};
 use crate::shares::{claims_in, put_sum};
+use desk::console::Console;
 use desk::fields::{less, section};
 use desk::files::{HALF, half, load};
 use desk::help::wrong_use;
@@ -43,62 +44,65 @@ pub struct Room {
     pub index: usize,
 }
 
-pub fn no_uuid(key: &[u8]) -> u8 {
-    complain_shown(key);
-    complain(b": no UUID; it has 32 hexadecimal digits, or 36 characters with hyphens\n");
+pub fn no_uuid(console: &Console, key: &[u8]) -> u8 {
+    complain_shown(console, key);
+    complain(
+        console,
+        b": no UUID; it has 32 hexadecimal digits, or 36 characters with hyphens\n",
+    );
     TROUBLE
 }
 
-fn say_shown_line(line: &[u8]) -> u8 {
-    say_shown(line);
-    say(b"\n");
+fn say_shown_line(console: &Console, line: &[u8]) -> u8 {
+    say_shown(console, line);
+    say(console, b"\n");
     DONE
 }
 
 // Prints the line that a party holds under a UUID, or else under that without its checksum.
-pub fn say_line(index: &[u8], text: &[u8], party: Party, id: Uuid) -> u8 {
+pub fn say_line(console: &Console, index: &[u8], text: &[u8], party: Party, id: Uuid) -> u8 {
     let look = found_near(index, text, party, id);
     match look {
-        NearLook::Exact => say_shown_line(get_near(index, text, party, id)),
+        NearLook::Exact => say_shown_line(console, get_near(index, text, party, id)),
         NearLook::Near => {
-            complain_near(id);
-            say_shown_line(get_near(index, text, party, id))
+            complain_near(console, id);
+            say_shown_line(console, get_near(index, text, party, id))
         }
-        NearLook::Missing => none(),
-        NearLook::Unsound => refused_outcome(look.outcome()),
-        NearLook::NoOwner => refused_outcome(look.outcome()),
+        NearLook::Missing => none(console),
+        NearLook::Unsound => refused_outcome(console, look.outcome()),
+        NearLook::NoOwner => refused_outcome(console, look.outcome()),
     }
 }
 
-fn find_held(store: &[u8], party: Party, id: Uuid) -> u8 {
+fn find_held(console: &Console, store: &[u8], party: Party, id: Uuid) -> u8 {
     let mut index = half();
     let mut text = half();
-    let status = load(store, &mut index, &mut text);
+    let status = load(console, store, &mut index, &mut text);
     if status != DONE {
         return status;
     }
-    say_line(&index, &text, party, id)
+    say_line(console, &index, &text, party, id)
 }
 
-fn find_asked(store: &[u8], key: &[u8], caller: Caller) -> u8 {
+fn find_asked(console: &Console, store: &[u8], key: &[u8], caller: Caller) -> u8 {
     let party = caller.party;
     let parsed = Uuid::parse_str(key);
     match parsed {
-        UuidParse::Parsed(spelled) => find_held(store, party, spelled.id),
-        UuidParse::Invalid => no_uuid(key),
+        UuidParse::Parsed(spelled) => find_held(console, store, party, spelled.id),
+        UuidParse::Invalid => no_uuid(console, key),
     }
 }
 
 // `hub find STORE UUID ..`; the party stands from argument `from` on.
-pub fn find_line(store: &[u8], key: &[u8], from: usize) -> u8 {
-    let caller = caller_named(from);
+pub fn find_line(console: &Console, store: &[u8], key: &[u8], from: usize) -> u8 {
+    let caller = caller_named(console, from);
     if caller.others != 0 {
-        return wrong_use(b"find");
+        return wrong_use(console, b"find");
     }
     if caller.bad {
         return TROUBLE;
     }
-    find_asked(store, key, caller)
+    find_asked(console, store, key, caller)
 }
 
 fn word(high: u8, low: u8) -> usize {
@@ -172,20 +176,20 @@ fn record_at(index: &[u8], at: usize) -> Record {
 }
 
 // A line, after its party where that is an organiser.
-fn say_owned(owner: u8, line: &[u8]) {
+fn say_owned(console: &Console, owner: u8, line: &[u8]) {
     if owner != 0 {
-        say(b"party ");
-        say_number(owner as usize);
-        say(b": ");
+        say(console, b"party ");
+        say_number(console, owner as usize);
+        say(console, b": ");
     }
-    say_shown(line);
-    say(b"\n");
+    say_shown(console, line);
+    say(console, b"\n");
 }
 
 // Prints the line of a record, if it has one.
-fn say_record(record: Record, line: &[u8]) {
+fn say_record(console: &Console, record: Record, line: &[u8]) {
     if record.line {
-        say_owned(record.owner, line);
+        say_owned(console, record.owner, line);
     }
 }
 
@@ -206,7 +210,7 @@ fn with_record(seen: Extent, record: Record) -> Extent {
 }
 
 // Goes through the records of a sound store; `shown`: prints each line.
-fn held(index: &[u8], text: &[u8], shown: bool) -> Extent {
+fn held(console: &Console, index: &[u8], text: &[u8], shown: bool) -> Extent {
     let mut seen = Extent {
         shares: 0,
         lines: 0,
@@ -222,7 +226,7 @@ fn held(index: &[u8], text: &[u8], shown: bool) -> Extent {
             return seen;
         }
         if shown {
-            say_record(record, section(text, seen.bytes, record.len));
+            say_record(console, record, section(text, seen.bytes, record.len));
         }
         seen = with_record(seen, record);
         if index.len() - at < size {
@@ -241,72 +245,72 @@ fn room_beside(held: Extent) -> Room {
 }
 
 // The room of a sound store.
-pub fn room_in(index: &[u8], text: &[u8]) -> Room {
-    room_beside(held(index, text, false))
+pub fn room_in(console: &Console, index: &[u8], text: &[u8]) -> Room {
+    room_beside(held(console, index, text, false))
 }
 
 // The room for lines: the hall's, and an organiser's where one holds any.
-fn say_line_room(owned: usize, room: Room) {
-    say_number(room.index / RECORD);
-    say(b" more lines");
+fn say_line_room(console: &Console, owned: usize, room: Room) {
+    say_number(console, room.index / RECORD);
+    say(console, b" more lines");
     if owned != 0 {
-        say(b" of the hall or ");
-        say_number(room.index / OWNED_RECORD);
-        say(b" of an organiser");
+        say(console, b" of the hall or ");
+        say_number(console, room.index / OWNED_RECORD);
+        say(console, b" of an organiser");
     }
 }
 
 // The lines held and the room left, of the text that many bytes.
-fn say_held(held: Extent, left: usize) {
+fn say_held(console: &Console, held: Extent, left: usize) {
     let room = room_beside(held);
     let owned = held.owned;
-    say_number(held.lines);
-    say(b" lines held, ");
+    say_number(console, held.lines);
+    say(console, b" lines held, ");
     if owned != 0 {
-        say_number(owned);
-        say(b" of them organisers', ");
+        say_number(console, owned);
+        say(console, b" of them organisers', ");
     }
-    say(b"of ");
-    say_number(held.bytes);
-    say(b" bytes; room for ");
-    say_line_room(owned, room);
-    say(b" and ");
-    say_number(left);
-    say(b" more bytes");
+    say(console, b"of ");
+    say_number(console, held.bytes);
+    say(console, b" bytes; room for ");
+    say_line_room(console, owned, room);
+    say(console, b" and ");
+    say_number(console, left);
+    say(console, b" more bytes");
 }
 
 // The same, and where a share is set what the parties claim.
-fn say_extent(held: Extent, index: &[u8], text: &[u8]) {
+fn say_extent(console: &Console, held: Extent, index: &[u8], text: &[u8]) {
     if held.shares == 0 {
-        say_held(held, less(HALF, held.bytes));
-        say(b"\n");
+        say_held(console, held, less(HALF, held.bytes));
+        say(console, b"\n");
         return;
     }
-    let claims = claims_in(index, text);
-    say_held(held, less(HALF, claims.bytes));
-    say(b" beside the parties' shares\n");
-    put_sum(OUT, claims);
+    let claims = claims_in(console, index, text);
+    say_held(console, held, less(HALF, claims.bytes));
+    say(console, b" beside the parties' shares\n");
+    put_sum(console, OUT, claims);
 }
 
-pub fn say_store(index: &[u8], text: &[u8], shown: bool) -> u8 {
+pub fn say_store(console: &Console, index: &[u8], text: &[u8], shown: bool) -> u8 {
     let looked = found(index, text, Party::Hall, Uuid::NIL).outcome();
     if let LookOutcome::CannotLook(refusal) = looked {
-        return refused_by(refusal);
+        return refused_by(console, refusal);
     }
     if !shown {
-        say(b"sound: ");
+        say(console, b"sound: ");
     }
-    say_extent(held(index, text, shown), index, text);
+    say_extent(console, held(console, index, text, shown), index, text);
     DONE
 }
 
 // `hub list STORE` where the lines are shown, `hub check STORE` where not.
-pub fn list_store(store: &[u8], shown: bool) -> u8 {
+pub fn list_store(console: &Console, store: &[u8], shown: bool) -> u8 {
     let mut index = half();
     let mut text = half();
-    let status = load(store, &mut index, &mut text);
+    let status = load(console, store, &mut index, &mut text);
     if status != DONE {
         return status;
     }
-    say_store(&index, &text, shown)
+    say_store(console, &index, &text, shown)
 }

@@ -4,6 +4,7 @@ use crate::holding::room_in;
 use crate::parties::{caller_named, record_of};
 use crate::shares::{complain_claims, free_for};
 use desk::changing::{Held, may_change, replace};
+use desk::console::Console;
 use desk::fields::{bare, before, first, less, line_at};
 use desk::files::{List, half, list_space, load, read_list};
 use desk::forms::say_other_forms;
@@ -19,49 +20,52 @@ use store::parties::Party;
 use text::uuid::{Uuid, UuidParse};
 
 // A line of the report, where there is something to report.
-fn say_some(n: usize, words: &[u8]) {
+fn say_some(console: &Console, n: usize, words: &[u8]) {
     if n == 0 {
         return;
     }
-    say(b"  ");
-    say_number(n);
-    say(words);
+    say(console, b"  ");
+    say_number(console, n);
+    say(console, words);
 }
 
-fn say_no_uuid(census: Census, list: &[u8]) {
+fn say_no_uuid(console: &Console, census: Census, list: &[u8]) {
     say_some(
+        console,
         census.no_uuid,
         b" whose first field is no UUID; the first is line ",
     );
     if census.no_uuid == 0 {
         return;
     }
-    say_number(census.first_number);
-    say(b": ");
-    put_start(OUT, bare(line_at(list, census.first_at)));
-    say(b"\n");
+    say_number(console, census.first_number);
+    say(console, b": ");
+    put_start(console, OUT, bare(line_at(list, census.first_at)));
+    say(console, b"\n");
 }
 
 // What became of the lines walked; `fresh`: how many more lines are held than before.
-fn say_census(census: Census, list: &[u8], count: usize, fresh: usize) {
-    say_number(count);
-    say(b" lines walked, ");
-    say_number(census.wanted);
-    say(b" filed, ");
-    say_number(less(count, census.wanted));
-    say(b" passed over\n");
+fn say_census(console: &Console, census: Census, list: &[u8], count: usize, fresh: usize) {
+    say_number(console, count);
+    say(console, b" lines walked, ");
+    say_number(console, census.wanted);
+    say(console, b" filed, ");
+    say_number(console, less(count, census.wanted));
+    say(console, b" passed over\n");
     say_some(
+        console,
         less(census.wanted, fresh),
         b" of those filed took the place of another line\n",
     );
     say_some(
+        console,
         census.unreadable,
         b" of those filed can't be read: hub lint FILE says why\n",
     );
-    say_some(census.empty, b" empty\n");
-    say_some(census.comments, b" comments\n");
-    say_some(census.elsewhere, b" for other platforms\n");
-    say_no_uuid(census, list);
+    say_some(console, census.empty, b" empty\n");
+    say_some(console, census.comments, b" comments\n");
+    say_some(console, census.elsewhere, b" for other platforms\n");
+    say_no_uuid(console, census, list);
 }
 
 // The bytes of the party's line that one with the same UUID takes the place of.
@@ -93,6 +97,7 @@ fn is_full(number: usize) -> bool {
 // How many bytes a party's line wants, what is free for it, who claims the text where shares are set, and what can be
 // done. It takes the place of a line of `freed` bytes.
 pub fn complain_full(
+    console: &Console,
     number: usize,
     wanted: usize,
     freed: usize,
@@ -100,16 +105,21 @@ pub fn complain_full(
     index: &[u8],
     text: &[u8],
 ) {
-    put_number(ERR, wanted);
-    complain(b" bytes wanted; ");
-    put_number(ERR, free_for(index, text, party, freed));
-    complain(b" bytes free, and room for ");
-    put_number(ERR, lines_in(room_in(index, text).index, party));
-    complain(b" more lines\n");
+    put_number(console, ERR, wanted);
+    complain(console, b" bytes wanted; ");
+    put_number(console, ERR, free_for(console, index, text, party, freed));
+    complain(console, b" bytes free, and room for ");
+    put_number(
+        console,
+        ERR,
+        lines_in(room_in(console, index, text).index, party),
+    );
+    complain(console, b" more lines\n");
     if number == 25 {
-        complain_claims(index, text);
+        complain_claims(console, index, text);
     }
     complain(
+        console,
         b"  what can be done: insert a list of only the pads that the hall has, into a fresh store (hub new);
   or keep a second store; or clear this one (hub clear) and insert what is needed. hub list shows what
   is held.\n",
@@ -117,18 +127,23 @@ pub fn complain_full(
 }
 
 // Which line stopped an insert, and how many were not reached.
-fn complain_stop(number: usize, list: &[u8], count: usize, line: &[u8]) {
-    put_refused(ERR, number);
-    complain(b"\n  line ");
-    put_number(ERR, wrapping_add_usize(count, 1));
-    complain(b" stopped the insert: ");
-    put_start(ERR, line);
-    complain(b"\n  the lines before it are kept; ");
-    put_number(ERR, less(count_lines(list), wrapping_add_usize(count, 1)));
-    complain(b" lines after it were not reached\n  ");
+fn complain_stop(console: &Console, number: usize, list: &[u8], count: usize, line: &[u8]) {
+    put_refused(console, ERR, number);
+    complain(console, b"\n  line ");
+    put_number(console, ERR, wrapping_add_usize(count, 1));
+    complain(console, b" stopped the insert: ");
+    put_start(console, ERR, line);
+    complain(console, b"\n  the lines before it are kept; ");
+    put_number(
+        console,
+        ERR,
+        less(count_lines(list), wrapping_add_usize(count, 1)),
+    );
+    complain(console, b" lines after it were not reached\n  ");
 }
 
 fn stopped(
+    console: &Console,
     number: usize,
     list: &[u8],
     count: usize,
@@ -137,34 +152,52 @@ fn stopped(
     party: Party,
 ) -> u8 {
     let line = bare(line_at(list, place_of_line(list, count)));
-    complain_stop(number, list, count, line);
+    complain_stop(console, number, list, count, line);
     if is_full(number) {
         let freed = bytes_freed(index, text, party, line);
-        complain_full(number, line.len(), freed, party, index, text);
+        complain_full(console, number, line.len(), freed, party, index, text);
         return REFUSED;
     }
-    complain(b"it has ");
-    put_number(ERR, line.len());
-    complain(b" bytes; take it out of the list, or shorten it\n");
+    complain(console, b"it has ");
+    put_number(console, ERR, line.len());
+    complain(console, b" bytes; take it out of the list, or shorten it\n");
     REFUSED
 }
 
-fn say_filed(inserted: Inserted, list: &[u8], held: usize, index: &[u8], text: &[u8]) {
+fn say_filed(
+    console: &Console,
+    inserted: Inserted,
+    list: &[u8],
+    held: usize,
+    index: &[u8],
+    text: &[u8],
+) {
     let count = inserted.count;
-    let room = room_in(index, text);
-    say_census(census_of(list, count), list, count, less(room.held, held));
-    say_other_forms(inserted.not_simple);
+    let room = room_in(console, index, text);
+    say_census(
+        console,
+        census_of(list, count),
+        list,
+        count,
+        less(room.held, held),
+    );
+    say_other_forms(console, inserted.not_simple);
 }
 
 // An insert of a text that is not UTF-8 from a place on.
-fn complain_text(list: &[u8], place: usize) {
-    complain(b"  line ");
-    put_number(ERR, count_lines(first(list, wrapping_add_usize(place, 1))));
-    complain(b" of the list has it; nothing is filed\n");
+fn complain_text(console: &Console, list: &[u8], place: usize) {
+    complain(console, b"  line ");
+    put_number(
+        console,
+        ERR,
+        count_lines(first(list, wrapping_add_usize(place, 1))),
+    );
+    complain(console, b" of the list has it; nothing is filed\n");
 }
 
 // An insert that was refused; a line that stopped it leaves those before it filed.
 fn insert_refused(
+    console: &Console,
     inserted: Inserted,
     refusal: Refusal,
     list: &[u8],
@@ -176,8 +209,9 @@ fn insert_refused(
     let answer = inserted.answer;
     let place = refusal.place;
     if has_filed(answer) {
-        say_filed(inserted, list, held, index, text);
+        say_filed(console, inserted, list, held, index, text);
         return stopped(
+            console,
             refusal.number as usize,
             list,
             inserted.count,
@@ -186,15 +220,16 @@ fn insert_refused(
             party,
         );
     }
-    refused_by(refusal);
+    refused_by(console, refusal);
     if let Place::At(p) = place {
-        complain_text(list, p);
+        complain_text(console, list, p);
     }
     REFUSED
 }
 
 // What a party's insert came to, in a store that held `held` lines before.
 pub fn say_inserted(
+    console: &Console,
     inserted: Inserted,
     list: &[u8],
     held: usize,
@@ -206,11 +241,11 @@ pub fn say_inserted(
     let outcome = answer.outcome();
     match outcome {
         Outcome::Passes => {
-            say_filed(inserted, list, held, index, text);
+            say_filed(console, inserted, list, held, index, text);
             DONE
         }
         Outcome::Refuses(refusal) => insert_refused(
-            inserted, refusal, list, held, index, text, party,
+            console, inserted, refusal, list, held, index, text, party,
         ),
     }
 }
@@ -230,10 +265,10 @@ fn has_filed(answer: Answer) -> bool {
     }
 }
 
-fn insert_text(held: Held, store: &[u8], party: Party, list: &[u8]) -> u8 {
+fn insert_text(console: &Console, held: Held, store: &[u8], party: Party, list: &[u8]) -> u8 {
     let mut former_index = half();
     let mut former_text = half();
-    let status = load(store, &mut former_index, &mut former_text);
+    let status = load(console, store, &mut former_index, &mut former_text);
     if status != DONE {
         return status;
     }
@@ -242,35 +277,43 @@ fn insert_text(held: Held, store: &[u8], party: Party, list: &[u8]) -> u8 {
     let inserted = insert(&mut index, &mut text, party, list);
     let answer = inserted.answer;
     if has_filed(answer) {
-        let status = replace(store, held, &former_index, &former_text, &index, &text);
+        let status = replace(
+            console,
+            store,
+            held,
+            &former_index,
+            &former_text,
+            &index,
+            &text,
+        );
         if status != DONE {
             return status;
         }
     }
-    let room = room_in(&former_index, &former_text);
-    say_inserted(inserted, list, room.held, &index, &text, party)
+    let room = room_in(console, &former_index, &former_text);
+    say_inserted(console, inserted, list, room.held, &index, &text, party)
 }
 
-fn insert_file(held: Held, store: &[u8], party: Party, path: &[u8]) -> u8 {
+fn insert_file(console: &Console, held: Held, store: &[u8], party: Party, path: &[u8]) -> u8 {
     let mut space = list_space();
-    match read_list(path, &mut space) {
-        List::Read(n) => insert_text(held, store, party, first(&space, n)),
+    match read_list(console, path, &mut space) {
+        List::Read(n) => insert_text(console, held, store, party, first(&space, n)),
         List::Failed => TROUBLE,
     }
 }
 
 // `hub insert STORE FILE ..`; the party stands from argument `from` on.
-pub fn insert_list(held: Held, store: &[u8], path: &[u8], from: usize) -> u8 {
-    if !may_change(held) {
+pub fn insert_list(console: &Console, held: Held, store: &[u8], path: &[u8], from: usize) -> u8 {
+    if !may_change(console, held) {
         return TROUBLE;
     }
-    let caller = caller_named(from);
+    let caller = caller_named(console, from);
     if caller.others != 0 {
-        return wrong_use(b"insert");
+        return wrong_use(console, b"insert");
     }
     if caller.bad {
         return TROUBLE;
     }
     let party = caller.party;
-    insert_file(held, store, party, path)
+    insert_file(console, held, store, party, path)
 }

@@ -1,6 +1,7 @@
 // Changes of map in the middle of a recording: `after=N:UUID` for the first pad, `after2=N:UUID` for the second.
 use crate::held_maps::{map_status, read_with};
 use crate::test_args::{Request, lists_of};
+use desk::console::{Console, argument, argument_count};
 use desk::fields::{after, before};
 use desk::files::arg_space;
 use desk::say::{DONE, ERR, REFUSED, complain, put_number, say, say_number};
@@ -84,9 +85,9 @@ fn is_for(arg: &[u8], which: Which) -> bool {
 }
 
 // The change of a pad's map that argument `i` is, if it is one.
-fn change_at(which: Which, i: usize) -> MapChange {
+fn change_at(console: &Console, which: Which, i: usize) -> MapChange {
     let mut space = arg_space();
-    let n = os::arg(i, &mut space);
+    let n = argument(console, i, &mut space);
     let arg = &space[..n];
     if is_for(arg, which) {
         return parse_change(after(arg, b'='));
@@ -95,12 +96,12 @@ fn change_at(which: Which, i: usize) -> MapChange {
 }
 
 // The fewest records, not less than `least`, after which a change of a pad's map comes.
-pub fn due_from(which: Which, from: usize, least: usize) -> usize {
-    let count = os::arg_count();
+pub fn due_from(console: &Console, which: Which, from: usize, least: usize) -> usize {
+    let count = argument_count(console);
     let mut due = NEVER;
     let mut i = from;
     while i < count {
-        let change = change_at(which, i);
+        let change = change_at(console, which, i);
         if least <= change.records {
             if change.records < due {
                 due = change.records;
@@ -112,25 +113,46 @@ pub fn due_from(which: Which, from: usize, least: usize) -> usize {
 }
 
 // Whether the line of a change is held and accepted.
-fn change_status(index: &[u8], text: &[u8], asked: Request, which: Which, i: usize) -> u8 {
-    let change = change_at(which, i);
+fn change_status(
+    console: &Console,
+    index: &[u8],
+    text: &[u8],
+    asked: Request,
+    which: Which,
+    i: usize,
+) -> u8 {
+    let change = change_at(console, which, i);
     let id = change.id;
     let caller = asked.caller;
     let party = caller.party;
     let mut space = arg_space();
-    let n = os::arg(i, &mut space);
+    let n = argument(console, i, &mut space);
     if change.records == NEVER {
         return DONE;
     }
-    map_status(index, text, party, id, lists_of(asked, which), &space[..n])
+    map_status(
+        console,
+        index,
+        text,
+        party,
+        id,
+        lists_of(asked, which),
+        &space[..n],
+    )
 }
 
 // Whether all lines of a pad's changes are.
-pub fn changes_status(index: &[u8], text: &[u8], asked: Request, which: Which) -> u8 {
-    let count = os::arg_count();
+pub fn changes_status(
+    console: &Console,
+    index: &[u8],
+    text: &[u8],
+    asked: Request,
+    which: Which,
+) -> u8 {
+    let count = argument_count(console);
     let mut i = asked.from;
     while i < count {
-        let status = change_status(index, text, asked, which, i);
+        let status = change_status(console, index, text, asked, which, i);
         if status != DONE {
             return status;
         }
@@ -140,30 +162,30 @@ pub fn changes_status(index: &[u8], text: &[u8], asked: Request, which: Which) -
 }
 
 // `pad 1, after 2 records: ` and the line.
-fn say_change(play: Play, which: Which, line: &[u8]) {
+fn say_change(console: &Console, play: Play, which: Which, line: &[u8]) {
     let seat = seat_of(play, which);
     if play.two {
-        say_which(which);
-        say(b", ");
+        say_which(console, which);
+        say(console, b", ");
     }
-    say(b"after ");
-    say_number(seat.records);
-    say(b" records: ");
-    say_shown(line);
-    say(b"\n");
+    say(console, b"after ");
+    say_number(console, seat.records);
+    say(console, b" records: ");
+    say_shown(console, line);
+    say(console, b"\n");
 }
 
-fn say_event(play: Play, which: Which, told: Event) {
+fn say_event(console: &Console, play: Play, which: Which, told: Event) {
     let element = told.element;
     let value = told.value;
-    say(b"  ");
-    say_element(element, value);
-    say_held_by(play, which, element, value);
-    say(b"\n");
+    say(console, b"  ");
+    say_element(console, element, value);
+    say_held_by(console, play, which, element, value);
+    say(console, b"\n");
 }
 
 // The events of a change of map, one a line.
-fn say_events(play: Play, which: Which, events: Events) {
+fn say_events(console: &Console, play: Play, which: Which, events: Events) {
     let list = events.list;
     let mut i: usize = 0;
     while i < ELEMENTS {
@@ -171,13 +193,13 @@ fn say_events(play: Play, which: Which, events: Events) {
             return;
         }
         let told = list[i];
-        say_event(play, which, told);
+        say_event(console, play, which, told);
         i += 1;
     }
 }
 
 // Another map for a pad, told.
-fn with_map(play: Play, which: Which, map: Mapping) -> Play {
+fn with_map(console: &Console, play: Play, which: Which, map: Mapping) -> Play {
     let pads = play.pads;
     let told = pads.change_map(which, map);
     let later = told.pads;
@@ -191,14 +213,15 @@ fn with_map(play: Play, which: Which, map: Mapping) -> Play {
     tally.changed = wrapping_add_usize(tally.changed, events.count);
     next.tally = tally;
     if events.count == 0 {
-        say(b"  no element has another value\n");
+        say(console, b"  no element has another value\n");
     }
-    say_events(next, which, events);
+    say_events(console, next, which, events);
     next
 }
 
 // The change that argument `i` is, where it comes after so many records.
 fn with_change(
+    console: &Console,
     index: &[u8],
     text: &[u8],
     asked: Request,
@@ -207,7 +230,7 @@ fn with_change(
     i: usize,
 ) -> Play {
     let seat = seat_of(play, which);
-    let change = change_at(which, i);
+    let change = change_at(console, which, i);
     if change.records != seat.records {
         return play;
     }
@@ -215,49 +238,66 @@ fn with_change(
     let caller = asked.caller;
     let party = caller.party;
     let line = get_near(index, text, party, id);
-    say_change(play, which, line);
+    say_change(console, play, which, line);
     let reading = read_with(line, lists_of(asked, which));
     let map = reading.map;
-    with_map(play, which, map)
+    with_map(console, play, which, map)
 }
 
 // The changes of a pad's map that are due, in the order of the arguments.
-fn with_due(index: &[u8], text: &[u8], asked: Request, play: Play, which: Which) -> Play {
-    let count = os::arg_count();
+fn with_due(
+    console: &Console,
+    index: &[u8],
+    text: &[u8],
+    asked: Request,
+    play: Play,
+    which: Which,
+) -> Play {
+    let count = argument_count(console);
     let mut next = play;
     let mut i = asked.from;
     while i < count {
-        next = with_change(index, text, asked, next, which, i);
+        next = with_change(console, index, text, asked, next, which, i);
         i += 1;
     }
     next
 }
 
 // The changes of a pad's map that come after its last record.
-pub fn with_changes(index: &[u8], text: &[u8], asked: Request, play: Play, which: Which) -> Play {
+pub fn with_changes(
+    console: &Console,
+    index: &[u8],
+    text: &[u8],
+    asked: Request,
+    play: Play,
+    which: Which,
+) -> Play {
     let now = seat_of(play, which);
     if now.due != now.records {
         return play;
     }
-    let next = with_due(index, text, asked, play, which);
+    let next = with_due(console, index, text, asked, play, which);
     let mut seat = seat_of(next, which);
-    seat.due = due_from(which, asked.from, more(seat.records));
+    seat.due = due_from(console, which, asked.from, more(seat.records));
     with_seat(next, which, seat)
 }
 
 // Says which change of a pad's map never came.
-pub fn never_status(play: Play, which: Which) -> u8 {
+pub fn never_status(console: &Console, play: Play, which: Which) -> u8 {
     let seat = seat_of(play, which);
     if seat.due == NEVER {
         return DONE;
     }
     match which {
-        Which::First => complain(b"after="),
-        Which::Second => complain(b"after2="),
+        Which::First => complain(console, b"after="),
+        Which::Second => complain(console, b"after2="),
     }
-    put_number(ERR, seat.due);
-    complain(b":..: the recording has only ");
-    put_number(ERR, seat.records);
-    complain(b" records of buttons and axes, so this change never came\n");
+    put_number(console, ERR, seat.due);
+    complain(console, b":..: the recording has only ");
+    put_number(console, ERR, seat.records);
+    complain(
+        console,
+        b" records of buttons and axes, so this change never came\n",
+    );
     REFUSED
 }

@@ -3,6 +3,7 @@ use crate::holding::no_uuid;
 use crate::parties::{Caller, caller_named};
 use desk::arguments::has_word;
 use desk::codes::{ABS, Codes, KEY, codes_named, first_codes};
+use desk::console::Console;
 use desk::files::{half, load};
 use desk::near::complain_near;
 use desk::say::{DONE, TROUBLE, complain, say};
@@ -26,12 +27,12 @@ pub struct Request {
     pub anyway: bool,
 }
 
-pub fn asked_from(from: usize) -> Request {
-    let buttons = codes_named(b"buttons", KEY, from);
-    let axes = codes_named(b"axes", ABS, from);
-    let slots = slots_named(from);
-    let caller = caller_named(from);
-    let anyway = has_word(b"anyway", from);
+pub fn asked_from(console: &Console, from: usize) -> Request {
+    let buttons = codes_named(console, b"buttons", KEY, from);
+    let axes = codes_named(console, b"axes", ABS, from);
+    let slots = slots_named(console, from);
+    let caller = caller_named(console, from);
+    let anyway = has_word(console, b"anyway", from);
     Request {
         buttons,
         axes,
@@ -64,19 +65,22 @@ fn has_no_slots(asked: Request) -> bool {
 }
 
 // Whether they are what show takes.
-fn may_show(asked: Request) -> bool {
+fn may_show(console: &Console, asked: Request) -> bool {
     if !is_good(asked) {
         return false;
     }
     if has_no_slots(asked) {
         return true;
     }
-    complain(b"here the arguments are buttons=.., axes=.. and party=.. only\n");
+    complain(
+        console,
+        b"here the arguments are buttons=.., axes=.. and party=.. only\n",
+    );
     false
 }
 
 // Whether they are lists only.
-fn has_lists_only(asked: Request) -> bool {
+fn has_lists_only(console: &Console, asked: Request) -> bool {
     if !is_good(asked) {
         return false;
     }
@@ -85,68 +89,72 @@ fn has_lists_only(asked: Request) -> bool {
             return true;
         }
     }
-    complain(b"here the arguments are buttons=.. and axes=.. only\n");
+    complain(
+        console,
+        b"here the arguments are buttons=.. and axes=.. only\n",
+    );
     false
 }
 
 // Prints a line, and its map by the lists.
-fn show_line(line: &[u8], asked: Request) -> u8 {
-    say_shown(line);
-    say(b"\n");
+fn show_line(console: &Console, line: &[u8], asked: Request) -> u8 {
+    say_shown(console, line);
+    say(console, b"\n");
     let buttons = asked.buttons;
     let button_list = buttons.list;
     let axes = asked.axes;
     let axis_list = axes.list;
     say_reading(
+        console,
         line,
         first_codes(&button_list, buttons.len),
         first_codes(&axis_list, axes.len),
     )
 }
 
-fn show_held(index: &[u8], text: &[u8], id: Uuid, asked: Request) -> u8 {
+fn show_held(console: &Console, index: &[u8], text: &[u8], id: Uuid, asked: Request) -> u8 {
     let caller = asked.caller;
     let party = caller.party;
     let look = found_near(index, text, party, id);
     match look {
-        NearLook::Exact => show_line(get_near(index, text, party, id), asked),
+        NearLook::Exact => show_line(console, get_near(index, text, party, id), asked),
         NearLook::Near => {
-            complain_near(id);
-            show_line(get_near(index, text, party, id), asked)
+            complain_near(console, id);
+            show_line(console, get_near(index, text, party, id), asked)
         }
-        NearLook::Missing => none(),
-        NearLook::Unsound => refused_outcome(look.outcome()),
-        NearLook::NoOwner => refused_outcome(look.outcome()),
+        NearLook::Missing => none(console),
+        NearLook::Unsound => refused_outcome(console, look.outcome()),
+        NearLook::NoOwner => refused_outcome(console, look.outcome()),
     }
 }
 
-fn show_request(store: &[u8], id: Uuid, asked: Request) -> u8 {
+fn show_request(console: &Console, store: &[u8], id: Uuid, asked: Request) -> u8 {
     let mut index = half();
     let mut text = half();
-    let status = load(store, &mut index, &mut text);
+    let status = load(console, store, &mut index, &mut text);
     if status != DONE {
         return status;
     }
-    show_held(&index, &text, id, asked)
+    show_held(console, &index, &text, id, asked)
 }
 
 // `hub show STORE UUID ..`; the lists stand from argument `from` on.
-pub fn show_mapping(store: &[u8], key: &[u8], from: usize) -> u8 {
-    let asked = asked_from(from);
-    if !may_show(asked) {
+pub fn show_mapping(console: &Console, store: &[u8], key: &[u8], from: usize) -> u8 {
+    let asked = asked_from(console, from);
+    if !may_show(console, asked) {
         return TROUBLE;
     }
     let parsed = Uuid::parse_str(key);
     match parsed {
-        UuidParse::Parsed(spelled) => show_request(store, spelled.id, asked),
-        UuidParse::Invalid => no_uuid(key),
+        UuidParse::Parsed(spelled) => show_request(console, store, spelled.id, asked),
+        UuidParse::Invalid => no_uuid(console, key),
     }
 }
 
 // `hub default ..`
-pub fn default_mapping(from: usize) -> u8 {
-    let asked = asked_from(from);
-    if !has_lists_only(asked) {
+pub fn default_mapping(console: &Console, from: usize) -> u8 {
+    let asked = asked_from(console, from);
+    if !has_lists_only(console, asked) {
         return TROUBLE;
     }
     let buttons = asked.buttons;
@@ -160,7 +168,7 @@ pub fn default_mapping(from: usize) -> u8 {
     let answer = made.answer;
     let map = made.map;
     match answer {
-        MappingAnswer::Accepted => say_map(map, b""),
-        MappingAnswer::Refused(e) => refused_by(e.refusal()),
+        MappingAnswer::Accepted => say_map(console, map, b""),
+        MappingAnswer::Refused(e) => refused_by(console, e.refusal()),
     }
 }

@@ -1,5 +1,6 @@
 // Whose lines a command is about: `party=7` is a league organiser, no `party=` the hall.
 use desk::arguments::is_party;
+use desk::console::{Console, argument, argument_count};
 use desk::fields::after;
 use desk::files::arg_space;
 use desk::say::complain;
@@ -30,16 +31,17 @@ fn with_bad(caller: Caller) -> Caller {
     next
 }
 
-fn no_party(caller: Caller, arg: &[u8]) -> Caller {
-    complain_shown(arg);
+fn no_party(console: &Console, caller: Caller, arg: &[u8]) -> Caller {
+    complain_shown(console, arg);
     complain(
+        console,
         b": a league organiser is a number from 1 to 255; without party= the lines are the hall's\n",
     );
     with_bad(caller)
 }
 
 // What an organiser with owner 0 may do is the library's to say.
-fn with_number(caller: Caller, arg: &[u8], n: u16) -> Caller {
+fn with_number(console: &Console, caller: Caller, arg: &[u8], n: u16) -> Caller {
     if n < 256 {
         return Caller {
             party: Party::Organiser(n as u8),
@@ -48,28 +50,28 @@ fn with_number(caller: Caller, arg: &[u8], n: u16) -> Caller {
             bad: caller.bad,
         };
     }
-    no_party(caller, arg)
+    no_party(console, caller, arg)
 }
 
 // `party=7`
-fn with_party(caller: Caller, arg: &[u8]) -> Caller {
+fn with_party(console: &Console, caller: Caller, arg: &[u8]) -> Caller {
     if caller.given != 0 {
-        complain_shown(arg);
-        complain(b": the party is given twice\n");
+        complain_shown(console, arg);
+        complain(console, b": the party is given twice\n");
         return with_bad(caller);
     }
     let number = parse_u16(after(arg, b'='));
     match number {
-        IndexParse::Parsed(n) => with_number(caller, arg, n),
-        IndexParse::Invalid => no_party(caller, arg),
+        IndexParse::Parsed(n) => with_number(console, caller, arg, n),
+        IndexParse::Invalid => no_party(console, caller, arg),
     }
 }
 
-fn with_arg(caller: Caller, i: usize) -> Caller {
+fn with_arg(console: &Console, caller: Caller, i: usize) -> Caller {
     let mut space = arg_space();
-    let n = os::arg(i, &mut space);
+    let n = argument(console, i, &mut space);
     if is_party(&space[..n]) {
-        return with_party(caller, &space[..n]);
+        return with_party(console, caller, &space[..n]);
     }
     let mut next = caller;
     next.others = std::num::wrapping_add_usize(caller.others, 1);
@@ -77,17 +79,17 @@ fn with_arg(caller: Caller, i: usize) -> Caller {
 }
 
 // Who calls, by the arguments from `from` on.
-pub fn caller_named(from: usize) -> Caller {
+pub fn caller_named(console: &Console, from: usize) -> Caller {
     let mut caller = Caller {
         party: Party::Hall,
         given: 0,
         others: 0,
         bad: false,
     };
-    let count = os::arg_count();
+    let count = argument_count(console);
     let mut i = from;
     while i < count {
-        caller = with_arg(caller, i);
+        caller = with_arg(console, caller, i);
         i += 1;
     }
     caller

@@ -4,6 +4,7 @@ use crate::map_changes::is_change;
 use crate::parties::{Caller, caller_named};
 use desk::arguments::is_party;
 use desk::codes::{ABS, Codes, KEY, codes_named};
+use desk::console::{Console, argument, argument_count};
 use desk::fields::before;
 use desk::files::arg_space;
 use desk::help::wrong_use;
@@ -54,24 +55,29 @@ fn nothing_named() -> Named {
     }
 }
 
-fn with_unknown(named: Named, arg: &[u8]) -> Named {
-    complain_shown(arg);
+fn with_unknown(console: &Console, named: Named, arg: &[u8]) -> Named {
+    complain_shown(console, arg);
     complain(
+        console,
         b": here the arguments are buttons=.., axes=.., party=.., from=FILE and after=N:UUID; for a\n",
     );
-    complain(b"second pad with=FILE, uuid2=UUID, buttons2=.., axes2=.. and after2=N:UUID\n");
+    complain(
+        console,
+        b"second pad with=FILE, uuid2=UUID, buttons2=.., axes2=.. and after2=N:UUID\n",
+    );
     let mut next = named;
     next.bad = true;
     next
 }
 
 // `after=2:UUID`
-fn with_change(named: Named, arg: &[u8]) -> Named {
+fn with_change(console: &Console, named: Named, arg: &[u8]) -> Named {
     if is_change(arg) {
         return named;
     }
-    complain_shown(arg);
+    complain_shown(console, arg);
     complain(
+        console,
         b": a change of map is N:UUID, a number of records with one to nine digits, and a UUID\n",
     );
     let mut next = named;
@@ -80,7 +86,7 @@ fn with_change(named: Named, arg: &[u8]) -> Named {
 }
 
 // An argument about the second pad.
-fn with_second(named: Named, i: usize, key: &[u8], arg: &[u8]) -> Named {
+fn with_second(console: &Console, named: Named, i: usize, key: &[u8], arg: &[u8]) -> Named {
     let mut next = named;
     next.second = i;
     if same_bytes(key, b"uuid2") {
@@ -97,12 +103,12 @@ fn with_second(named: Named, i: usize, key: &[u8], arg: &[u8]) -> Named {
         return next;
     }
     if same_bytes(key, b"after2") {
-        return with_change(next, arg);
+        return with_change(console, next, arg);
     }
-    with_unknown(named, arg)
+    with_unknown(console, named, arg)
 }
 
-fn with_key(named: Named, i: usize, key: &[u8], arg: &[u8]) -> Named {
+fn with_key(console: &Console, named: Named, i: usize, key: &[u8], arg: &[u8]) -> Named {
     let mut next = named;
     if same_bytes(key, b"from") {
         next.stream = i;
@@ -124,25 +130,25 @@ fn with_key(named: Named, i: usize, key: &[u8], arg: &[u8]) -> Named {
         return named;
     }
     if same_bytes(key, b"after") {
-        return with_change(named, arg);
+        return with_change(console, named, arg);
     }
-    with_second(named, i, key, arg)
+    with_second(console, named, i, key, arg)
 }
 
-fn with_arg(named: Named, i: usize) -> Named {
+fn with_arg(console: &Console, named: Named, i: usize) -> Named {
     let mut space = arg_space();
-    let n = os::arg(i, &mut space);
+    let n = argument(console, i, &mut space);
     let arg = &space[..n];
-    with_key(named, i, before(arg, b'='), arg)
+    with_key(console, named, i, before(arg, b'='), arg)
 }
 
 // What the arguments from `from` on name.
-fn named_from(from: usize) -> Named {
+fn named_from(console: &Console, from: usize) -> Named {
     let mut named = nothing_named();
-    let count = os::arg_count();
+    let count = argument_count(console);
     let mut i = from;
     while i < count {
-        named = with_arg(named, i);
+        named = with_arg(console, named, i);
         i += 1;
     }
     named
@@ -157,12 +163,12 @@ fn list_of(own: bool, list: Codes, first: Codes) -> Codes {
 }
 
 // What the arguments from `from` on ask for.
-pub fn request_from(from: usize) -> Request {
-    let buttons = codes_named(b"buttons", KEY, from);
-    let axes = codes_named(b"axes", ABS, from);
-    let other_buttons = codes_named(b"buttons2", KEY, from);
-    let other_axes = codes_named(b"axes2", ABS, from);
-    let named = named_from(from);
+pub fn request_from(console: &Console, from: usize) -> Request {
+    let buttons = codes_named(console, b"buttons", KEY, from);
+    let axes = codes_named(console, b"axes", ABS, from);
+    let other_buttons = codes_named(console, b"buttons2", KEY, from);
+    let other_axes = codes_named(console, b"axes2", ABS, from);
+    let named = named_from(console, from);
     let first = Lists { buttons, axes };
     let second = Lists {
         buttons: list_of(named.has_buttons, other_buttons, buttons),
@@ -171,7 +177,7 @@ pub fn request_from(from: usize) -> Request {
     Request {
         first,
         second,
-        caller: caller_named(from),
+        caller: caller_named(console, from),
         named,
         from,
     }
@@ -195,11 +201,14 @@ fn is_bad(lists: Lists) -> bool {
 }
 
 // An argument about a second pad, where none plays.
-fn complain_second(i: usize) -> u8 {
+fn complain_second(console: &Console, i: usize) -> u8 {
     let mut space = arg_space();
-    let n = os::arg(i, &mut space);
-    complain_shown(&space[..n]);
-    complain(b": there is no second pad; with=FILE names its recording\n");
+    let n = argument(console, i, &mut space);
+    complain_shown(console, &space[..n]);
+    complain(
+        console,
+        b": there is no second pad; with=FILE names its recording\n",
+    );
     TROUBLE
 }
 
@@ -209,7 +218,7 @@ pub fn is_two(named: Named) -> bool {
 }
 
 // Whether the arguments are as they should be.
-pub fn request_status(asked: Request) -> u8 {
+pub fn request_status(console: &Console, asked: Request) -> u8 {
     let named = asked.named;
     let first = asked.first;
     let second = asked.second;
@@ -226,17 +235,17 @@ pub fn request_status(asked: Request) -> u8 {
         return TROUBLE;
     }
     if named.streams != 1 {
-        return wrong_use(b"test");
+        return wrong_use(console, b"test");
     }
     if 1 < named.besides {
-        return wrong_use(b"test");
+        return wrong_use(console, b"test");
     }
     if 1 < named.uuids {
-        return wrong_use(b"test");
+        return wrong_use(console, b"test");
     }
     if named.besides == 0 {
         if 0 < named.second {
-            return complain_second(named.second);
+            return complain_second(console, named.second);
         }
     }
     DONE

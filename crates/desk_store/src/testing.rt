@@ -3,13 +3,12 @@ use crate::held_maps::{held_status, read_with, reading_status};
 use crate::holding::no_uuid;
 use crate::map_changes::{changes_status, due_from, never_status, with_changes};
 use crate::test_args::{Request, is_two, lists_of, request_from, request_status};
+use desk::console::{Console, argument};
 use desk::fields::after;
 use desk::files::{arg_space, half, load};
 use desk::say::{DONE, TROUBLE, say};
 use desk::shown::say_shown;
-use desk::streams::{
-    Stream, Turn, close_stream, end_status, is_open, moved, no_stream, open_stream, turn_of,
-};
+use desk::streams::{Stream, Turn, end_status, is_open, moved, no_stream, open_stream, turn_of};
 use desk::tally::{say_tally, tally_status};
 use desk_pads::playing::{NEVER, Play, Seat, new_play, new_seat, say_end};
 use desk_pads::telling::with_input;
@@ -37,18 +36,29 @@ fn worse(a: u8, b: u8) -> u8 {
 }
 
 // What became of the records, and the status.
-fn ended(play: Play, first: Stream, second: Stream, from_arg: &[u8], with_arg: &[u8]) -> u8 {
+fn ended(
+    console: &Console,
+    play: Play,
+    first: &Stream,
+    second: &Stream,
+    from_arg: &[u8],
+    with_arg: &[u8],
+) -> u8 {
     let tally = play.tally;
-    say_tally(tally);
-    say_end(play);
-    let read = worse(end_status(first, from_arg), end_status(second, with_arg));
-    let never = never_status(play, Which::First);
-    let came = worse(never, never_status(play, Which::Second));
+    say_tally(console, tally);
+    say_end(console, play);
+    let read = worse(
+        end_status(console, first, from_arg),
+        end_status(console, second, with_arg),
+    );
+    let never = never_status(console, play, Which::First);
+    let came = worse(never, never_status(console, play, Which::Second));
     worse(worse(read, came), tally_status(tally))
 }
 
 // Tells the records of both recordings, in the order of their times.
 fn tell(
+    console: &Console,
     index: &[u8],
     text: &[u8],
     asked: Request,
@@ -63,29 +73,33 @@ fn tell(
     let mut second = other;
     let mut i: usize = 0;
     while i < RECORDS_MAX {
-        let turn = turn_of(first, second);
+        if console.is_closed() {
+            return TROUBLE;
+        }
+        let turn = turn_of(&first, &second);
         match turn {
             Turn::First(input) => {
-                play = with_input(play, Which::First, input);
-                play = with_changes(index, text, asked, play, Which::First);
+                play = with_input(console, play, Which::First, input);
+                play = with_changes(console, index, text, asked, play, Which::First);
                 first = moved(first);
             }
             Turn::Second(input) => {
-                play = with_input(play, Which::Second, input);
-                play = with_changes(index, text, asked, play, Which::Second);
+                play = with_input(console, play, Which::Second, input);
+                play = with_changes(console, index, text, asked, play, Which::Second);
                 second = moved(second);
             }
             Turn::Over => {
-                return ended(play, first, second, from_arg, with_arg);
+                return ended(console, play, &first, &second, from_arg, with_arg);
             }
         }
         i += 1;
     }
-    ended(play, first, second, from_arg, with_arg)
+    ended(console, play, &first, &second, from_arg, with_arg)
 }
 
 // Two recordings, the first of them open.
 fn test_both(
+    console: &Console,
     index: &[u8],
     text: &[u8],
     asked: Request,
@@ -94,11 +108,12 @@ fn test_both(
     from_arg: &[u8],
     with_arg: &[u8],
 ) -> u8 {
-    let second = open_stream(with_arg);
-    if !is_open(second) {
+    let second = open_stream(console, with_arg);
+    if !is_open(&second) {
         return TROUBLE;
     }
-    let status = tell(
+    tell(
+        console,
         index,
         text,
         asked,
@@ -107,13 +122,12 @@ fn test_both(
         moved(second),
         from_arg,
         with_arg,
-    );
-    close_stream(second);
-    status
+    )
 }
 
 // The recordings that two arguments name.
 fn test_streams(
+    console: &Console,
     index: &[u8],
     text: &[u8],
     asked: Request,
@@ -121,39 +135,44 @@ fn test_streams(
     from_arg: &[u8],
     with_arg: &[u8],
 ) -> u8 {
-    let first = open_stream(from_arg);
-    if !is_open(first) {
+    let first = open_stream(console, from_arg);
+    if !is_open(&first) {
         return TROUBLE;
     }
-    let mut status = DONE;
     if play.two {
-        status = test_both(index, text, asked, play, first, from_arg, with_arg);
-    } else {
-        status = tell(
-            index,
-            text,
-            asked,
-            play,
-            moved(first),
-            no_stream(),
-            from_arg,
-            with_arg,
-        );
+        return test_both(console, index, text, asked, play, first, from_arg, with_arg);
     }
-    close_stream(first);
-    status
+    tell(
+        console,
+        index,
+        text,
+        asked,
+        play,
+        moved(first),
+        no_stream(),
+        from_arg,
+        with_arg,
+    )
 }
 
 // The recordings of pads that have their maps.
-fn test_play(index: &[u8], text: &[u8], asked: Request, start: Play) -> u8 {
+fn test_play(console: &Console, index: &[u8], text: &[u8], asked: Request, start: Play) -> u8 {
     let named = asked.named;
     let mut stream = arg_space();
-    let n = os::arg(named.stream, &mut stream);
+    let n = argument(console, named.stream, &mut stream);
     let mut beside = arg_space();
-    let m = os::arg(named.beside, &mut beside);
-    let one = with_changes(index, text, asked, start, Which::First);
-    let play = with_changes(index, text, asked, one, Which::Second);
-    test_streams(index, text, asked, play, &stream[..n], &beside[..m])
+    let m = argument(console, named.beside, &mut beside);
+    let one = with_changes(console, index, text, asked, start, Which::First);
+    let play = with_changes(console, index, text, asked, one, Which::Second);
+    test_streams(
+        console,
+        index,
+        text,
+        asked,
+        play,
+        &stream[..n],
+        &beside[..m],
+    )
 }
 
 fn no_start(status: u8) -> Start {
@@ -165,6 +184,7 @@ fn no_start(status: u8) -> Start {
 
 // A pad with the map of its line, which is shown. `label` is the pad, where there are two.
 fn start_of(
+    console: &Console,
     index: &[u8],
     text: &[u8],
     id: Uuid,
@@ -174,99 +194,106 @@ fn start_of(
 ) -> Start {
     let caller = asked.caller;
     let party = caller.party;
-    let held = held_status(index, text, party, id, label);
+    let held = held_status(console, index, text, party, id, label);
     if held != DONE {
         return no_start(held);
     }
     let line = get_near(index, text, party, id);
     let lists = lists_of(asked, which);
-    say_labelled(label, line);
-    let read = reading_status(line, lists, label);
+    say_labelled(console, label, line);
+    let read = reading_status(console, line, lists, label);
     if read != DONE {
         return no_start(read);
     }
-    let status = changes_status(index, text, asked, which);
+    let status = changes_status(console, index, text, asked, which);
     let reading = read_with(line, lists);
     let map = reading.map;
-    let seat = new_seat(map, due_from(which, asked.from, 0));
+    let seat = new_seat(map, due_from(console, which, asked.from, 0));
     Start { status, seat }
 }
 
 // `pad 1: ` and the line
-fn say_labelled(label: &[u8], line: &[u8]) {
+fn say_labelled(console: &Console, label: &[u8], line: &[u8]) {
     if 0 < label.len() {
-        say(label);
-        say(b": ");
+        say(console, label);
+        say(console, b": ");
     }
-    say_shown(line);
-    say(b"\n");
+    say_shown(console, line);
+    say(console, b"\n");
 }
 
-fn test_first(index: &[u8], text: &[u8], id: Uuid, asked: Request) -> u8 {
-    let one = start_of(index, text, id, asked, Which::First, b"");
+fn test_first(console: &Console, index: &[u8], text: &[u8], id: Uuid, asked: Request) -> u8 {
+    let one = start_of(console, index, text, id, asked, Which::First, b"");
     if one.status != DONE {
         return one.status;
     }
     let first = one.seat;
     let none = no_start(DONE);
     let second = none.seat;
-    test_play(index, text, asked, new_play(false, first, second))
+    test_play(console, index, text, asked, new_play(false, first, second))
 }
 
-fn test_two(index: &[u8], text: &[u8], id: Uuid, other: Uuid, asked: Request) -> u8 {
-    let one = start_of(index, text, id, asked, Which::First, b"pad 1");
+fn test_two(
+    console: &Console,
+    index: &[u8],
+    text: &[u8],
+    id: Uuid,
+    other: Uuid,
+    asked: Request,
+) -> u8 {
+    let one = start_of(console, index, text, id, asked, Which::First, b"pad 1");
     if one.status != DONE {
         return one.status;
     }
-    let two = start_of(index, text, other, asked, Which::Second, b"pad 2");
+    let two = start_of(console, index, text, other, asked, Which::Second, b"pad 2");
     if two.status != DONE {
         return two.status;
     }
     let first = one.seat;
     let second = two.seat;
-    test_play(index, text, asked, new_play(true, first, second))
+    test_play(console, index, text, asked, new_play(true, first, second))
 }
 
-fn test_held(store: &[u8], id: Uuid, other: Uuid, asked: Request) -> u8 {
+fn test_held(console: &Console, store: &[u8], id: Uuid, other: Uuid, asked: Request) -> u8 {
     let named = asked.named;
     let mut index = half();
     let mut text = half();
-    let status = load(store, &mut index, &mut text);
+    let status = load(console, store, &mut index, &mut text);
     if status != DONE {
         return status;
     }
     if is_two(named) {
-        return test_two(&index, &text, id, other, asked);
+        return test_two(console, &index, &text, id, other, asked);
     }
-    test_first(&index, &text, id, asked)
+    test_first(console, &index, &text, id, asked)
 }
 
 // The second pad's UUID is the first one's, where it has none of its own.
-fn test_ids(store: &[u8], id: Uuid, asked: Request) -> u8 {
+fn test_ids(console: &Console, store: &[u8], id: Uuid, asked: Request) -> u8 {
     let named = asked.named;
     if named.uuids == 0 {
-        return test_held(store, id, id, asked);
+        return test_held(console, store, id, id, asked);
     }
     let mut space = arg_space();
-    let n = os::arg(named.uuid, &mut space);
+    let n = argument(console, named.uuid, &mut space);
     let key = after(&space[..n], b'=');
     let parsed = Uuid::parse_str(key);
     match parsed {
-        UuidParse::Parsed(spelled) => test_held(store, id, spelled.id, asked),
-        UuidParse::Invalid => no_uuid(key),
+        UuidParse::Parsed(spelled) => test_held(console, store, id, spelled.id, asked),
+        UuidParse::Invalid => no_uuid(console, key),
     }
 }
 
 // `hub test STORE UUID ..`; the other arguments stand from `from` on.
-pub fn test_mapping(store: &[u8], key: &[u8], from: usize) -> u8 {
-    let asked = request_from(from);
-    let status = request_status(asked);
+pub fn test_mapping(console: &Console, store: &[u8], key: &[u8], from: usize) -> u8 {
+    let asked = request_from(console, from);
+    let status = request_status(console, asked);
     if status != DONE {
         return status;
     }
     let parsed = Uuid::parse_str(key);
     match parsed {
-        UuidParse::Parsed(spelled) => test_ids(store, spelled.id, asked),
-        UuidParse::Invalid => no_uuid(key),
+        UuidParse::Parsed(spelled) => test_ids(console, store, spelled.id, asked),
+        UuidParse::Invalid => no_uuid(console, key),
     }
 }

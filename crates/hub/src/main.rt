@@ -2,24 +2,29 @@
 #![tactic(auto)]
 
 use desk::changing::{Held, held_from, not_held};
+use desk::console::{Console, argument, argument_count, is_too_long, print};
 use desk::files::arg_space;
 use desk::help;
 use desk::help::wrong_use;
 use desk::say::{STATUS, TROUBLE, complain};
 use desk_pads::layout;
 use desk_store::{demo, filing, holding, inserting, lint, mappings, saving, shares, testing};
+use std::process::ExitCode;
 use text::bytes::same_bytes;
 
 // More arguments than there are.
 const MANY: usize = 4294967295;
+
+// What a shell says of a program that SIGPIPE ended.
+const READER_GONE: u8 = 141;
 
 fn nth(at: usize, n: usize) -> usize {
     std::num::wrapping_add_usize(at, n)
 }
 
 // How many arguments stand after the one at `at`.
-fn given_after(at: usize) -> usize {
-    let count = os::arg_count();
+fn given_after(console: &Console, at: usize) -> usize {
+    let count = argument_count(console);
     if at < count {
         return count - at - 1;
     }
@@ -46,116 +51,139 @@ fn is_help(arg: &[u8]) -> bool {
 }
 
 // The commands that change a store.
-fn run_changing(held: Held, command: &[u8], at: usize, given: usize, a: &[u8], b: &[u8]) -> u8 {
+fn run_changing(
+    console: &Console,
+    held: Held,
+    command: &[u8],
+    at: usize,
+    given: usize,
+    a: &[u8],
+    b: &[u8],
+) -> u8 {
     if is(command, b"new", given, 1, 1) {
-        return filing::new_store(held, a);
+        return filing::new_store(console, held, a);
     }
     if is(command, b"insert", given, 2, MANY) {
-        return inserting::insert_list(held, a, b, nth(at, 3));
+        return inserting::insert_list(console, held, a, b, nth(at, 3));
     }
     if is(command, b"save", given, 3, MANY) {
-        return saving::save_mapping(held, a, b, nth(at, 3));
+        return saving::save_mapping(console, held, a, b, nth(at, 3));
     }
     if is(command, b"share", given, 3, 3) {
-        return shares::give_share(held, a, b, nth(at, 3));
+        return shares::give_share(console, held, a, b, nth(at, 3));
     }
     if is(command, b"clear", given, 1, 1) {
-        return filing::clear_store(held, a);
+        return filing::clear_store(console, held, a);
     }
     if is(command, b"undo", given, 1, 1) {
-        return filing::undo(held, a);
+        return filing::undo(console, held, a);
     }
-    wrong_use(command)
+    wrong_use(console, command)
 }
 
 // The commands that look into a store.
-fn run_looking(held: Held, command: &[u8], at: usize, given: usize, a: &[u8], b: &[u8]) -> u8 {
+fn run_looking(
+    console: &Console,
+    held: Held,
+    command: &[u8],
+    at: usize,
+    given: usize,
+    a: &[u8],
+    b: &[u8],
+) -> u8 {
     if is(command, b"find", given, 2, MANY) {
-        return holding::find_line(a, b, nth(at, 3));
+        return holding::find_line(console, a, b, nth(at, 3));
     }
     if is(command, b"list", given, 1, 1) {
-        return holding::list_store(a, true);
+        return holding::list_store(console, a, true);
     }
     if is(command, b"check", given, 1, 1) {
-        return holding::list_store(a, false);
+        return holding::list_store(console, a, false);
     }
     if is(command, b"shares", given, 1, 1) {
-        return shares::list_shares(a);
+        return shares::list_shares(console, a);
     }
     if is(command, b"show", given, 2, MANY) {
-        return mappings::show_mapping(a, b, nth(at, 3));
+        return mappings::show_mapping(console, a, b, nth(at, 3));
     }
     if is(command, b"test", given, 2, MANY) {
-        return testing::test_mapping(a, b, nth(at, 3));
+        return testing::test_mapping(console, a, b, nth(at, 3));
     }
-    run_changing(held, command, at, given, a, b)
+    run_changing(console, held, command, at, given, a, b)
 }
 
 // The commands that need no store.
-fn run_command(held: Held, command: &[u8], at: usize, given: usize, a: &[u8], b: &[u8]) -> u8 {
+fn run_command(
+    console: &Console,
+    held: Held,
+    command: &[u8],
+    at: usize,
+    given: usize,
+    a: &[u8],
+    b: &[u8],
+) -> u8 {
     if is_help(command) {
-        return help::help();
+        return help::help(console);
     }
     if is_help(a) {
-        return help::help_on(command);
+        return help::help_on(console, command);
     }
     if is_help(b) {
-        return help::help_on(command);
+        return help::help_on(console, command);
     }
     if same_bytes(command, b"--version") {
-        return help::version();
+        return help::version(console);
     }
     if is(command, b"lint", given, 1, 1) {
-        return lint::lint_list(a);
+        return lint::lint_list(console, a);
     }
     if is(command, b"default", given, 1, 2) {
         if same_bytes(a, b"layout") {
-            return layout::default_layout(b);
+            return layout::default_layout(console, b);
         }
     }
     if is(command, b"default", given, 0, MANY) {
-        return mappings::default_mapping(nth(at, 1));
+        return mappings::default_mapping(console, nth(at, 1));
     }
     if is(command, b"demo", given, 0, 0) {
-        return demo::demo();
+        return demo::demo(console);
     }
     if is(command, b"help", given, 1, 1) {
-        return help::help_on(a);
+        return help::help_on(console, a);
     }
     if is(command, b"help", given, 0, 0) {
-        return help::help();
+        return help::help(console);
     }
-    run_looking(held, command, at, given, a, b)
+    run_looking(console, held, command, at, given, a, b)
 }
 
 // Runs the command at argument `at`.
-fn run(held: Held, at: usize) -> u8 {
-    let given = given_after(at);
+fn run(console: &Console, held: Held, at: usize) -> u8 {
+    let given = given_after(console, at);
     let mut command = arg_space();
-    let n = os::arg(at, &mut command);
+    let n = argument(console, at, &mut command);
     let mut a = arg_space();
-    let an = os::arg(nth(at, 1), &mut a);
+    let an = argument(console, nth(at, 1), &mut a);
     let mut b = arg_space();
-    let bn = os::arg(nth(at, 2), &mut b);
-    if os::arg_count() <= at {
-        return help::help();
+    let bn = argument(console, nth(at, 2), &mut b);
+    if argument_count(console) <= at {
+        return help::help(console);
     }
-    run_command(held, &command[..n], at, given, &a[..an], &b[..bn])
+    run_command(console, held, &command[..n], at, given, &a[..an], &b[..bn])
 }
 
 // Whether an argument is no longer than the most.
-fn has_room(i: usize) -> bool {
+fn has_room(console: &Console, i: usize) -> bool {
     let mut space = arg_space();
-    os::arg(i, &mut space);
-    os::errno() != libc::ENAMETOOLONG
+    !is_too_long(console, i, &mut space)
 }
 
 // Whether all arguments are.
-fn all_have_room() -> bool {
-    let count = os::arg_count();
+fn all_have_room(console: &Console) -> bool {
+    let count = argument_count(console);
     let mut i: usize = 1;
     while i < count {
-        if !has_room(i) {
+        if !has_room(console, i) {
             return false;
         }
         i += 1;
@@ -163,22 +191,36 @@ fn all_have_room() -> bool {
     true
 }
 
-fn run_all(held: Held, at: usize) -> u8 {
-    if all_have_room() {
-        return run(held, at);
+fn run_all(console: &Console, held: Held, at: usize) -> u8 {
+    if all_have_room(console) {
+        return run(console, held, at);
     }
-    complain(b"an argument may have at most 16384 bytes\n");
+    complain(console, b"an argument may have at most 16384 bytes\n");
     TROUBLE
 }
 
-// A Rattle program ends with status 0. The script `hub` starts it with `--script`, what it says of the store (see
-// changing.rt) and the command, and takes the command's status from descriptor 3.
-fn main() {
-    let mut space = arg_space();
-    let n = os::arg(1, &mut space);
-    if same_bytes(&space[..n], b"--script") {
-        io::print_decimal(STATUS, run_all(held_from(2), 6) as u64);
-        return;
+// The status with which the program itself ends.
+fn exit_code(console: &Console) -> ExitCode {
+    if console.is_closed() {
+        return ExitCode::from(READER_GONE);
     }
-    run_all(not_held(), 1);
+    ExitCode::SUCCESS
+}
+
+// The program ends with status 0, or as one whose reader has gone. The script `hub` starts it with `--script`, what it says of the store (see
+// changing.console) and the command, and takes the command's status from descriptor 3.
+fn main(rt: HostRuntime) -> ExitCode {
+    let console = Console::new(rt);
+    let mut space = arg_space();
+    let n = argument(&console, 1, &mut space);
+    if same_bytes(&space[..n], b"--script") {
+        print(
+            &console,
+            STATUS,
+            run_all(&console, held_from(&console, 2), 6),
+        );
+    } else {
+        run_all(&console, not_held(), 1);
+    }
+    exit_code(&console)
 }

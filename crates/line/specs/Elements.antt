@@ -27,7 +27,7 @@ button_code k = code_of (pick (leb k 15) (0x10130 + k - 1) (0x10220 + k - 16))
 abbrev pub axis_code : ℕ → Code
 axis_code k = code_of (0x30000 + k - 1)
 
--- "axis_dpadx 30010, axis_dpady 30011, axis_rt 30012, axis_lt 30013, axis_rt2 30014, axis_lt2 30015."
+-- "AXIS_DPADX 30010, AXIS_DPADY 30011, AXIS_RT 30012, AXIS_LT 30013, AXIS_RT2 30014, AXIS_LT2 30015."
 abbrev pub axis_dpadx : Code
 axis_dpadx = code_of 0x30010
 

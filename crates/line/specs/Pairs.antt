@@ -35,7 +35,7 @@ skip_of Ar.Full = 0
 abbrev pub ranges_of : AxisRange → AxisRange → Bool → Ranges
 ranges_of input output inverted = record { input = input; output = output; inverted = inverted }
 
--- "Last, the key is sought in `axes_sdl` and `axes_table`, ..: not there, 5 for an `a` value, else 6."
+-- "Last, the key is sought in `AXES_SDL` and `AXES`, ..: not there, 5 for an `a` value, else 6."
 abbrev pub axis_token : ℕ → Ranges → KeyElement → ℕ → Answer
 axis_token n r (Ke.Is e) p = Found (Tk.AxisMapping n e r)
 axis_token n r Ke.Missing p = refuse 5 p

@@ -15,7 +15,7 @@ use Rattle.line.specs.Buttons as B
 use Rattle.line.specs.Axes as A
 use Rattle.line.specs.Elements.{same_element}
 
--- "`axes_sdl` and `axes_table`, 35 rows each in byte order of the names"
+-- "`AXES_SDL` and `AXES`, 35 rows each in byte order of the names"
 abbrev pub row_count : ℕ
 row_count = 35
 
@@ -49,7 +49,7 @@ axes_table =
 abbrev pub name_at : ℕ → List ℕ
 name_at i = get_or axes_sdl i []
 
--- ---- "the key is sought in `axes_sdl` and `axes_table`"
+-- ---- "the key is sought in `AXES_SDL` and `AXES`"
 -- the first of the names, counted from i, that is the key
 unfoldable pub row_from : ℕ → List (List ℕ) → List ℕ → KeyRow
 row_from i [] key = Nowhere
@@ -66,7 +66,7 @@ element_in Nowhere = Missing
 abbrev pub key_element : List ℕ → KeyElement
 key_element key = element_in (key_row key)
 
--- ---- "its ident (the one name in `axes_sdl` whose row in `axes_table` is that element)"
+-- ---- "its ident (the one name in `AXES_SDL` whose row in `AXES` is that element)"
 -- the first of the elements, counted from i, that is e
 unfoldable pub element_from : ℕ → List AxisOrBtn → AxisOrBtn → KeyRow
 element_from i [] e = Nowhere

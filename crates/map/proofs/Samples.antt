@@ -87,7 +87,7 @@ pub east_listed : default_of (0x10131 ∷ []) []
 unfolding default_of button_rows axis_rows put_kept in_its_list first_of put_entry
 east_listed = refl
 
--- South and axis_dpady listed
+-- South and AXIS_DPADY listed
 pub two-listed : default_of (0x10130 ∷ []) (0x30011 ∷ [])
     ≡ record {
       answer = Accepted;

@@ -49,7 +49,7 @@ unfoldable pub ended : List (List ℕ) → List ℕ
 ended [] = []
 ended (f ∷ fs) = f ++ byte "," ∷ ended fs
 
--- "its ident (the one name in `axes_sdl` whose row in `axes_table` is that element), `:b` or `:a`, index";
+-- "its ident (the one name in `AXES_SDL` whose row in `AXES` is that element), `:b` or `:a`, index";
 -- "The index is a code's first place in its list."
 abbrev pub pair_text : ℕ → List ℕ → Entry → List ℕ
 pair_text letter codes e = ident_text e.element ++ byte ":" ∷ letter ∷ decimal (place_of e.code codes)

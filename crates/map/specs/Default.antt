@@ -34,7 +34,7 @@ axis_row k = entry_of (axis_code k) (as_axis k)
 unfoldable pub button_rows : List Entry
 button_rows = numbered button_row button_last 1
 
--- "(axis_dpadx to axis 7, axis_dpady to axis 8), axis_lt, axis_rt, axis_lt2, axis_rt2 to buttons 7, 8, 9, 10"
+-- "(AXIS_DPADX to axis 7, AXIS_DPADY to axis 8), AXIS_LT, AXIS_RT, AXIS_LT2, AXIS_RT2 to buttons 7, 8, 9, 10"
 abbrev pub axis_row_count : ℕ
 axis_row_count = 12
 

@@ -69,7 +69,7 @@ pub fn put_code(
           events = events_in (pick (eqb result.change.before result.change.later) []
               (one_event result.change.element (unshifted result.change.later) ∷ []));
         })
-        × (unshifted result.change.before ≡ pick (ltb (place_of result.change.element) ELEMENTS)
+        × (unshifted result.change.before ≡ pick (ltb (place_of result.change.element) element_count)
         (value_of (helds_in count held.old) (entries_in entry_count entries.now)
         result.change.element) (pos 0))
         × (result.change.before < 65536) × (result.change.later < 65536) × RawWithin raw }

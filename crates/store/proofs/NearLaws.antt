@@ -40,21 +40,21 @@ beside_in (some x) b = record {
   near_only = λ l. (λ e. clash cc, λ e. let q = e.0 in clash cc);
   neither_held = (λ e. clash cc, λ e. let q = e.0 in clash cc);
   not_sound = (λ e. clash cc, λ e. clash cc);
-  no_owner_lem = (λ e. clash cc, λ e. clash cc);
+  for_no_owner = (λ e. clash cc, λ e. clash cc);
 }
 beside_in none (some y) = record {
   exact_found = λ l. (λ e. clash cc, λ e. clash cc);
   near_only = λ l. (λ e. (refl, cc), λ e. let q = e.1 in cc);
   neither_held = (λ e. clash cc, λ e. let q = e.1 in clash cc);
   not_sound = (λ e. clash cc, λ e. clash cc);
-  no_owner_lem = (λ e. clash cc, λ e. clash cc);
+  for_no_owner = (λ e. clash cc, λ e. clash cc);
 }
 beside_in none none = record {
   exact_found = λ l. (λ e. clash cc, λ e. clash cc);
   near_only = λ l. (λ e. clash cc, λ e. let q = e.1 in clash cc);
   neither_held = (λ e. (refl, refl), λ e. refl);
   not_sound = (λ e. clash cc, λ e. clash cc);
-  no_owner_lem = (λ e. clash cc, λ e. clash cc);
+  for_no_owner = (λ e. clash cc, λ e. clash cc);
 }
 
 pub beside_look_up : BesideLookUp
@@ -69,7 +69,7 @@ beside_look_up p u i t = who (owner_of p)
       near_only = λ l. (λ e. clash cc, λ e. let q = e.0 in clash cc);
       neither_held = (λ e. clash cc, λ e. let q = e.0 in clash cc);
       not_sound = (λ e. refl, λ e. refl);
-      no_owner_lem = (λ e. clash cc, λ e. clash cc);
+      for_no_owner = (λ e. clash cc, λ e. clash cc);
     }
 
     who : (w : Owner)
@@ -82,7 +82,7 @@ beside_look_up p u i t = who (owner_of p)
       near_only = λ l. (λ e. clash cc, λ e. let q = e.0 in clash cc);
       neither_held = (λ e. clash cc, λ e. let q = e.0 in clash cc);
       not_sound = (λ e. clash cc, λ e. clash cc);
-      no_owner_lem = (λ e. refl, λ e. refl);
+      for_no_owner = (λ e. refl, λ e. refl);
     }
 
 pub never_near : NeverNear
@@ -119,7 +119,7 @@ near_filed n m xs g p u = go (owner_of p) refl
 
     go : (w : Owner) → owner_of p ≡ w
         → near_up p u i t ≡ by_owner w nobody (λ o. near_in (last o u) (last o (without_checksum u)))
-    go O.Nobody e = (beside_look_up p u i t).no_owner_lem.1 (looks u O.Nobody e)
+    go O.Nobody e = (beside_look_up p u i t).for_no_owner.1 (looks u O.Nobody e)
     go (O.Byte o) e =
         near_found p u i t (last o u) (last o (without_checksum u)) (looks u (O.Byte o) e)
         (looks (without_checksum u) (O.Byte o) e)

@@ -89,7 +89,7 @@ pub record Beside (answer : Nearby) (whole second : Looked) : Type 0 where
   pub near_only : (l : List ℕ) → Exactly (answer ≡ near l) ((whole ≡ nothing) × (second ≡ found l))
   pub neither_held : Exactly (answer ≡ neither) ((whole ≡ nothing) × (second ≡ nothing))
   pub not_sound : Exactly (answer ≡ damaged) (whole ≡ unsound)
-  pub no_owner_lem : Exactly (answer ≡ nobody) (whole ≡ no_owner)
+  pub for_no_owner : Exactly (answer ≡ nobody) (whole ≡ no_owner)
 
 abbrev pub BesideLookUp : Type 0
 BesideLookUp =

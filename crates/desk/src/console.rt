@@ -1,0 +1,194 @@
+// What the programs ask of the system: the three outputs, the arguments, and files by the bytes of their names.
+// Where the reader of a pipe has gone, a program says and changes nothing more, and ends as the signal SIGPIPE ends one.
+ghost use Rattle.std.specs.Prelude.{◌≤◌, length};
+
+use crate::fields::{before, first, without};
+use std::cell::Cell;
+use std::env::FillError;
+use std::fmt::Display;
+use std::fs::{File, OpenOptions};
+use std::io::{Cursor, Error, ErrorKind, Print, Result, Write};
+use std::rt::Env;
+use std::{fs, str};
+
+pub const OUT: i32 = 1;
+
+pub const ERR: i32 = 2;
+
+// The descriptor from which the script `hub` takes the status. A byte before the status says that something could not
+// be written.
+pub const STATUS: i32 = 3;
+
+// The system's number of a name that is no text.
+pub const NO_TEXT: i32 = 84;
+
+// Its numbers of no error, and of an output that is not open.
+const NO_ERROR: i32 = 0;
+
+const NO_OUTPUT: i32 = 9;
+
+// The room for an error in words.
+const WORDS_ROOM: usize = 128;
+
+// The system, and whether the reader of an output has gone.
+#[derive(Drop)]
+pub struct Console {
+    rt: HostRuntime,
+    closed: Cell<bool>,
+}
+
+impl Console {
+    pub fn new(rt: HostRuntime) -> Console {
+        Console {
+            rt,
+            closed: Cell::new(false),
+        }
+    }
+
+    // Whether the reader of an output has gone.
+    pub fn is_closed(&self) -> bool {
+        self.closed.get()
+    }
+
+    // Whether all was written. What nobody reads counts as written.
+    fn was_written(&self, done: Result<()>) -> bool {
+        match done {
+            Ok(()) => true,
+            Err(error) => {
+                if error.kind() == ErrorKind::BrokenPipe {
+                    self.closed.set(true);
+                    return true;
+                }
+                false
+            }
+        }
+    }
+}
+
+fn status_file(console: &Console) -> Result<File> {
+    let mut options = OpenOptions::new();
+    options.append(true);
+    options.open(&console.rt, "/dev/fd/3")
+}
+
+fn write_status(console: &Console, bytes: &[u8]) -> Result<()> {
+    let mut file = status_file(console)?;
+    file.write_all(bytes)
+}
+
+fn print_status<D: Display + Drop>(console: &Console, value: D) -> Result<()> {
+    let mut file = status_file(console)?;
+    write!(file, "{value}")
+}
+
+fn write_to(console: &Console, fd: i32, bytes: &[u8]) -> Result<()> {
+    match fd {
+        OUT => console.rt.stdout().write_all(bytes),
+        ERR => console.rt.stderr().write_all(bytes),
+        STATUS => write_status(console, bytes),
+        _ => Err(Error::from_raw_os_error(NO_OUTPUT)),
+    }
+}
+
+fn print_to<D: Display + Drop>(console: &Console, fd: i32, value: D) -> Result<()> {
+    match fd {
+        OUT => console.rt.stdout().print(value),
+        ERR => console.rt.stderr().print(value),
+        STATUS => print_status(console, value),
+        _ => Err(Error::from_raw_os_error(NO_OUTPUT)),
+    }
+}
+
+// Writes all of it to one of the three outputs, and says whether that was done.
+pub fn write(console: &Console, fd: i32, bytes: &[u8]) -> bool {
+    if console.is_closed() {
+        return true;
+    }
+    console.was_written(write_to(console, fd, bytes))
+}
+
+// The same of a value in words or digits.
+pub fn print<D: Display + Drop>(console: &Console, fd: i32, value: D) -> bool {
+    if console.is_closed() {
+        return true;
+    }
+    console.was_written(print_to(console, fd, value))
+}
+
+pub fn no_error() -> Error {
+    Error::from_raw_os_error(NO_ERROR)
+}
+
+// Writes an error's words, as `: No such file or directory`, and a line end.
+pub fn write_error(console: &Console, error: Error) {
+    let mut words = Cursor::new([0u8; WORDS_ROOM]);
+    let _ = write!(words, "{error}");
+    let n = words.position() as usize;
+    let room = words.into_inner();
+    let told = before(first(&room, n), b'(');
+    write(console, ERR, b": ");
+    write(console, ERR, without(told, b' '));
+    write(console, ERR, b"\n");
+}
+
+// Puts argument `i` at the start of `space`, and says its length: 0 where there is none, or it is longer.
+pub fn argument(console: &Console, i: usize, space: &mut [u8]) -> usize
+    ensures { result ≤ length space.new }
+{
+    match console.rt.arg(i, space) {
+        Ok(n) => n,
+        Err(_) => 0,
+    }
+}
+
+// Whether argument `i` is longer than the room.
+pub fn is_too_long(console: &Console, i: usize, space: &mut [u8]) -> bool {
+    match console.rt.arg(i, space) {
+        Err(FillError::TooLong) => true,
+        _ => false,
+    }
+}
+
+fn is_given(console: &Console, i: usize) -> bool {
+    let mut space = [0u8; 1];
+    match console.rt.arg(i, &mut space) {
+        Err(FillError::NotPresent) => false,
+        _ => true,
+    }
+}
+
+// How many arguments there are, the program's name among them.
+pub fn argument_count(console: &Console) -> usize {
+    for i in 0..usize::MAX {
+        if !is_given(console, i) {
+            return i;
+        }
+    }
+    usize::MAX
+}
+
+// The name of a file as text. One that is not UTF-8 names no file here.
+fn path_of(bytes: &[u8]) -> Result<&str> {
+    match str::from_utf8(bytes) {
+        Ok(path) => Ok(path),
+        Err(_) => Err(Error::from_raw_os_error(NO_TEXT)),
+    }
+}
+
+pub fn open_read(console: &Console, path: &[u8]) -> Result<File> {
+    File::open(&console.rt, path_of(path)?)
+}
+
+pub fn create_new(console: &Console, path: &[u8]) -> Result<File> {
+    let mut options = OpenOptions::new();
+    options.write(true).create_new(true);
+    options.open(&console.rt, path_of(path)?)
+}
+
+pub fn remove_file(console: &Console, path: &[u8]) -> Result<()> {
+    fs::remove_file(&console.rt, path_of(path)?)
+}
+
+pub fn rename(console: &Console, from: &[u8], to: &[u8]) -> Result<()> {
+    fs::rename(&console.rt, path_of(from)?, path_of(to)?)
+}
