@@ -9,6 +9,29 @@ pub fn is_party(arg: &[u8]) -> bool {
     same_bytes(before(arg, b'='), b"party")
 }
 
+// Whether argument `i` is `KEY=..`.
+fn is_argument_with(console: &Console, key: &[u8], i: usize) -> bool {
+    let mut space = arg_space();
+    let n = argument(console, i, &mut space);
+    let arg = &space[..n];
+    let own = before(arg, b'=');
+    if own.len() == arg.len() {
+        return false;
+    }
+    same_bytes(own, key)
+}
+
+// The first argument from `from` on that is `KEY=..`; 0 where there is none.
+pub fn argument_with(console: &Console, key: &[u8], from: usize) -> usize {
+    let count = argument_count(console);
+    for i in from..count {
+        if is_argument_with(console, key, i) {
+            return i;
+        }
+    }
+    0
+}
+
 // Whether argument `i` is that word.
 fn is_word(console: &Console, word: &[u8], i: usize) -> bool {
     let mut space = arg_space();

@@ -3,7 +3,7 @@
 use crate::console::{Console, argument, argument_count};
 use crate::fields::{after, after_part, before, first, part_at};
 use crate::files::arg_space;
-use crate::say::{ERR, complain, put_code};
+use crate::say::{ERR, complain, put, put_code};
 use crate::shown::complain_shown;
 use text::bytes::{same_bytes, write_bytes};
 use text::decimal::{IndexParse, parse_u16};
@@ -64,8 +64,16 @@ pub fn parse_code(text: &[u8]) -> CodeParse {
     CodeParse::Invalid
 }
 
+pub fn no_codes() -> Codes {
+    Codes {
+        list: [0u32; LONGEST],
+        len: 0,
+        bad: false,
+    }
+}
+
 // One code more; none past the end.
-fn with(codes: Codes, code: u32) -> Codes {
+pub fn with_code(codes: Codes, code: u32) -> Codes {
     let n = codes.len;
     if n < LONGEST {
         let mut next = codes;
@@ -82,7 +90,7 @@ fn with_range(codes: Codes, from: u32, to: u32) -> Codes {
     let mut code = from;
     let mut i: usize = 0;
     while i < LONGEST {
-        next = with(next, code);
+        next = with_code(next, code);
         if code == to {
             return next;
         }
@@ -232,11 +240,7 @@ fn with_arg(console: &Console, codes: Codes, key: &[u8], kind: u32, i: usize) ->
 
 // The codes of a kind that the arguments from `from` on give under a key, as `buttons`.
 pub fn codes_named(console: &Console, key: &[u8], kind: u32, from: usize) -> Codes {
-    let mut codes = Codes {
-        list: [0u32; LONGEST],
-        len: 0,
-        bad: false,
-    };
+    let mut codes = no_codes();
     let count = argument_count(console);
     let mut i = from;
     while i < count {
@@ -244,6 +248,26 @@ pub fn codes_named(console: &Console, key: &[u8], kind: u32, from: usize) -> Cod
         i += 1;
     }
     codes
+}
+
+// A code of a list, with a comma before it unless it is the first one.
+fn put_listed(console: &Console, fd: i32, code: u32, i: usize) {
+    if i != 0 {
+        put(console, fd, b",");
+    }
+    put_code(console, fd, code);
+}
+
+fn put_list(console: &Console, fd: i32, list: &[u32]) {
+    for i in 0..list.len() {
+        put_listed(console, fd, list[i], i);
+    }
+}
+
+// `10130,10131`
+pub fn put_codes(console: &Console, fd: i32, codes: Codes) {
+    let list = codes.list;
+    put_list(console, fd, first_codes(&list, codes.len));
 }
 
 // The first codes of a list, or all where there are fewer.

@@ -93,6 +93,17 @@ pub fn nth_part(s: &[u8], n: usize, b: u8) -> &[u8] {
     &s[..0]
 }
 
+// How many parts there are that end at a `b`.
+pub fn count_parts(s: &[u8], b: u8) -> usize {
+    let mut at: usize = 0;
+    let mut i: usize = 0;
+    while at < s.len() {
+        i = std::num::wrapping_add_usize(i, 1);
+        at = after_part(s, at, b);
+    }
+    i
+}
+
 // A text without one `b` at its end.
 pub fn without(s: &[u8], b: u8) -> &[u8] {
     if s.len() == 0 {

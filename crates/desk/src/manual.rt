@@ -1,5 +1,6 @@
 // What `hub help COMMAND` says. Each function answers whether the command is one of its own.
 use crate::console::Console;
+use crate::manual_pads::put_pad;
 use crate::say::put;
 use text::bytes::same_bytes;
 
@@ -24,6 +25,35 @@ fn put_insert(console: &Console, fd: i32) {
     );
 }
 
+fn put_edit(console: &Console, fd: i32) {
+    put(
+        console,
+        fd,
+        b"hub edit STORE UUID KEY:VALUE .. [party=NUMBER]
+  Changes pairs of the line held under that UUID, and keeps the rest, hats and half axes too: a
+  pair whose KEY the line has takes its place, another one comes behind the last pair, and KEY:
+  with no value takes the pair out. 'hub help elements' lists the keys; bN is button N, aN axis N,
+  h0.1 up on hat 0. The new line is read first: where that is refused, nothing is changed. Prints
+  the line as it was and as it is, and the elements that are no longer bound.
+  To exchange a and b: hub edit hall.store 030000005e0400008e02000014010000 a:b1 b:b0
+  'hub undo STORE' takes it back. party=7 changes the line of league organiser 7.
+",
+    );
+}
+
+fn put_remove(console: &Console, fd: i32) {
+    put(
+        console,
+        fd,
+        b"hub remove STORE UUID [party=NUMBER]
+  Takes the line held under that UUID out of the store: the parties' shares are set and the other
+  lines filed anew, each by its party and in its order, and compared with what they were. Where
+  they would not be the same, nothing is changed, and it says why. 'hub undo STORE' brings the line
+  back.
+",
+    );
+}
+
 // The commands that change a store, but for save.
 pub fn put_filing(console: &Console, fd: i32, command: &[u8]) -> bool {
     if same_bytes(command, b"new") {
@@ -39,6 +69,14 @@ pub fn put_filing(console: &Console, fd: i32, command: &[u8]) -> bool {
     }
     if same_bytes(command, b"insert") {
         put_insert(console, fd);
+        return true;
+    }
+    if same_bytes(command, b"edit") {
+        put_edit(console, fd);
+        return true;
+    }
+    if same_bytes(command, b"remove") {
+        put_remove(console, fd);
         return true;
     }
     if same_bytes(command, b"clear") {
@@ -68,6 +106,19 @@ pub fn put_filing(console: &Console, fd: i32, command: &[u8]) -> bool {
     false
 }
 
+fn put_export(console: &Console, fd: i32) {
+    put(
+        console,
+        fd,
+        b"hub export STORE [digits] [party=NUMBER]
+  Prints the hall's lines, or those of a league organiser, for other programs: in the order in
+  which they were filed, whole, and with 'platform:Linux' where a line has no platform. 'digits'
+  spells each UUID in 32 digits, the one form that consoles read; such a line gives the same map.
+  Control bytes are printed as they are, so send it to a file.
+",
+    );
+}
+
 // The commands that look into a store.
 pub fn put_holding(console: &Console, fd: i32, command: &[u8]) -> bool {
     if same_bytes(command, b"find") {
@@ -95,6 +146,10 @@ pub fn put_holding(console: &Console, fd: i32, command: &[u8]) -> bool {
   'party 7: '.
 ",
         );
+        return true;
+    }
+    if same_bytes(command, b"export") {
+        put_export(console, fd);
         return true;
     }
     if same_bytes(command, b"check") {
@@ -247,6 +302,21 @@ hub default layout [--csv]
     false
 }
 
+fn put_tidy(console: &Console, fd: i32) {
+    put(
+        console,
+        fd,
+        b"hub tidy FILE
+  Prints a list of at most 1048576 bytes with the pairs of each line by hand side: the left stick,
+  shoulder, trigger and the directions; then the right ones, with a, b, c, x, y and z; then the
+  rest. FILE itself is not changed. A line gives the same map as before, for every pad whose lists
+  have no code twice and none of a hat (10220 to 10223, 30010, 30011). Left alone are comments,
+  lines that are refused, lines that bind a button or an axis twice, unlike, since the later pair
+  wins there, and lines that bind a direction of a hat to another element than its own.
+",
+    );
+}
+
 // The commands that need no store.
 pub fn put_others(console: &Console, fd: i32, command: &[u8]) -> bool {
     if same_bytes(command, b"lint") {
@@ -262,6 +332,14 @@ pub fn put_others(console: &Console, fd: i32, command: &[u8]) -> bool {
   over. Lines that start with # are comments, and not read.
 ",
         );
+        return true;
+    }
+    if same_bytes(command, b"tidy") {
+        put_tidy(console, fd);
+        return true;
+    }
+    if same_bytes(command, b"pad") {
+        put_pad(console, fd);
         return true;
     }
     if same_bytes(command, b"demo") {

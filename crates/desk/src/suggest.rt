@@ -35,7 +35,7 @@ fn small(b: u8) -> u8 {
     b + 32
 }
 
-fn common_start(a: &[u8], b: &[u8]) -> usize {
+pub fn common_start(a: &[u8], b: &[u8]) -> usize {
     let mut i: usize = 0;
     while i < a.len() {
         if b.len() <= i {

@@ -1,5 +1,6 @@
 // Refusals in words: document 01's number, what it means, and what it is about. bindings/declared holds these words to those of
 // the header and of the Rust crate.
+use crate::advice::put_advice;
 use crate::console::Console;
 use crate::fields::nth_part;
 use crate::say::{ERR, REFUSED, complain, put, put_code, put_number};
@@ -57,10 +58,7 @@ pub fn refused(console: &Console, number: usize) -> u8 {
     put_refused(console, ERR, number);
     complain(console, b"\n");
     if number == 24 {
-        complain(
-            console,
-            b"  name an organiser, party=1 to party=255, or leave party= out: then it is the hall's line\n",
-        );
+        put_advice(console, ERR, number);
     }
     REFUSED
 }
