@@ -1,7 +1,7 @@
 // Elements by name: the SDL idents, which the library's tables hold, and the source's names.
 use desk::console::Console;
 use desk::fields::{after_part, first, less, nth_part, part_at};
-use desk::say::{OUT, put, say};
+use desk::say::{DONE, OUT, put, say};
 use desk::shown::put_space;
 use desk::suggest::{Near, nothing_near, put_suggestion, with_name, with_names};
 use line::ev::{Axis, AxisOrBtn, Button};
@@ -41,6 +41,9 @@ DPadX
 DPadY";
 
 const NOWHERE: u16 = 65535;
+
+// The columns of a name in the table of elements.
+const NAME_WIDTH: usize = 15;
 
 // Which name of a list is `key`.
 fn name_place(names: &[u8], key: &[u8]) -> u16 {
@@ -178,6 +181,51 @@ pub fn say_button(console: &Console, b: Button, width: usize) {
     let name = nth_part(&BUTTON_NAMES, b.0 as usize, b'\n');
     say(console, name);
     put_space(console, OUT, less(width, name.len()));
+}
+
+fn say_axis(console: &Console, a: Axis, width: usize) {
+    let name = nth_part(&AXIS_NAMES, a.0 as usize, b'\n');
+    say(console, name);
+    put_space(console, OUT, less(width, name.len()));
+}
+
+// `LeftTrigger    leftshoulder`; Unknown has no row.
+fn say_names(console: &Console, e: AxisOrBtn) {
+    if is_left_out(e) {
+        return;
+    }
+    say(console, b"  ");
+    match e {
+        AxisOrBtn::Btn(b) => say_button(console, b, NAME_WIDTH),
+        AxisOrBtn::Axis(a) => say_axis(console, a, NAME_WIDTH),
+    }
+    let ident = ident_of(e);
+    let name = ident.name;
+    say(console, first(&name, ident.len));
+    if ident.len == 0 {
+        say(console, b"-");
+    }
+    say(console, b"\n");
+}
+
+fn say_all_names(console: &Console) {
+    for k in 0..ELEMENTS {
+        say_names(console, element_at(k));
+    }
+}
+
+// `hub help elements`
+pub fn help_on_elements(console: &Console) -> u8 {
+    say(console, b"  name           SDL name\n");
+    say_all_names(console);
+    say(
+        console,
+        b"hub save takes both spellings, a mapping line the SDL name alone, as it stands here. LeftTrigger is
+the shoulder button (leftshoulder), LeftTrigger2 the trigger (lefttrigger); right likewise. Where
+there is a -, no line can name the element.
+",
+    );
+    DONE
 }
 
 // `South (a)`

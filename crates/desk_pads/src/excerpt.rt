@@ -108,7 +108,7 @@ fn put_excerpt(console: &Console, fd: i32, line: &[u8], place: usize) {
 }
 
 // A key without the sign of its half.
-fn unsigned(key: &[u8]) -> &[u8] {
+pub fn unsigned(key: &[u8]) -> &[u8] {
     if before(key, b'+').len() == 0 {
         return after(key, b'+');
     }

@@ -2,14 +2,18 @@
 #![tactic(auto)]
 
 pub mod bound;
+pub mod devices;
 pub mod elements;
 pub mod excerpt;
 pub mod holders;
 pub mod layout;
+pub mod pairs;
 pub mod playing;
+pub mod plugged;
 pub mod refusals;
 pub mod reports;
 pub mod slots;
 pub mod table;
 pub mod telling;
+pub mod tidying;
 pub mod values;
