@@ -1,8 +1,7 @@
 // What an insert makes of each line of a list.
-use desk::codes::first_codes;
 use desk::fields::{after_part, bare, before, first, line_at};
 use desk::files::arg_space;
-use line::reading::{SdlAnswer, parse_sdl_mapping};
+use desk_pads::pairs::is_readable;
 use std::num::wrapping_add_usize;
 use store::calls::{Answer, insert};
 use store::parties::Party;
@@ -77,18 +76,6 @@ pub fn kind_of(line: &[u8]) -> LineKind {
         return LineKind::NoUuid;
     }
     trial(line)
-}
-
-// Whether a line can be read, with no codes.
-fn is_readable(line: &[u8]) -> bool {
-    let none = [0u32; 1];
-    let codes = first_codes(&none, 0);
-    let reading = parse_sdl_mapping(line, codes, codes);
-    let answer = reading.answer;
-    match answer {
-        SdlAnswer::Accepted => true,
-        SdlAnswer::Refused(_) => false,
-    }
 }
 
 fn with_no_uuid(census: Census, number: usize, at: usize) -> Census {

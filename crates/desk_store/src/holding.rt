@@ -20,11 +20,11 @@ use text::uuid::{Uuid, UuidParse};
 // A record of the index: its bytes, whether it is a line's, its owner, 0 for the hall, and the length of its line; all 0
 // where there is none.
 #[derive(Clone, Copy)]
-struct Record {
-    size: usize,
-    line: bool,
-    owner: u8,
-    len: usize,
+pub struct Record {
+    pub size: usize,
+    pub line: bool,
+    pub owner: u8,
+    pub len: usize,
 }
 
 // The lines held, how many of them are organisers', their bytes, the shares, and the end of all records.
@@ -82,6 +82,15 @@ fn find_held(console: &Console, store: &[u8], party: Party, id: Uuid) -> u8 {
         return status;
     }
     say_line(console, &index, &text, party, id)
+}
+
+// Whether a store is sound, and the party one that may look into it: what is refused is said.
+pub fn sound_status(console: &Console, index: &[u8], text: &[u8], party: Party) -> u8 {
+    let looked = found(index, text, party, Uuid::NIL).outcome();
+    if let LookOutcome::CannotLook(refusal) = looked {
+        return refused_by(console, refusal);
+    }
+    DONE
 }
 
 fn find_asked(console: &Console, store: &[u8], key: &[u8], caller: Caller) -> u8 {
@@ -161,7 +170,7 @@ fn share_record(index: &[u8], at: usize) -> Record {
 }
 
 // The record that starts at `at`.
-fn record_at(index: &[u8], at: usize) -> Record {
+pub fn record_at(index: &[u8], at: usize) -> Record {
     let kind = section(index, at, 1);
     if same_bytes(kind, b"\x01") {
         return hall_record(index, at);
@@ -293,9 +302,9 @@ fn say_extent(console: &Console, held: Extent, index: &[u8], text: &[u8]) {
 }
 
 pub fn say_store(console: &Console, index: &[u8], text: &[u8], shown: bool) -> u8 {
-    let looked = found(index, text, Party::Hall, Uuid::NIL).outcome();
-    if let LookOutcome::CannotLook(refusal) = looked {
-        return refused_by(console, refusal);
+    let status = sound_status(console, index, text, Party::Hall);
+    if status != DONE {
+        return status;
     }
     if !shown {
         say(console, b"sound: ");

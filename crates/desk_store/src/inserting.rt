@@ -1,16 +1,19 @@
 // The command insert, and what it says of a list.
 use crate::census::{Census, census_of, count_lines, place_of_line};
+use crate::choosing::{choice_of, is_one, keep_matching};
 use crate::holding::room_in;
 use crate::parties::{caller_named, record_of};
 use crate::shares::{complain_claims, free_for};
+use desk::arguments::argument_with;
 use desk::changing::{Held, may_change, replace};
-use desk::console::Console;
-use desk::fields::{bare, before, first, less, line_at};
-use desk::files::{List, half, list_space, load, read_list};
+use desk::console::{Console, argument};
+use desk::fields::{after, bare, before, first, less, line_at};
+use desk::files::{List, arg_space, half, list_space, load, read_list};
 use desk::forms::say_other_forms;
 use desk::help::wrong_use;
 use desk::say::{DONE, ERR, OUT, REFUSED, TROUBLE, complain, put_number, say, say_number};
-use desk::words::put_refused;
+use desk::shown::say_shown;
+use desk::words::{none, put_refused};
 use desk_pads::excerpt::put_start;
 use desk_pads::refusals::refused_by;
 use line::refusal::{Outcome, Place, Refusal};
@@ -294,26 +297,93 @@ fn insert_text(console: &Console, held: Held, store: &[u8], party: Party, list: 
     say_inserted(console, inserted, list, room.held, &index, &text, party)
 }
 
-fn insert_file(console: &Console, held: Held, store: &[u8], party: Party, path: &[u8]) -> u8 {
+// How many lines of a list are chosen.
+fn say_chosen(console: &Console, lines: usize, all: usize, wanted: &[u8], by_pads: bool) {
+    say_number(console, lines);
+    say(console, b" lines of ");
+    say_number(console, all);
+    if by_pads {
+        say(console, b" are of pads that are plugged in\n");
+        return;
+    }
+    say(console, b" have '");
+    say_shown(console, wanted);
+    say(console, b"' in name or UUID\n");
+}
+
+// The same of the lines that argument `only` chooses.
+fn insert_matching(
+    console: &Console,
+    held: Held,
+    store: &[u8],
+    party: Party,
+    list: &[u8],
+    only: usize,
+) -> u8 {
+    let mut space = arg_space();
+    let n = argument(console, only, &mut space);
+    let wanted = after(&space[..n], b'=');
+    let choice = choice_of(console, wanted);
+    let guids = choice.guids;
+    if guids.status != DONE {
+        return guids.status;
+    }
+    let kept = keep_matching(list, wanted, choice);
+    let bytes = kept.bytes;
+    let lines = first(&bytes, kept.len);
+    if kept.over {
+        complain(
+            console,
+            b"The lines that match have more than the 65535 bytes of a store; nothing is filed.\n",
+        );
+        return TROUBLE;
+    }
+    say_chosen(
+        console,
+        count_lines(lines),
+        count_lines(list),
+        wanted,
+        choice.by_pads,
+    );
+    if kept.len == 0 {
+        return none(console);
+    }
+    insert_text(console, held, store, party, lines)
+}
+
+fn insert_file(
+    console: &Console,
+    held: Held,
+    store: &[u8],
+    party: Party,
+    path: &[u8],
+    only: usize,
+) -> u8 {
     let mut space = list_space();
     match read_list(console, path, &mut space) {
-        List::Read(n) => insert_text(console, held, store, party, first(&space, n)),
+        List::Read(n) => {
+            if only == 0 {
+                return insert_text(console, held, store, party, first(&space, n));
+            }
+            insert_matching(console, held, store, party, first(&space, n), only)
+        }
         List::Failed => TROUBLE,
     }
 }
 
-// `hub insert STORE FILE ..`; the party stands from argument `from` on.
+// `hub insert STORE FILE ..`; the party and `only=` stand from argument `from` on.
 pub fn insert_list(console: &Console, held: Held, store: &[u8], path: &[u8], from: usize) -> u8 {
     if !may_change(console, held) {
         return TROUBLE;
     }
     let caller = caller_named(console, from);
-    if caller.others != 0 {
+    let only = argument_with(console, b"only", from);
+    if !is_one(caller.others, only) {
         return wrong_use(console, b"insert");
     }
     if caller.bad {
         return TROUBLE;
     }
     let party = caller.party;
-    insert_file(console, held, store, party, path)
+    insert_file(console, held, store, party, path, only)
 }

@@ -2,7 +2,10 @@
 #![tactic(auto)]
 
 pub mod census;
+pub mod choosing;
 pub mod demo;
+pub mod editing;
+pub mod exporting;
 pub mod filing;
 pub mod held_maps;
 pub mod holding;
@@ -11,6 +14,8 @@ pub mod lint;
 pub mod map_changes;
 pub mod mappings;
 pub mod parties;
+pub mod records;
+pub mod removing;
 pub mod saving;
 pub mod shares;
 pub mod test_args;

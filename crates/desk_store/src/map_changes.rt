@@ -28,7 +28,7 @@ struct MapChange {
 }
 
 // A number of one to nine digits, else NEVER.
-fn parse_count(s: &[u8]) -> usize {
+pub fn parse_count(s: &[u8]) -> usize {
     if s.len() == 0 {
         return NEVER;
     }

@@ -9,6 +9,7 @@ use desk::near::complain_near;
 use desk::say::{DONE, TROUBLE, complain, say};
 use desk::shown::say_shown;
 use desk::words::none;
+use desk_pads::plugged::{Plugged, is_pad_name, pad_named};
 use desk_pads::refusals::{refused_by, refused_outcome};
 use desk_pads::slots::{Slots, slots_named};
 use desk_pads::table::{say_map, say_reading};
@@ -138,11 +139,38 @@ fn show_request(console: &Console, store: &[u8], id: Uuid, asked: Request) -> u8
     show_held(console, &index, &text, id, asked)
 }
 
+// A request with a pad's lists, where it has none of its own.
+pub fn with_pad(asked: Request, pad: Plugged) -> Request {
+    let mut next = asked;
+    let own = asked.buttons;
+    if own.len == 0 {
+        let buttons = pad.buttons;
+        next.buttons = buttons;
+    }
+    let own = asked.axes;
+    if own.len == 0 {
+        let axes = pad.axes;
+        next.axes = axes;
+    }
+    next
+}
+
+fn show_pad(console: &Console, store: &[u8], key: &[u8], asked: Request) -> u8 {
+    let pad = pad_named(console, key);
+    if pad.status != DONE {
+        return pad.status;
+    }
+    show_request(console, store, pad.id, with_pad(asked, pad))
+}
+
 // `hub show STORE UUID ..`; the lists stand from argument `from` on.
 pub fn show_mapping(console: &Console, store: &[u8], key: &[u8], from: usize) -> u8 {
     let asked = asked_from(console, from);
     if !may_show(console, asked) {
         return TROUBLE;
+    }
+    if is_pad_name(key) {
+        return show_pad(console, store, key, asked);
     }
     let parsed = Uuid::parse_str(key);
     match parsed {
@@ -153,7 +181,21 @@ pub fn show_mapping(console: &Console, store: &[u8], key: &[u8], from: usize) ->
 
 // `hub default ..`
 pub fn default_mapping(console: &Console, from: usize) -> u8 {
+    default_asked(console, asked_from(console, from))
+}
+
+// `hub default pad:1 ..`
+pub fn default_pad(console: &Console, key: &[u8], from: usize) -> u8 {
     let asked = asked_from(console, from);
+    let pad = pad_named(console, key);
+    if pad.status != DONE {
+        return pad.status;
+    }
+    default_asked(console, with_pad(asked, pad))
+}
+
+// The default map by the lists.
+fn default_asked(console: &Console, asked: Request) -> u8 {
     if !has_lists_only(console, asked) {
         return TROUBLE;
     }

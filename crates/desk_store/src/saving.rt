@@ -1,7 +1,7 @@
 // The command save.
 use crate::holding::no_uuid;
 use crate::inserting::complain_full;
-use crate::mappings::{Request, asked_from, is_good};
+use crate::mappings::{Request, asked_from, is_good, with_pad};
 use desk::changing::{Held, may_change, replace};
 use desk::codes::{Codes, first_codes, has_code};
 use desk::console::{Console, argument};
@@ -11,6 +11,7 @@ use desk::shown::say_shown;
 use desk::words::put_refused;
 use desk_pads::bound::{say_lost, slot_with, twins};
 use desk_pads::elements::{element_at, put_element, put_ident};
+use desk_pads::plugged::{is_pad_name, pad_named};
 use desk_pads::refusals::{refused_by, refused_outcome};
 use desk_pads::slots::Slots;
 use desk_pads::table::say_map;
@@ -243,6 +244,23 @@ fn save_request(
     TROUBLE
 }
 
+// The same for a pad that is plugged in; the other arguments stand from `from` on.
+fn save_pad(
+    console: &Console,
+    held: Held,
+    store: &[u8],
+    key: &[u8],
+    name: &[u8],
+    from: usize,
+) -> u8 {
+    let asked = asked_from(console, from);
+    let pad = pad_named(console, key);
+    if pad.status != DONE {
+        return pad.status;
+    }
+    save_request(console, held, store, pad.id, name, with_pad(asked, pad))
+}
+
 // `hub save STORE UUID NAME ..`; the name is argument `at`.
 pub fn save_mapping(console: &Console, held: Held, store: &[u8], key: &[u8], at: usize) -> u8 {
     if !may_change(console, held) {
@@ -250,6 +268,10 @@ pub fn save_mapping(console: &Console, held: Held, store: &[u8], key: &[u8], at:
     }
     let mut name = arg_space();
     let n = argument(console, at, &mut name);
+    let from = std::num::wrapping_add_usize(at, 1);
+    if is_pad_name(key) {
+        return save_pad(console, held, store, key, &name[..n], from);
+    }
     let parsed = Uuid::parse_str(key);
     match parsed {
         UuidParse::Parsed(spelled) => save_request(
@@ -258,7 +280,7 @@ pub fn save_mapping(console: &Console, held: Held, store: &[u8], key: &[u8], at:
             store,
             spelled.id,
             &name[..n],
-            asked_from(console, std::num::wrapping_add_usize(at, 1)),
+            asked_from(console, from),
         ),
         UuidParse::Invalid => no_uuid(console, key),
     }

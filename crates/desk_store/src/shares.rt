@@ -16,7 +16,7 @@ use text::bytes::same_bytes;
 use text::decimal::{IndexParse, parse_u16};
 
 // The hall and the organisers from 1 to 255.
-const OWNERS: usize = 256;
+pub const OWNERS: usize = 256;
 
 // How many parties have a share, and the sum over all parties of the larger of use and share.
 #[derive(Clone, Copy)]
@@ -46,6 +46,12 @@ fn told_of(index: &[u8], text: &[u8], owner: u8) -> ShareUse {
         ShareTold::Told(u) => u,
         ShareTold::Unsound => ShareUse { share: 0, used: 0 },
     }
+}
+
+// The share of a party in a sound store.
+pub fn share_in(index: &[u8], text: &[u8], owner: u8) -> usize {
+    let u = told_of(index, text, owner);
+    u.share
 }
 
 fn larger(u: ShareUse) -> usize {

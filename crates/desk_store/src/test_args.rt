@@ -1,21 +1,24 @@
 // The arguments of the command test after the store and the UUID.
 use crate::held_maps::Lists;
-use crate::map_changes::is_change;
+use crate::map_changes::{is_change, parse_count};
 use crate::parties::{Caller, caller_named};
 use desk::arguments::is_party;
 use desk::codes::{ABS, Codes, KEY, codes_named};
 use desk::console::{Console, argument, argument_count};
-use desk::fields::before;
+use desk::fields::{after, before};
 use desk::files::arg_space;
 use desk::help::wrong_use;
 use desk::say::{DONE, TROUBLE, complain};
 use desk::shown::complain_shown;
 use desk::tally::more;
+use desk_pads::playing::NEVER;
+use desk_pads::plugged::Plugged;
 use pad::two::Which;
 use text::bytes::same_bytes;
 
 // Which arguments name the recordings and the second pad's UUID, and how many do; which lists the second pad has of its
-// own; one that is about a second pad; and whether one was not understood.
+// own; after how many records it ends, and how many arguments say so; one that is about a second pad; and whether one was
+// not understood.
 #[derive(Clone, Copy)]
 pub struct Named {
     pub stream: usize,
@@ -26,6 +29,8 @@ pub struct Named {
     pub uuids: usize,
     pub has_buttons: bool,
     pub has_axes: bool,
+    pub limit: usize,
+    pub limits: usize,
     pub second: usize,
     pub bad: bool,
 }
@@ -50,6 +55,8 @@ fn nothing_named() -> Named {
         uuids: 0,
         has_buttons: false,
         has_axes: false,
+        limit: NEVER,
+        limits: 0,
         second: 0,
         bad: false,
     }
@@ -81,6 +88,25 @@ fn with_change(console: &Console, named: Named, arg: &[u8]) -> Named {
         b": a change of map is N:UUID, a number of records with one to nine digits, and a UUID\n",
     );
     let mut next = named;
+    next.bad = true;
+    next
+}
+
+// `events=20`
+fn with_limit(console: &Console, named: Named, arg: &[u8]) -> Named {
+    let mut next = named;
+    next.limit = parse_count(after(arg, b'='));
+    next.limits = more(named.limits);
+    if 0 < next.limit {
+        if next.limit != NEVER {
+            return next;
+        }
+    }
+    complain_shown(console, arg);
+    complain(
+        console,
+        b": a number of events has one to nine digits, and is not 0\n",
+    );
     next.bad = true;
     next
 }
@@ -119,6 +145,9 @@ fn with_key(console: &Console, named: Named, i: usize, key: &[u8], arg: &[u8]) -
         next.beside = i;
         next.besides = more(named.besides);
         return next;
+    }
+    if same_bytes(key, b"events") {
+        return with_limit(console, named, arg);
     }
     if same_bytes(key, b"buttons") {
         return named;
@@ -183,6 +212,32 @@ pub fn request_from(console: &Console, from: usize) -> Request {
     }
 }
 
+// A list of the arguments, or a pad's own where they give none.
+fn own_list(list: Codes, own: Codes) -> Codes {
+    if list.len == 0 {
+        return own;
+    }
+    list
+}
+
+// A request with a pad's lists, where it has none of its own; the second pad has the first one's, as ever.
+pub fn with_lists(asked: Request, pad: Plugged) -> Request {
+    let named = asked.named;
+    let given = asked.first;
+    let beside = asked.second;
+    let buttons = own_list(given.buttons, pad.buttons);
+    let axes = own_list(given.axes, pad.axes);
+    let first = Lists { buttons, axes };
+    let second = Lists {
+        buttons: list_of(named.has_buttons, beside.buttons, buttons),
+        axes: list_of(named.has_axes, beside.axes, axes),
+    };
+    let mut next = asked;
+    next.first = first;
+    next.second = second;
+    next
+}
+
 // A pad's codes.
 pub fn lists_of(asked: Request, which: Which) -> Lists {
     let first = asked.first;
@@ -241,6 +296,9 @@ pub fn request_status(console: &Console, asked: Request) -> u8 {
         return wrong_use(console, b"test");
     }
     if 1 < named.uuids {
+        return wrong_use(console, b"test");
+    }
+    if 1 < named.limits {
         return wrong_use(console, b"test");
     }
     if named.besides == 0 {

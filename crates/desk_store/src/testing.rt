@@ -2,18 +2,20 @@
 use crate::held_maps::{held_status, read_with, reading_status};
 use crate::holding::no_uuid;
 use crate::map_changes::{changes_status, due_from, never_status, with_changes};
-use crate::test_args::{Request, is_two, lists_of, request_from, request_status};
+use crate::test_args::{Request, is_two, lists_of, request_from, request_status, with_lists};
 use desk::console::{Console, argument};
 use desk::fields::after;
 use desk::files::{arg_space, half, load};
-use desk::say::{DONE, TROUBLE, say};
-use desk::shown::say_shown;
+use desk::say::{DONE, TROUBLE, complain, say};
+use desk::shown::{complain_shown, say_shown};
 use desk::streams::{Stream, Turn, end_status, is_open, moved, no_stream, open_stream, turn_of};
 use desk::tally::{say_tally, tally_status};
 use desk_pads::playing::{NEVER, Play, Seat, new_play, new_seat, say_end};
+use desk_pads::plugged::{is_pad_name, pad_named};
 use desk_pads::telling::with_input;
 use line::mapping::Mapping;
 use pad::two::Which;
+use std::num::wrapping_add_usize;
 use store::near::get_near;
 use text::uuid::{Uuid, UuidParse};
 
@@ -56,7 +58,30 @@ fn ended(
     worse(worse(read, came), tally_status(tally))
 }
 
-// Tells the records of both recordings, in the order of their times.
+// Whether so many records of buttons and axes were told as were asked for.
+fn is_enough(play: Play, limit: usize) -> bool {
+    let first = play.first;
+    let second = play.second;
+    limit <= wrapping_add_usize(first.records, second.records)
+}
+
+// Whose record comes next; it is over where enough were told.
+fn turn_until(enough: bool, first: &Stream, second: &Stream) -> Turn {
+    if enough {
+        return Turn::Over;
+    }
+    turn_of(first, second)
+}
+
+// A recording at its next record; where enough were told it stays, since a device may have no next one.
+fn moved_unless(enough: bool, stream: Stream) -> Stream {
+    if enough {
+        return stream;
+    }
+    moved(stream)
+}
+
+// Tells the records of both recordings, in the order of their times, up to as many as were asked for.
 fn tell(
     console: &Console,
     index: &[u8],
@@ -68,6 +93,7 @@ fn tell(
     from_arg: &[u8],
     with_arg: &[u8],
 ) -> u8 {
+    let limit = asked.named.limit;
     let mut play = start;
     let mut first = one;
     let mut second = other;
@@ -76,17 +102,17 @@ fn tell(
         if console.is_closed() {
             return TROUBLE;
         }
-        let turn = turn_of(&first, &second);
+        let turn = turn_until(is_enough(play, limit), &first, &second);
         match turn {
             Turn::First(input) => {
                 play = with_input(console, play, Which::First, input);
                 play = with_changes(console, index, text, asked, play, Which::First);
-                first = moved(first);
+                first = moved_unless(is_enough(play, limit), first);
             }
             Turn::Second(input) => {
                 play = with_input(console, play, Which::Second, input);
                 play = with_changes(console, index, text, asked, play, Which::Second);
-                second = moved(second);
+                second = moved_unless(is_enough(play, limit), second);
             }
             Turn::Over => {
                 return ended(console, play, &first, &second, from_arg, with_arg);
@@ -284,9 +310,38 @@ fn test_ids(console: &Console, store: &[u8], id: Uuid, asked: Request) -> u8 {
     }
 }
 
+fn no_device(console: &Console, key: &[u8]) -> u8 {
+    complain_shown(console, key);
+    complain(
+        console,
+        b": no device of this pad is listed; from=FILE names a recording\n",
+    );
+    TROUBLE
+}
+
+// The same for a pad that is plugged in. The script `hub` gives its device as from=.
+fn test_pad(console: &Console, store: &[u8], key: &[u8], asked: Request) -> u8 {
+    let named = asked.named;
+    let pad = pad_named(console, key);
+    if pad.status != DONE {
+        return pad.status;
+    }
+    if named.streams == 0 {
+        return no_device(console, key);
+    }
+    let status = request_status(console, asked);
+    if status != DONE {
+        return status;
+    }
+    test_ids(console, store, pad.id, with_lists(asked, pad))
+}
+
 // `hub test STORE UUID ..`; the other arguments stand from `from` on.
 pub fn test_mapping(console: &Console, store: &[u8], key: &[u8], from: usize) -> u8 {
     let asked = request_from(console, from);
+    if is_pad_name(key) {
+        return test_pad(console, store, key, asked);
+    }
     let status = request_status(console, asked);
     if status != DONE {
         return status;
