@@ -3,14 +3,19 @@
 
 use desk::changing::{Held, held_from, not_held};
 use desk::console::{Console, argument, argument_count, is_too_long, print};
+use desk::fields::{after, before};
 use desk::files::arg_space;
-use desk::help;
 use desk::help::wrong_use;
 use desk::say::{STATUS, TROUBLE, complain};
-use desk_pads::layout;
-use desk_store::{demo, filing, holding, inserting, lint, mappings, saving, shares, testing};
+use desk::{advice, help};
+use desk_pads::{elements, layout, plugged, tidying};
+use desk_store::{
+    demo, editing, exporting, filing, holding, inserting, lint, mappings, removing, saving, shares,
+    testing,
+};
 use std::process::ExitCode;
 use text::bytes::same_bytes;
+use text::decimal::{IndexParse, parse_u16};
 
 // More arguments than there are.
 const MANY: usize = 4294967295;
@@ -50,6 +55,45 @@ fn is_help(arg: &[u8]) -> bool {
     same_bytes(arg, b"-h")
 }
 
+// `hub help COMMAND`, `hub help elements`, `hub help NUMBER`
+fn help_about(console: &Console, what: &[u8]) -> u8 {
+    if same_bytes(what, b"elements") {
+        return elements::help_on_elements(console);
+    }
+    let number = parse_u16(what);
+    match number {
+        IndexParse::Parsed(n) => advice::help_on_refusal(console, n as usize),
+        IndexParse::Invalid => help::help_on(console, what),
+    }
+}
+
+// `hub pad`, `hub pad from=FILE`
+fn pads_asked(console: &Console, a: &[u8]) -> u8 {
+    if a.len() == 0 {
+        return plugged::list_pads(console, b"");
+    }
+    let copy = after(a, b'=');
+    if same_bytes(before(a, b'='), b"from") {
+        if 0 < copy.len() {
+            return plugged::list_pads(console, copy);
+        }
+    }
+    wrong_use(console, b"pad")
+}
+
+// `hub default ..`
+fn run_default(console: &Console, at: usize, given: usize, a: &[u8], b: &[u8]) -> u8 {
+    if plugged::is_pad_name(a) {
+        return mappings::default_pad(console, a, nth(at, 2));
+    }
+    if given < 3 {
+        if same_bytes(a, b"layout") {
+            return layout::default_layout(console, b);
+        }
+    }
+    mappings::default_mapping(console, nth(at, 1))
+}
+
 // The commands that change a store.
 fn run_changing(
     console: &Console,
@@ -71,6 +115,12 @@ fn run_changing(
     }
     if is(command, b"share", given, 3, 3) {
         return shares::give_share(console, held, a, b, nth(at, 3));
+    }
+    if is(command, b"edit", given, 3, MANY) {
+        return editing::edit_line(console, held, a, b, nth(at, 3));
+    }
+    if is(command, b"remove", given, 2, MANY) {
+        return removing::remove_line(console, held, a, b, nth(at, 3));
     }
     if is(command, b"clear", given, 1, 1) {
         return filing::clear_store(console, held, a);
@@ -97,6 +147,9 @@ fn run_looking(
     if is(command, b"list", given, 1, 1) {
         return holding::list_store(console, a, true);
     }
+    if is(command, b"export", given, 1, MANY) {
+        return exporting::export_store(console, a, nth(at, 2));
+    }
     if is(command, b"check", given, 1, 1) {
         return holding::list_store(console, a, false);
     }
@@ -113,6 +166,34 @@ fn run_looking(
 }
 
 // The commands that need no store.
+fn run_storeless(
+    console: &Console,
+    held: Held,
+    command: &[u8],
+    at: usize,
+    given: usize,
+    a: &[u8],
+    b: &[u8],
+) -> u8 {
+    if is(command, b"lint", given, 1, 1) {
+        return lint::lint_list(console, a);
+    }
+    if is(command, b"tidy", given, 1, 1) {
+        return tidying::tidy_list(console, a);
+    }
+    if is(command, b"default", given, 0, MANY) {
+        return run_default(console, at, given, a, b);
+    }
+    if is(command, b"pad", given, 0, 1) {
+        return pads_asked(console, a);
+    }
+    if is(command, b"demo", given, 0, 0) {
+        return demo::demo(console);
+    }
+    run_looking(console, held, command, at, given, a, b)
+}
+
+// Help, or a command.
 fn run_command(
     console: &Console,
     held: Held,
@@ -134,27 +215,13 @@ fn run_command(
     if same_bytes(command, b"--version") {
         return help::version(console);
     }
-    if is(command, b"lint", given, 1, 1) {
-        return lint::lint_list(console, a);
-    }
-    if is(command, b"default", given, 1, 2) {
-        if same_bytes(a, b"layout") {
-            return layout::default_layout(console, b);
-        }
-    }
-    if is(command, b"default", given, 0, MANY) {
-        return mappings::default_mapping(console, nth(at, 1));
-    }
-    if is(command, b"demo", given, 0, 0) {
-        return demo::demo(console);
-    }
     if is(command, b"help", given, 1, 1) {
-        return help::help_on(console, a);
+        return help_about(console, a);
     }
     if is(command, b"help", given, 0, 0) {
         return help::help(console);
     }
-    run_looking(console, held, command, at, given, a, b)
+    run_storeless(console, held, command, at, given, a, b)
 }
 
 // Runs the command at argument `at`.
