@@ -33,7 +33,7 @@ DOCUMENTS = ["README.md", "docs/READING.md", "docs/GUARANTEE.md", "docs/DECISION
              "docs/DIFFERENCES.md", "docs/CALLS.md", "docs/PERFORMANCE.md", "docs/HUB.md", "docs/COMPARING.md",
              "docs/GROUP.md"]
 STRICT = ["docs/READING.md", "docs/GUARANTEE.md"]
-FOLDERS = ("crates/", "docs/", "tests/", "bindings/", "differential/", ".ci/")
+FOLDERS = ("crates/", "docs/", "tests/", "bindings/", "differential/", "share/", ".ci/")
 KEYWORDS = set("pub abbrev unfoldable record data where let in use mod as ensures requires result now old new ghost "
                "Type Unit TheVariants".split())
 LAYERS = ("text", "line", "map", "store", "pad")
