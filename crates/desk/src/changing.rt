@@ -9,7 +9,7 @@ use crate::files::arg_space;
 use crate::say::{DONE, TROUBLE, complain};
 use crate::shown::fail;
 use std::fs::{File, Permissions};
-use std::io::{Error, Result, Write};
+use std::io::{Error, ErrorKind, Result, Write};
 use std::os::unix::fs::{PermissionsExt, fchown};
 use text::bytes::{same_bytes, write_bytes};
 
@@ -124,6 +124,9 @@ fn keep(console: &Console, file: &File, held: Held) -> Result<()> {
             console,
             b"The store's owner can't be kept: the new store is yours.\n",
         );
+        if console.is_closed() {
+            return Err(Error::from(ErrorKind::BrokenPipe));
+        }
         let _ = fchown(file, None, Some(held.group));
     }
     file.set_permissions(Permissions::from_mode(held.mode))

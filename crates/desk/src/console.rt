@@ -30,10 +30,11 @@ const NO_OUTPUT: i32 = 9;
 // The room for an error in words.
 const WORDS_ROOM: usize = 128;
 
-// The system, and whether the reader of an output has gone.
+// The system; whether the script `hub` takes a status; and whether the reader of an output has gone.
 #[derive(Drop)]
 pub struct Console {
     rt: HostRuntime,
+    scripted: Cell<bool>,
     closed: Cell<bool>,
 }
 
@@ -41,8 +42,14 @@ impl Console {
     pub fn new(rt: HostRuntime) -> Console {
         Console {
             rt,
+            scripted: Cell::new(false),
             closed: Cell::new(false),
         }
+    }
+
+    // The script `hub` takes a status from its descriptor.
+    pub fn serve_script(&self) {
+        self.scripted.set(true);
     }
 
     // Whether the reader of an output has gone.
@@ -65,7 +72,11 @@ impl Console {
     }
 }
 
+// Without the script that descriptor may be any file, which is left alone.
 fn status_file(console: &Console) -> Result<File> {
+    if !console.scripted.get() {
+        return Err(Error::from_raw_os_error(NO_OUTPUT));
+    }
     let mut options = OpenOptions::new();
     options.append(true);
     options.open(&console.rt, "/dev/fd/3")

@@ -274,13 +274,14 @@ fn exit_code(console: &Console) -> ExitCode {
     ExitCode::SUCCESS
 }
 
-// The program ends with status 0, or as one whose reader has gone. The script `hub` starts it with `--script`, what it says of the store (see
-// changing.console) and the command, and takes the command's status from descriptor 3.
+// The program ends with status 0, or as one whose reader has gone. The script `hub` starts it with `--script`, what it
+// says of the store (see changing.rt) and the command, and takes the command's status from descriptor 3.
 fn main(rt: HostRuntime) -> ExitCode {
     let console = Console::new(rt);
     let mut space = arg_space();
     let n = argument(&console, 1, &mut space);
     if same_bytes(&space[..n], b"--script") {
+        console.serve_script();
         print(
             &console,
             STATUS,
