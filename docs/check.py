@@ -20,8 +20,9 @@ In specs/, a file is of the first kind ("rest on these definitions") or of the s
 these", or "cites these"), and says so in its first lines; Lib.antt is neither. A file of the first kind uses none of the second, and a
 public function's contract names nothing of the second. READING.md and DECISIONS.md name each file of the second kind,
 READING.md each of the exports.
-A library is a layer, the exports, or for programs; those for programs are proved safe and promise nothing, so they have
-no specs/, no C functions and no must-fail/, and no layer depends on one.
+A library is a layer, the exports, for programs or for test programs. Those for programs are proved safe and promise
+nothing, so they have no specs/ and no must-fail/; those for test programs may have both. Neither has C functions, and no
+layer depends on one.
 Where the first lines of a file of specs/ name a theorem, `NAME` in ../proofs/FILE, it is there.
 """
 import glob
@@ -38,6 +39,7 @@ KEYWORDS = set("pub abbrev unfoldable record data where let in use mod as ensure
                "Type Unit TheVariants".split())
 LAYERS = ("text", "line", "map", "store", "pad")
 FOR_PROGRAMS = ("desk", "desk_pads", "desk_store")
+FOR_TESTS = ("parts", "spelling")
 NOT_OURS = ("add_env_mappings add_included_mappings black_box gilrs_core pg_terminate_backend pg_xact_status "
             "synchronous_commit").split()
 WORD = re.compile(r"[^\W\d][\w'′%-]*$")
@@ -62,7 +64,7 @@ def names_in(path):
                 names.add(m.group(1))
             m = re.match(r"\s+(?:pub )?([^\s(:{]+) :\s", line)
         else:
-            for m in re.finditer(r"\b(?:fn|struct|enum|const|mod|impl) (\w+)", line):
+            for m in re.finditer(r"\b(?:fn|struct|enum|const|static|mod|impl) (\w+)", line):
                 names.add(m.group(1))
             m = re.match(r"\s+(?:pub )?(\w+)(?:,|\(|:| \{|$)", line)
         if m:
@@ -353,17 +355,17 @@ def libraries():
     depends = dict(re.findall(r"^(\w+)(?: staticlib)?:(.*)$", open("crates.txt", encoding="utf-8").read(), re.M))
     for crate in [c for c in depends if os.path.exists(f"crates/{c}/src/lib.rt")]:
         found.append(crate)
-        if crate in FOR_PROGRAMS:
+        if crate in FOR_PROGRAMS + FOR_TESTS:
             parts = [p for p in (f"crates/{crate}/specs", f"crates/{crate}/must-fail") if os.path.exists(p)]
             sources = glob.glob(f"crates/{crate}/src/**/*.rt", recursive=True)
-            wrong += [f"{p}: a library for programs has none" for p in parts]
+            wrong += [f"{p}: a library for programs has none" for p in parts if crate in FOR_PROGRAMS]
             wrong += [f"{p}: has C functions" for p in sources if 'extern "C"' in open(p, encoding="utf-8").read()]
             continue
         if crate not in LAYERS + ("exports",):
             wrong.append(f"crates/{crate}: is no layer, not the exports, and not for programs")
-        below = [d for d in depends[crate].split() if d in FOR_PROGRAMS]
+        below = [d for d in depends[crate].split() if d in FOR_PROGRAMS + FOR_TESTS]
         wrong += [f"crates/{crate}: depends on {d}, which is for programs" for d in below]
-    wrong += [f"crates.txt: no library {c}" for c in LAYERS + FOR_PROGRAMS if c not in found]
+    wrong += [f"crates.txt: no library {c}" for c in LAYERS + FOR_PROGRAMS + FOR_TESTS if c not in found]
     return wrong, len(found)
 
 

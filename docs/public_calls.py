@@ -16,7 +16,6 @@ CROSSES_AS = {
     "Parser::new": "raspteal_parser_start",
     "Parser::next_token": "raspteal_parser_step",
     # The tables do not cross, nor places in them: the name in an element's row does.
-    "key_names": "raspteal_ident_of",
     "find_row": "raspteal_ident_of",
     # Of a list of numbers a map is made within a build; a C program puts its entries.
     "Mapping::of_numbers": "raspteal_from_data",
@@ -25,27 +24,33 @@ CROSSES_AS = {
     "Refusal::plain": "raspteal_parse_sdl_mapping",
     "Refusal::of_code": "raspteal_from_data",
     "Error::refusal": "raspteal_parser_step",
-    "PutResult::outcome": "raspteal_mapping_put",
+    "MapFull::refusal": "raspteal_mapping_put",
+    "put_outcome": "raspteal_mapping_put",
     "ParseSdlMappingError::refusal": "raspteal_parse_sdl_mapping",
-    "SdlAnswer::outcome": "raspteal_parse_sdl_mapping",
+    "reading_outcome": "raspteal_parse_sdl_mapping",
     "MappingError::refusal": "raspteal_from_data",
-    "MappingAnswer::outcome": "raspteal_from_data",
-    "Answer::outcome": "raspteal_store_insert",
-    "SaveAnswer::outcome": "raspteal_store_save",
-    "Look::outcome": "raspteal_store_found",
-    "NearLook::outcome": "raspteal_store_found_near",
-    "ShareTold::outcome": "raspteal_store_share",
-    "PadAnswer::outcome": "raspteal_pad_raw_event",
+    "mapping_outcome": "raspteal_from_data",
+    "StoreError::refusal": "raspteal_store_insert",
+    "store_outcome": "raspteal_store_insert",
+    "SaveError::refusal": "raspteal_store_save",
+    "save_outcome": "raspteal_store_save",
+    "LookError::refusal": "raspteal_store_found",
+    "look_outcome": "raspteal_store_found",
+    "near_outcome": "raspteal_store_found_near",
+    "Unsound::refusal": "raspteal_store_share",
+    "told_outcome": "raspteal_store_share",
+    "pad_outcome": "raspteal_pad_raw_event",
 }
 
 # Calls whose C function has another name.
 NAMED = {"event": "raspteal_mapping_event", "share_of": "raspteal_store_share"}
 
 # The definitions that give an answer its number.
-REFUSING = re.compile(r"^(kind_number|\w+_outcome|reading_refusal|mapping_refusal) :")
+REFUSING = re.compile(r"^(kind_number|\w+_refusal) :")
 
-# A promise of an answer and a buffer at once; a C function says the two apart.
-PARTS = {"Wrote": ["write_answer", "write_buffer"], "Builds": ["build_of", "output_of"]}
+# A promise of an answer and a buffer at once; a C function says the two apart. That an ident is short follows from the
+# table, and the struct that crosses has room for it.
+PARTS = {"Wrote": ["write_answer", "write_buffer"], "Builds": ["build_of", "output_of"], "ident_max": []}
 
 HEAD = """# The public calls
 
@@ -62,7 +67,7 @@ How to read an entry:
 
 REFUSALS = """## Refusals
 
-Document 01's number of each refusal, its words in the header, and the answers of the layers that say it; the definitions that give each answer its number, place and code are `kind_number`, `put_outcome`, `reading_refusal` (`crates/line/specs/Refusals.antt`), `mapping_refusal` (`crates/map/specs/Refusals.antt`), `store_outcome`, `save_outcome`, `look_outcome`, `told_outcome` (`crates/store/specs/Refusals.antt`) and `near_outcome` (`crates/store/specs/Near.antt`).
+Document 01's number of each refusal, its words in the header, and the answers of the layers that say it; the definitions that give each answer its number, place and code are `kind_number`, `full_refusal`, `reading_refusal` (`crates/line/specs/Refusals.antt`), `mapping_refusal` (`crates/map/specs/Refusals.antt`), `store_refusal`, `save_refusal`, `look_refusal`, `unsound_refusal` (`crates/store/specs/Refusals.antt`) and `pad_outcome` (`crates/pad/specs/Refusals.antt`).
 
 | No. | Means | Answers that say it |
 |---|---|---|"""
@@ -270,6 +275,10 @@ def refusals():
             if m[1] in enums and m[3] != "0" and REFUSING.search(text[: m.start()].split("\nabbrev pub ")[-1]):
                 variant = f"`{layer}::{enums[m[1]]}::{m[2]}`"
                 said.setdefault(int(m[3]), []).append(variant)
+        # (an error of one case is a struct: its name alone says what it is)
+        alone = r"^abbrev pub \w+ : (?:Result ⊤ )?(\w+) → (?:Result ⊤ )?Refusal\n(?:\w+ \(Ok \w+\) = Ok tt\n)?\w+ (?:\w+|\(Err \w+\)) = (?:Err \()?refusal (\d+)\)?$"
+        for m in re.finditer(alone, text, re.M):
+            said.setdefault(int(m[2]), []).append(f"`{layer}::{m[1]}`")
     header = Path("bindings/raspteal_numbers.h").read_text()
     for number, means in re.findall(r'case ([1-9]\d*): return "(.+)";', header):
         yield f"| {number} | {means} | {', '.join(dict.fromkeys(said.get(int(number), [])))} |"

@@ -1,9 +1,8 @@
 // What is counted over a list of lines.
 use line::ev::AxisOrBtn;
 use line::mapping::Mapping;
-use line::reading::{SdlAnswer, SdlMapping};
+use line::reading::SdlMapping;
 use std::io;
-use std::num::wrapping_add_u64;
 
 // One more than the greatest number of a refused reading.
 const NUMBERS: usize = 13;
@@ -38,44 +37,30 @@ impl Figures {
     // One line more.
     pub fn line(self, reading: SdlMapping) -> Figures {
         let mut next = self;
-        next.lines = wrapping_add_u64(self.lines, 1);
-        let answer = reading.answer;
-        match answer {
-            SdlAnswer::Accepted => {
-                let map = reading.map;
-                next.accept(map)
-            }
-            SdlAnswer::Refused(e) => next.refuse(e.refusal().number as usize),
+        next.lines = self.lines.wrapping_add(1);
+        match reading.answer {
+            Ok(()) => next.accept(&reading.map),
+            Err(e) => next.refuse(e.refusal().number),
         }
     }
 
-    fn refuse(self, n: usize) -> Figures {
+    fn refuse(self, number: u8) -> Figures {
         let mut next = self;
-        if n < NUMBERS {
-            next.refused[n] = wrapping_add_u64(self.refused[n], 1);
+        if let Some(lines) = next.refused.get_mut(number as usize) {
+            *lines = lines.wrapping_add(1);
         }
         next
     }
 
-    fn accept(self, map: Mapping) -> Figures {
+    fn accept(self, map: &Mapping) -> Figures {
         let mut next = self;
-        next.accepted = wrapping_add_u64(self.accepted, 1);
-        next.entries = wrapping_add_u64(self.entries, map.count as u64);
-        next.hats = wrapping_add_u64(self.hats, map.hats_mapped as u64);
-        next.names = wrapping_add_u64(self.names, map.name_len as u64);
-        next.entry_sums(map)
-    }
-
-    fn entry_sums(self, map: Mapping) -> Figures {
-        let mut next = self;
-        for i in 0..256 {
-            if map.count <= i {
-                return next;
-            }
-            let e = map.entries[i];
-            let element = e.element;
-            next.codes = wrapping_add_u64(next.codes, e.code.0 as u64);
-            next.elements = wrapping_add_u64(next.elements, element_number(element));
+        next.accepted = self.accepted.wrapping_add(1);
+        next.entries = self.entries.wrapping_add(map.count as u64);
+        next.hats = self.hats.wrapping_add(map.hats_mapped as u64);
+        next.names = self.names.wrapping_add(map.name_len as u64);
+        for e in map.entries.iter().take(map.count) {
+            next.codes = next.codes.wrapping_add(e.code.0 as u64);
+            next.elements = next.elements.wrapping_add(element_number(e.element));
         }
         next
     }
@@ -83,38 +68,38 @@ impl Figures {
     // Both lists together: lines, accepted ones and entries.
     pub fn and(self, other: Figures) -> Figures {
         let mut next = self;
-        next.lines = wrapping_add_u64(self.lines, other.lines);
-        next.accepted = wrapping_add_u64(self.accepted, other.accepted);
-        next.entries = wrapping_add_u64(self.entries, other.entries);
+        next.lines = self.lines.wrapping_add(other.lines);
+        next.accepted = self.accepted.wrapping_add(other.accepted);
+        next.entries = self.entries.wrapping_add(other.entries);
         next
     }
 
     pub fn say(self, rt: &impl Print) -> io::Result<()> {
-        let lines = self.lines;
-        let accepted = self.accepted;
-        let entries = self.entries;
+        let Figures {
+            lines,
+            accepted,
+            entries,
+            ..
+        } = self;
         print!(rt; ": {lines} lines, accepted {accepted}, entries {entries}")
     }
 
     pub fn say_sums(self, rt: &impl Print) -> io::Result<()> {
-        let hats = self.hats;
-        let names = self.names;
-        let codes = self.codes;
-        let elements = self.elements;
+        let Figures {
+            hats,
+            names,
+            codes,
+            elements,
+            ..
+        } = self;
         print!(rt; ", hat flags {hats}, name bytes {names}, codes {codes}, elements {elements}")?;
-        let refused = self.refused;
-        say_refused(rt, refused)
-    }
-}
-
-fn say_refused(rt: &impl Print, refused: [u64; NUMBERS]) -> io::Result<()> {
-    for number in 1..NUMBERS {
-        let lines = refused[number];
-        if 0 < lines {
-            print!(rt; ", refused by {number}: {lines}")?;
+        for (number, lines) in self.refused.iter().enumerate().skip(1) {
+            if 0 < *lines {
+                print!(rt; ", refused by {number}: {lines}")?;
+            }
         }
+        Ok(())
     }
-    Ok(())
 }
 
 fn element_number(e: AxisOrBtn) -> u64 {

@@ -2,124 +2,111 @@
 // The new store is written into STORE.new, the one that it takes the place of into STORE.old.new, and both are synced;
 // then STORE.old.new becomes STORE.old and STORE.new becomes STORE, by a rename each, and the folder is synced. A file
 // of those names that a broken-off hub left is removed first. Where the reader of an output has gone, nothing is changed.
-use crate::codes::{CodeParse, parse_code};
+use crate::codes::parse_code;
 use crate::console::{Console, argument, create_new, open_read, remove_file, rename};
 use crate::fields::first;
-use crate::files::arg_space;
-use crate::say::{DONE, TROUBLE, complain};
+use crate::files::{StoreFile, arg_space, load};
+use crate::say::{Failure, complain};
 use crate::shown::fail;
 use std::fs::{File, Permissions};
-use std::io::{Error, ErrorKind, Result, Write};
+use std::io;
+use std::io::{Error, ErrorKind, Write};
 use std::os::unix::fs::{PermissionsExt, fchown};
-use text::bytes::{same_bytes, write_bytes};
 
 // The room for a path that is made of an argument.
 const PATH_ROOM: usize = 16400;
 
-// What the script says: whether it holds the lock, and the mode, the owner and the group that the new store gets,
-// where there is a store.
+// The mode, the owner and the group of a file.
 #[derive(Clone, Copy)]
-pub struct Held {
-    pub locked: bool,
-    pub kept: bool,
-    pub mode: u32,
-    pub owner: u32,
-    pub group: u32,
+struct Access {
+    mode: u32,
+    owner: u32,
+    group: u32,
 }
 
+// What the script says: whether it holds the lock, and what the new store gets of the former one, where there is one.
 #[derive(Clone, Copy)]
-struct Path {
-    bytes: [u8; PATH_ROOM],
-    len: usize,
+pub struct Held {
+    locked: bool,
+    access: Option<Access>,
 }
 
 pub fn not_held() -> Held {
     Held {
         locked: false,
-        kept: false,
-        mode: 0,
-        owner: 0,
-        group: 0,
+        access: None,
     }
 }
 
-fn code_arg(console: &Console, i: usize) -> CodeParse {
+fn code_arg(console: &Console, i: usize) -> Option<u32> {
     let mut space = arg_space();
-    let n = argument(console, i, &mut space);
-    parse_code(&space[..n])
+    parse_code(argument(console, i, &mut space))
+}
+
+// Mode, owner and group, in hexadecimal, of the arguments from `at` on; None where they are hyphens.
+fn access_from(console: &Console, at: usize) -> Option<Access> {
+    let mode = code_arg(console, at)?;
+    let owner = code_arg(console, at.wrapping_add(1))?;
+    let group = code_arg(console, at.wrapping_add(2))?;
+    Some(Access {
+        mode: mode % 4096,
+        owner,
+        group,
+    })
 }
 
 // What the arguments from `at` on say: `locked` or `unlocked`, then mode, owner and group in hexadecimal, or a hyphen
 // for each.
 pub fn held_from(console: &Console, at: usize) -> Held {
     let mut space = arg_space();
-    let n = argument(console, at, &mut space);
-    let mut held = not_held();
-    held.locked = same_bytes(&space[..n], b"locked");
-    let mode = code_arg(console, std::num::wrapping_add_usize(at, 1));
-    let owner = code_arg(console, std::num::wrapping_add_usize(at, 2));
-    let group = code_arg(console, std::num::wrapping_add_usize(at, 3));
-    if let CodeParse::Parsed(m) = mode {
-        if let CodeParse::Parsed(o) = owner {
-            if let CodeParse::Parsed(g) = group {
-                held.kept = true;
-                held.mode = m % 4096;
-                held.owner = o;
-                held.group = g;
-            }
-        }
+    Held {
+        locked: matches!(argument(console, at, &mut space), b"locked"),
+        access: access_from(console, at.wrapping_add(1)),
     }
-    held
 }
 
 // Whether a command may change a store: only where the lock is held.
-pub fn may_change(console: &Console, held: Held) -> bool {
-    if !held.locked {
-        complain(
-            console,
-            b"A store is changed by the script hub, which holds its lock.\n",
-        );
+pub fn may_change(console: &Console, held: Held) -> Result<(), Failure> {
+    if held.locked {
+        return Ok(());
     }
-    held.locked
-}
-
-// STORE with an ending.
-fn named(store: &[u8], ending: &[u8]) -> Path {
-    let mut bytes = [0u8; PATH_ROOM];
-    write_bytes(&mut bytes, 0, store);
-    write_bytes(&mut bytes, store.len(), ending);
-    Path {
-        bytes,
-        len: std::num::wrapping_add_usize(store.len(), ending.len()),
-    }
-}
-
-// What is not there needs no removal.
-fn remove(console: &Console, store: &[u8], ending: &[u8]) {
-    let path = named(store, ending);
-    let bytes = path.bytes;
-    let _ = remove_file(console, first(&bytes, path.len));
-}
-
-fn renamed(console: &Console, store: &[u8], from: &[u8], to: &[u8]) -> Result<()> {
-    let old = named(store, from);
-    let old_bytes = old.bytes;
-    let new = named(store, to);
-    let new_bytes = new.bytes;
-    rename(
+    complain(
         console,
-        first(&old_bytes, old.len),
-        first(&new_bytes, new.len),
-    )
+        b"A store is changed by the script hub, which holds its lock.\n",
+    );
+    Err(Failure::Trouble)
+}
+
+// STORE with an ending. It has a fixed room and a length: a text that grows would have to ask for memory, and making a
+// path can't fail.
+#[derive(Clone, Copy)]
+struct Path {
+    bytes: [u8; PATH_ROOM],
+    len: usize,
+}
+
+impl Path {
+    fn new(store: &[u8], ending: &[u8]) -> Path {
+        let mut path = io::Cursor::new([0u8; PATH_ROOM]);
+        let _ = path.write_all(store);
+        let _ = path.write_all(ending);
+        Path {
+            len: path.position() as usize,
+            bytes: path.into_inner(),
+        }
+    }
+
+    fn as_slice(&self) -> &[u8] {
+        first(&self.bytes, self.len)
+    }
 }
 
 // Owner, group and mode of the file; where the owner can't be given, the group.
-fn keep(console: &Console, file: &File, held: Held) -> Result<()> {
-    if !held.kept {
+fn keep(console: &Console, file: &File, held: Held) -> io::Result<()> {
+    let Some(access) = held.access else {
         return Ok(());
-    }
-    let owned = fchown(file, Some(held.owner), Some(held.group));
-    if owned.is_err() {
+    };
+    if fchown(file, Some(access.owner), Some(access.group)).is_err() {
         complain(
             console,
             b"The store's owner can't be kept: the new store is yours.\n",
@@ -127,112 +114,103 @@ fn keep(console: &Console, file: &File, held: Held) -> Result<()> {
         if console.is_closed() {
             return Err(Error::from(ErrorKind::BrokenPipe));
         }
-        let _ = fchown(file, None, Some(held.group));
+        let _ = fchown(file, None, Some(access.group));
     }
-    file.set_permissions(Permissions::from_mode(held.mode))
+    file.set_permissions(Permissions::from_mode(access.mode))
 }
 
-fn fill(console: &Console, mut file: File, held: Held, index: &[u8], text: &[u8]) -> Result<()> {
-    keep(console, &file, held)?;
-    file.write_all(index)?;
-    file.write_all(text)?;
+// Writes both halves of a store.
+fn fill(mut file: File, store: &StoreFile) -> io::Result<()> {
+    file.write_all(&store.index)?;
+    file.write_all(&store.text)?;
     file.sync_all()
 }
 
-// Writes a store beside the store.
-fn written(
-    console: &Console,
-    store: &[u8],
-    ending: &[u8],
+// The folder of a file, by its path up to the last slash.
+fn folder_of(path: &[u8]) -> &[u8] {
+    match path.iter().rposition(|b| *b == b'/') {
+        Some(n) => &path[..=n],
+        None => b".",
+    }
+}
+
+// A store that is changed, by the name of its file.
+#[derive(Clone, Copy)]
+struct Change<'a> {
+    console: &'a Console,
+    store: &'a [u8],
     held: Held,
-    index: &[u8],
-    text: &[u8],
-) -> Result<()> {
-    remove(console, store, ending);
-    let path = named(store, ending);
-    let bytes = path.bytes;
-    let file = create_new(console, first(&bytes, path.len))?;
-    fill(console, file, held, index, text)
 }
 
-// Says why the store could not be written, and leaves nothing beside it.
-fn unwritten(console: &Console, store: &[u8], error: Error) -> u8 {
-    fail(console, store, error);
-    complain(
-        console,
-        b"The new store could not be written; the store is as it was.\n",
-    );
-    remove(console, store, b".new");
-    remove(console, store, b".old.new");
-    TROUBLE
-}
-
-fn changed(console: &Console, store: &[u8], done: Result<()>) -> u8 {
-    match done {
-        Ok(()) => DONE,
-        Err(error) => unwritten(console, store, error),
+impl Change<'_> {
+    // What is not there needs no removal.
+    fn remove(self, ending: &[u8]) {
+        let _ = remove_file(self.console, Path::new(self.store, ending).as_slice());
     }
-}
 
-// The length of the folder's path: up to the last slash.
-fn folder_len(path: &[u8]) -> usize {
-    let mut i: usize = 0;
-    let mut len: usize = 0;
-    while i < path.len() {
-        if path[i] == b'/' {
-            len = i + 1;
-        }
-        i += 1;
+    fn rename(self, from: &[u8], to: &[u8]) -> io::Result<()> {
+        rename(
+            self.console,
+            Path::new(self.store, from).as_slice(),
+            Path::new(self.store, to).as_slice(),
+        )
     }
-    len
-}
 
-fn sync(console: &Console, folder: &[u8]) -> Result<()> {
-    open_read(console, folder)?.sync_all()
-}
-
-// A folder that can't be synced is left to the system.
-fn sync_folder(console: &Console, store: &[u8]) {
-    let len = folder_len(store);
-    if len == 0 {
-        let _ = sync(console, b".");
-        return;
+    // Writes a store beside the store.
+    fn write(self, ending: &[u8], file: &StoreFile) -> io::Result<()> {
+        self.remove(ending);
+        let new = create_new(self.console, Path::new(self.store, ending).as_slice())?;
+        keep(self.console, &new, self.held)?;
+        fill(new, file)
     }
-    let _ = sync(console, first(store, len));
-}
 
-fn place_new(console: &Console, store: &[u8]) -> Result<()> {
-    renamed(console, store, b".new", b"")?;
-    sync_folder(console, store);
-    Ok(())
-}
+    fn sync_folder(self) -> io::Result<()> {
+        open_read(self.console, folder_of(self.store))?.sync_all()
+    }
 
-fn place_all(console: &Console, store: &[u8], held: Held, index: &[u8], text: &[u8]) -> Result<()> {
-    written(console, store, b".new", held, index, text)?;
-    place_new(console, store)
+    // A folder that can't be synced is left to the system.
+    fn place_new(self) -> io::Result<()> {
+        self.rename(b".new", b"")?;
+        let _ = self.sync_folder();
+        Ok(())
+    }
+
+    fn place(self, file: &StoreFile) -> io::Result<()> {
+        self.write(b".new", file)?;
+        self.place_new()
+    }
+
+    fn replace(self, former: &StoreFile, file: &StoreFile) -> io::Result<()> {
+        self.write(b".new", file)?;
+        self.write(b".old.new", former)?;
+        self.rename(b".old.new", b".old")?;
+        self.place_new()
+    }
+
+    // Says why the store could not be written, and leaves nothing beside it.
+    fn unwritten(self, error: Error) -> Failure {
+        fail(self.console, self.store, error);
+        complain(
+            self.console,
+            b"The new store could not be written; the store is as it was.\n",
+        );
+        self.remove(b".new");
+        self.remove(b".old.new");
+        Failure::Trouble
+    }
 }
 
 // Puts a store where there is none.
-pub fn place(console: &Console, store: &[u8], held: Held, index: &[u8], text: &[u8]) -> u8 {
+pub fn place(console: &Console, store: &[u8], held: Held, file: &StoreFile) -> Result<(), Failure> {
     if console.is_closed() {
-        return TROUBLE;
+        return Err(Failure::Trouble);
     }
-    changed(console, store, place_all(console, store, held, index, text))
-}
-
-fn replace_all(
-    console: &Console,
-    store: &[u8],
-    held: Held,
-    former_index: &[u8],
-    former_text: &[u8],
-    index: &[u8],
-    text: &[u8],
-) -> Result<()> {
-    written(console, store, b".new", held, index, text)?;
-    written(console, store, b".old.new", held, former_index, former_text)?;
-    renamed(console, store, b".old.new", b".old")?;
-    place_new(console, store)
+    let change = Change {
+        console,
+        store,
+        held,
+    };
+    change.place(file).map_err(|error| change.unwritten(error))
 }
 
 // Puts a store in the place of a former one, which is kept as STORE.old.
@@ -240,29 +218,26 @@ pub fn replace(
     console: &Console,
     store: &[u8],
     held: Held,
-    former_index: &[u8],
-    former_text: &[u8],
-    index: &[u8],
-    text: &[u8],
-) -> u8 {
-    if same_bytes(former_index, index) {
-        if same_bytes(former_text, text) {
-            return DONE;
-        }
+    former: &StoreFile,
+    file: &StoreFile,
+) -> Result<(), Failure> {
+    if former == file {
+        return Ok(());
     }
     if console.is_closed() {
-        return TROUBLE;
+        return Err(Failure::Trouble);
     }
-    changed(
+    let change = Change {
         console,
         store,
-        replace_all(console, store, held, former_index, former_text, index, text),
-    )
+        held,
+    };
+    change
+        .replace(former, file)
+        .map_err(|error| change.unwritten(error))
 }
 
 // Reads STORE.old.
-pub fn load_old(console: &Console, store: &[u8], index: &mut [u8], text: &mut [u8]) -> u8 {
-    let path = named(store, b".old");
-    let bytes = path.bytes;
-    crate::files::load(console, first(&bytes, path.len), index, text)
+pub fn load_old(console: &Console, store: &[u8]) -> Result<StoreFile, Failure> {
+    load(console, Path::new(store, b".old").as_slice())
 }

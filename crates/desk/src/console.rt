@@ -1,16 +1,17 @@
 // What the programs ask of the system: the three outputs, the arguments, and files by the bytes of their names.
 // Where the reader of a pipe has gone, a program says and changes nothing more, and ends as the signal SIGPIPE ends one.
-ghost use Rattle.std.specs.Prelude.{◌≤◌, length};
-
 use crate::fields::{before, first, without};
 use std::cell::Cell;
 use std::env::FillError;
 use std::fmt::Display;
 use std::fs::{File, OpenOptions};
-use std::io::{Cursor, Error, ErrorKind, Print, Result, Write};
+use std::io::{Cursor, Error, ErrorKind, Result, Write};
 use std::rt::Env;
 use std::{fs, str};
 
+// The outputs are the system's numbers, and parameters that name one are numbers, not an enum of three: any may come in,
+// as it could before; one that is none of the three is not written to. The console and the number stay two parameters:
+// tied into one value they would name the same two things at each call, and most callers have the console alone.
 pub const OUT: i32 = 1;
 
 pub const ERR: i32 = 2;
@@ -23,7 +24,7 @@ pub const STATUS: i32 = 3;
 pub const NO_TEXT: i32 = 84;
 
 // Its numbers of no error, and of an output that is not open.
-const NO_ERROR: i32 = 0;
+pub(crate) const NO_ERROR: i32 = 0;
 
 const NO_OUTPUT: i32 = 9;
 
@@ -61,13 +62,11 @@ impl Console {
     fn was_written(&self, done: Result<()>) -> bool {
         match done {
             Ok(()) => true,
-            Err(error) => {
-                if error.kind() == ErrorKind::BrokenPipe {
-                    self.closed.set(true);
-                    return true;
-                }
-                false
+            Err(error) if error.kind() == ErrorKind::BrokenPipe => {
+                self.closed.set(true);
+                true
             }
+            Err(_) => false,
         }
     }
 }
@@ -82,31 +81,32 @@ fn status_file(console: &Console) -> Result<File> {
     options.open(&console.rt, "/dev/fd/3")
 }
 
-fn write_status(console: &Console, bytes: &[u8]) -> Result<()> {
-    let mut file = status_file(console)?;
-    file.write_all(bytes)
+// One of the three outputs, by the system's number.
+#[derive(Drop)]
+struct Output<'a> {
+    console: &'a Console,
+    fd: i32,
 }
 
-fn print_status<D: Display + Drop>(console: &Console, value: D) -> Result<()> {
-    let mut file = status_file(console)?;
-    write!(file, "{value}")
-}
-
-fn write_to(console: &Console, fd: i32, bytes: &[u8]) -> Result<()> {
-    match fd {
-        OUT => console.rt.stdout().write_all(bytes),
-        ERR => console.rt.stderr().write_all(bytes),
-        STATUS => write_status(console, bytes),
-        _ => Err(Error::from_raw_os_error(NO_OUTPUT)),
+impl Write for Output<'_> {
+    fn write(&mut self, bytes: &[u8]) -> Result<usize> {
+        self.write_all(bytes)?;
+        Ok(bytes.len())
     }
-}
 
-fn print_to<D: Display + Drop>(console: &Console, fd: i32, value: D) -> Result<()> {
-    match fd {
-        OUT => console.rt.stdout().print(value),
-        ERR => console.rt.stderr().print(value),
-        STATUS => print_status(console, value),
-        _ => Err(Error::from_raw_os_error(NO_OUTPUT)),
+    // No output holds bytes back.
+    fn flush(&mut self) -> Result<()> {
+        Ok(())
+    }
+
+    fn write_all(&mut self, bytes: &[u8]) -> Result<()> {
+        let console = self.console;
+        match self.fd {
+            OUT => console.rt.stdout().write_all(bytes),
+            ERR => console.rt.stderr().write_all(bytes),
+            STATUS => status_file(console)?.write_all(bytes),
+            _ => Err(Error::from_raw_os_error(NO_OUTPUT)),
+        }
     }
 }
 
@@ -115,7 +115,8 @@ pub fn write(console: &Console, fd: i32, bytes: &[u8]) -> bool {
     if console.is_closed() {
         return true;
     }
-    console.was_written(write_to(console, fd, bytes))
+    let mut output = Output { console, fd };
+    console.was_written(output.write_all(bytes))
 }
 
 // The same of a value in words or digits.
@@ -123,11 +124,8 @@ pub fn print<D: Display + Drop>(console: &Console, fd: i32, value: D) -> bool {
     if console.is_closed() {
         return true;
     }
-    console.was_written(print_to(console, fd, value))
-}
-
-pub fn no_error() -> Error {
-    Error::from_raw_os_error(NO_ERROR)
+    let mut output = Output { console, fd };
+    console.was_written(write!(output, "{value}"))
 }
 
 // Writes an error's words, as `: No such file or directory`, and a line end.
@@ -142,48 +140,34 @@ pub fn write_error(console: &Console, error: Error) {
     write(console, ERR, b"\n");
 }
 
-// Puts argument `i` at the start of `space`, and says its length: 0 where there is none, or it is longer.
-pub fn argument(console: &Console, i: usize, space: &mut [u8]) -> usize
-    ensures { result ≤ length space.new }
-{
+// Argument `i`, which is put into `space`; nothing where there is none, or it is longer.
+pub fn argument<'a>(console: &Console, i: usize, space: &'a mut [u8]) -> &'a [u8] {
     match console.rt.arg(i, space) {
-        Ok(n) => n,
-        Err(_) => 0,
+        Ok(n) => &space[..n],
+        Err(_) => &[],
     }
 }
 
 // Whether argument `i` is longer than the room.
 pub fn is_too_long(console: &Console, i: usize, space: &mut [u8]) -> bool {
-    match console.rt.arg(i, space) {
-        Err(FillError::TooLong) => true,
-        _ => false,
-    }
+    matches!(console.rt.arg(i, space), Err(FillError::TooLong))
 }
 
 fn is_given(console: &Console, i: usize) -> bool {
     let mut space = [0u8; 1];
-    match console.rt.arg(i, &mut space) {
-        Err(FillError::NotPresent) => false,
-        _ => true,
-    }
+    !matches!(console.rt.arg(i, &mut space), Err(FillError::NotPresent))
 }
 
 // How many arguments there are, the program's name among them.
 pub fn argument_count(console: &Console) -> usize {
-    for i in 0..usize::MAX {
-        if !is_given(console, i) {
-            return i;
-        }
-    }
-    usize::MAX
+    (0..usize::MAX)
+        .take_while(|i| is_given(console, *i))
+        .count()
 }
 
 // The name of a file as text. One that is not UTF-8 names no file here.
 fn path_of(bytes: &[u8]) -> Result<&str> {
-    match str::from_utf8(bytes) {
-        Ok(path) => Ok(path),
-        Err(_) => Err(Error::from_raw_os_error(NO_TEXT)),
-    }
+    str::from_utf8(bytes).map_err(|_| Error::from_raw_os_error(NO_TEXT))
 }
 
 pub fn open_read(console: &Console, path: &[u8]) -> Result<File> {

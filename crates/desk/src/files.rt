@@ -1,11 +1,13 @@
 // Files that are read: a store is the index and then the text, HALF bytes each.
 ghost use Rattle.std.specs.Prelude.{◌≡◌, length};
 
-use crate::console::{Console, NO_TEXT, no_error, open_read};
-use crate::say::{DONE, TROUBLE, complain};
+use crate::console::{Console, NO_ERROR, NO_TEXT, open_read};
+use crate::fields::first;
+use crate::say::{Failure, complain};
 use crate::shown::{complain_shown, fail};
 use crate::words::refused_file;
 use std::fs::File;
+use std::io;
 use std::io::{Error, ErrorKind, Read};
 
 pub const HALF: usize = 65535;
@@ -18,7 +20,7 @@ pub const ARG_ROOM: usize = 16384;
 
 // The room for half a store, for a list and for an argument. The length is said, since a repeat of so many is long to
 // count.
-pub fn half() -> [u8; HALF]
+fn half() -> [u8; HALF]
     ensures { 65535 ≡ length result }
 {
     [0u8; HALF]
@@ -36,143 +38,96 @@ pub fn arg_space() -> [u8; ARG_ROOM]
     [0u8; ARG_ROOM]
 }
 
-// How many bytes were read, if none failed.
-#[derive(Clone, Copy)]
-pub enum Got {
-    Bytes(usize),
-    Failed(Error),
+// What a store file holds: the index and the text. The functions that take it took two slices of any length before, and
+// were meant for HALF bytes each alone: the type says what their comments said, and every caller gives just that.
+#[derive(Clone, Copy, PartialEq, Eq)]
+pub struct StoreFile {
+    pub index: [u8; HALF],
+    pub text: [u8; HALF],
 }
 
-// How many bytes were read before the room was full, the file ended or a read failed, and that read's error.
-#[derive(Clone, Copy)]
-struct Filled {
-    len: usize,
-    error: Error,
+impl StoreFile {
+    // A fresh one, all 0.
+    pub fn new() -> StoreFile {
+        StoreFile {
+            index: half(),
+            text: half(),
+        }
+    }
 }
 
-fn fill(file: &mut File, space: &mut [u8]) -> Filled {
+// Reads until the room is full, the file ends or a read fails: how many bytes came, and that read's error.
+fn fill(file: &mut File, space: &mut [u8]) -> (usize, Option<Error>) {
     let mut len: usize = 0;
+    // Each turn asks for what is left of the room, and the system says how much came: no item to go over.
     while len < space.len() {
         match file.read(&mut space[len..]) {
             Ok(0) => break,
             Ok(n) => len += n,
-            Err(error) => return Filled { len, error },
+            Err(error) => return (len, Some(error)),
         }
     }
-    Filled {
-        len,
-        error: no_error(),
-    }
+    (len, None)
 }
 
 // Reads until the room is full or the file ends. Where less was read, one read more tells whether the file ends there:
 // else a read failed.
-pub fn read_all(file: &mut File, space: &mut [u8]) -> Got {
-    let filled = fill(file, space);
-    if filled.len == space.len() {
-        return Got::Bytes(filled.len);
+pub fn read_all(file: &mut File, space: &mut [u8]) -> io::Result<usize> {
+    let (len, failed) = fill(file, space);
+    if len == space.len() {
+        return Ok(len);
     }
     let mut more = [0u8; 1];
-    match file.read(&mut more) {
-        Ok(0) => Got::Bytes(filled.len),
-        Ok(_) => Got::Failed(filled.error),
-        Err(error) => Got::Failed(error),
+    match file.read(&mut more)? {
+        0 => Ok(len),
+        _ => Err(failed.unwrap_or(Error::from_raw_os_error(NO_ERROR))),
     }
 }
 
-// Whether the file has more bytes, or can't be read on.
-fn more(file: &mut File) -> Got {
-    let mut space = [0u8; 1];
-    read_all(file, &mut space)
-}
-
-// How many bytes a list has, if it was read.
-#[derive(Clone, Copy)]
-pub enum List {
-    Read(usize),
-    Failed,
-}
-
-fn unread(console: &Console, path: &[u8], error: Error) -> List {
-    fail(console, path, error);
-    List::Failed
-}
-
-// What is read of an open list is all of it.
-fn whole_list(console: &Console, path: &[u8], file: &mut File, n: usize) -> List {
-    let rest = more(file);
-    match rest {
-        Got::Bytes(over) => {
-            if over == 0 {
-                return List::Read(n);
-            }
-            complain_shown(console, path);
-            complain(console, b": a list may have at most 1048576 bytes\n");
-            List::Failed
-        }
-        Got::Failed(error) => unread(console, path, error),
-    }
-}
-
-fn read_open(console: &Console, path: &[u8], mut file: File, space: &mut [u8]) -> List {
-    let got = read_all(&mut file, space);
-    match got {
-        Got::Bytes(n) => whole_list(console, path, &mut file, n),
-        Got::Failed(error) => unread(console, path, error),
-    }
+// How many bytes follow what was read, of one.
+fn count_more(file: &mut File) -> io::Result<usize> {
+    read_all(file, &mut [0u8; 1])
 }
 
 // Reads a list. What does not fit, or can't be read, is said.
-pub fn read_list(console: &Console, path: &[u8], space: &mut [u8]) -> List {
-    match open_read(console, path) {
-        Ok(file) => read_open(console, path, file, space),
-        Err(error) => unread(console, path, error),
-    }
-}
-
-// Whether so many bytes were read, or 19, or trouble.
-fn load_status(console: &Console, path: &[u8], got: Got, len: usize) -> u8 {
-    match got {
-        Got::Bytes(n) => {
-            if n == len {
-                return DONE;
-            }
-            refused_file(console, path)
-        }
-        Got::Failed(error) => {
-            fail(console, path, error);
-            TROUBLE
-        }
-    }
-}
-
-fn load_halves(
+pub fn read_list<'a>(
     console: &Console,
     path: &[u8],
-    mut file: File,
-    index: &mut [u8],
-    text: &mut [u8],
-) -> u8 {
-    let status = load_status(console, path, read_all(&mut file, index), HALF);
-    if status != DONE {
-        return status;
+    space: &'a mut [u8],
+) -> Result<&'a [u8], Failure> {
+    let mut file = open_read(console, path).map_err(|error| fail(console, path, error))?;
+    let n = read_all(&mut file, space).map_err(|error| fail(console, path, error))?;
+    let over = count_more(&mut file).map_err(|error| fail(console, path, error))?;
+    if 0 < over {
+        complain_shown(console, path);
+        complain(console, b": a list may have at most 1048576 bytes\n");
+        return Err(Failure::Trouble);
     }
-    let status = load_status(console, path, read_all(&mut file, text), HALF);
-    if status != DONE {
-        return status;
-    }
-    load_status(console, path, more(&mut file), 0)
+    Ok(first(space, n))
 }
 
-// Reads a store file into the two buffers, which have HALF bytes each.
-pub fn load(console: &Console, path: &[u8], index: &mut [u8], text: &mut [u8]) -> u8 {
-    match open_read(console, path) {
-        Ok(file) => load_halves(console, path, file, index, text),
-        Err(error) => {
-            fail(console, path, error);
-            TROUBLE
-        }
+// Whether so many bytes were read: else 19, or trouble.
+fn check_len(
+    console: &Console,
+    path: &[u8],
+    got: io::Result<usize>,
+    len: usize,
+) -> Result<(), Failure> {
+    match got {
+        Ok(n) if n == len => Ok(()),
+        Ok(_) => Err(refused_file(console, path)),
+        Err(error) => Err(fail(console, path, error)),
     }
+}
+
+// Reads a store file.
+pub fn load(console: &Console, path: &[u8]) -> Result<StoreFile, Failure> {
+    let mut file = open_read(console, path).map_err(|error| fail(console, path, error))?;
+    let mut store = StoreFile::new();
+    check_len(console, path, read_all(&mut file, &mut store.index), HALF)?;
+    check_len(console, path, read_all(&mut file, &mut store.text), HALF)?;
+    check_len(console, path, count_more(&mut file), 0)?;
+    Ok(store)
 }
 
 // Whether there is a file of that name, or something that can't be opened. A name that is no text names none.

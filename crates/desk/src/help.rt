@@ -1,11 +1,17 @@
 // Help, and what is said after a command that is none or has other arguments than it should.
 use crate::console::Console;
-use crate::manual::{put_filing, put_holding, put_mappings, put_others, put_sharing};
-use crate::say::{DONE, ERR, OUT, TROUBLE, complain, say};
+use crate::manual::page;
+use crate::say::{ERR, Failure, complain, say};
 use crate::shown::complain_shown;
-use crate::suggest::{nothing_near, put_suggestion, with_names};
+use crate::suggest::Near;
 
-pub fn help(console: &Console) -> u8 {
+// The commands that are suggested.
+const COMMANDS: [&[u8]; 16] = [
+    b"new", b"insert", b"save", b"find", b"show", b"test", b"list", b"check", b"share", b"shares",
+    b"clear", b"undo", b"lint", b"default", b"demo", b"help",
+];
+
+pub fn help(console: &Console) {
     say(
         console,
         b"hub: mapping lines of game pads, in a hall's store file
@@ -34,73 +40,40 @@ A refusal prints 'refused NUMBER: meaning'. The exit status is 0 where all was d
 where the output can't be written. Refusals and trouble go to standard error.
 ",
     );
-    DONE
 }
 
 // `hub --version`
-pub fn version(console: &Console) -> u8 {
+pub fn version(console: &Console) {
     say(console, b"hub 0.1.0 (Raspteal)\n");
-    DONE
 }
 
-// Whether a command of that name was found, and its help printed.
-fn put_help(console: &Console, fd: i32, command: &[u8]) -> bool {
-    if put_filing(console, fd, command) {
-        return true;
-    }
-    if put_holding(console, fd, command) {
-        return true;
-    }
-    if put_sharing(console, fd, command) {
-        return true;
-    }
-    if put_mappings(console, fd, command) {
-        return true;
-    }
-    put_others(console, fd, command)
-}
-
-fn no_command(console: &Console, command: &[u8]) -> u8 {
+fn no_command(console: &Console, command: &[u8]) -> Failure {
     complain_shown(console, command);
     complain(console, b": no such command (hub help lists them)");
-    let near = with_names(
-        nothing_near(),
-        command,
-        b"new
-insert
-save
-find
-show
-test
-list
-check
-share
-shares
-clear
-undo
-lint
-default
-demo
-help",
-    );
-    put_suggestion(console, ERR, near, command);
+    let mut near = Near::to(command);
+    for name in COMMANDS {
+        near.offer(name);
+    }
+    near.put(console, ERR);
     complain(console, b"\n");
-    TROUBLE
+    Failure::Trouble
 }
 
 // `hub help COMMAND`
-pub fn help_on(console: &Console, command: &[u8]) -> u8 {
-    if put_help(console, OUT, command) {
-        return DONE;
-    }
-    no_command(console, command)
+pub fn help_on(console: &Console, command: &[u8]) -> Result<(), Failure> {
+    let Some(text) = page(command) else {
+        return Err(no_command(console, command));
+    };
+    say(console, text);
+    Ok(())
 }
 
 // After a command that is none, or has the wrong number of arguments.
-pub fn wrong_use(console: &Console, command: &[u8]) -> u8 {
-    if put_help(console, ERR, command) {
-        complain(console, b"The arguments are not as above.\n");
-        return TROUBLE;
-    }
-    no_command(console, command)
+pub fn wrong_use(console: &Console, command: &[u8]) -> Failure {
+    let Some(text) = page(command) else {
+        return no_command(console, command);
+    };
+    complain(console, text);
+    complain(console, b"The arguments are not as above.\n");
+    Failure::Trouble
 }

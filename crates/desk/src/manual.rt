@@ -1,14 +1,12 @@
-// What `hub help COMMAND` says. Each function answers whether the command is one of its own.
-use crate::console::Console;
-use crate::manual_pads::put_pad;
-use crate::say::put;
-use text::bytes::same_bytes;
+// What `hub help COMMAND` says.
+use crate::manual_pads::PAD;
 
-fn put_insert(console: &Console, fd: i32) {
-    put(
-        console,
-        fd,
-        b"hub insert STORE FILE [party=NUMBER]
+const NEW: &[u8] = b"hub new STORE
+  Makes a fresh store file, which holds no line: 131070 bytes, all 0.
+  A file that stands already is left alone.
+";
+
+const INSERT: &[u8] = b"hub insert STORE FILE [party=NUMBER]
   Files the lines of a list of at most 1048576 bytes; lines end at LF or CR LF. A line is
   filed when its first field is a UUID, and its 'platform:', if any, says Linux. It takes the
   place of a line that is held under the same UUID. Says how many lines were filed, how many of
@@ -21,15 +19,9 @@ fn put_insert(console: &Console, fd: i32) {
   party=7 files for league organiser 7, 1 to 255, and takes the place of that organiser's lines
   alone; without it the lines are the hall's. All of them have the room of the store together,
   but for what a share keeps (hub help share).
-",
-    );
-}
+";
 
-fn put_edit(console: &Console, fd: i32) {
-    put(
-        console,
-        fd,
-        b"hub edit STORE UUID KEY:VALUE .. [party=NUMBER]
+const EDIT: &[u8] = b"hub edit STORE UUID KEY:VALUE .. [party=NUMBER]
   Changes pairs of the line held under that UUID, and keeps the rest, hats and half axes too: a
   pair whose KEY the line has takes its place, another one comes behind the last pair, and KEY:
   with no value takes the pair out. 'hub help elements' lists the keys; bN is button N, aN axis N,
@@ -37,142 +29,55 @@ fn put_edit(console: &Console, fd: i32) {
   the line as it was and as it is, and the elements that are no longer bound.
   To exchange a and b: hub edit hall.store 030000005e0400008e02000014010000 a:b1 b:b0
   'hub undo STORE' takes it back. party=7 changes the line of league organiser 7.
-",
-    );
-}
+";
 
-fn put_remove(console: &Console, fd: i32) {
-    put(
-        console,
-        fd,
-        b"hub remove STORE UUID [party=NUMBER]
+const REMOVE: &[u8] = b"hub remove STORE UUID [party=NUMBER]
   Takes the line held under that UUID out of the store: the parties' shares are set and the other
   lines filed anew, each by its party and in its order, and compared with what they were. Where
   they would not be the same, nothing is changed, and it says why. 'hub undo STORE' brings the line
   back.
-",
-    );
-}
+";
 
-// The commands that change a store, but for save.
-pub fn put_filing(console: &Console, fd: i32, command: &[u8]) -> bool {
-    if same_bytes(command, b"new") {
-        put(
-            console,
-            fd,
-            b"hub new STORE
-  Makes a fresh store file, which holds no line: 131070 bytes, all 0.
-  A file that stands already is left alone.
-",
-        );
-        return true;
-    }
-    if same_bytes(command, b"insert") {
-        put_insert(console, fd);
-        return true;
-    }
-    if same_bytes(command, b"edit") {
-        put_edit(console, fd);
-        return true;
-    }
-    if same_bytes(command, b"remove") {
-        put_remove(console, fd);
-        return true;
-    }
-    if same_bytes(command, b"clear") {
-        put(
-            console,
-            fd,
-            b"hub clear STORE
+const CLEAR: &[u8] = b"hub clear STORE
   Empties the store, the hall's lines and the organisers', and drops the shares, whether it was
   sound or not. A file that has not the 131070 bytes of a store file is left alone. 'hub undo
   STORE' brings all back.
-",
-        );
-        return true;
-    }
-    if same_bytes(command, b"undo") {
-        put(
-            console,
-            fd,
-            b"hub undo STORE
+";
+
+const UNDO: &[u8] = b"hub undo STORE
   Brings back the store as it was before the last command that changed it: each such command
   keeps the former store as STORE.old. The present store becomes STORE.old, so that a second
   undo takes the first one back. Where the store is gone, STORE.old is brought back.
-",
-        );
-        return true;
-    }
-    false
-}
+";
 
-fn put_export(console: &Console, fd: i32) {
-    put(
-        console,
-        fd,
-        b"hub export STORE [digits] [party=NUMBER]
-  Prints the hall's lines, or those of a league organiser, for other programs: in the order in
-  which they were filed, whole, and with 'platform:Linux' where a line has no platform. 'digits'
-  spells each UUID in 32 digits, the one form that consoles read; such a line gives the same map.
-  Control bytes are printed as they are, so send it to a file.
-",
-    );
-}
-
-// The commands that look into a store.
-pub fn put_holding(console: &Console, fd: i32, command: &[u8]) -> bool {
-    if same_bytes(command, b"find") {
-        put(
-            console,
-            fd,
-            b"hub find STORE UUID [party=NUMBER]
+const FIND: &[u8] = b"hub find STORE UUID [party=NUMBER]
   Prints the line held under that UUID, or says 'none'. A UUID has 32 hexadecimal digits, or
   the form with hyphens, also in braces or after 'urn:uuid:'. Recent SDL releases put a
   checksum into digits 5 to 8: where only the UUID with zeros there is held, its line is
   printed, and 'near' with that UUID said on standard error. Control bytes of a line are
   printed as \\x and two digits. party=7 finds the lines of league organiser 7 alone; without it
   the hall's alone are found.
-",
-        );
-        return true;
-    }
-    if same_bytes(command, b"list") {
-        put(
-            console,
-            fd,
-            b"hub list STORE
+";
+
+const LIST: &[u8] = b"hub list STORE
   Prints the lines held, in the order in which they were filed, and the room left, beside the
   parties' shares where any is set. A line of a league organiser has its party before it, as
   'party 7: '.
-",
-        );
-        return true;
-    }
-    if same_bytes(command, b"export") {
-        put_export(console, fd);
-        return true;
-    }
-    if same_bytes(command, b"check") {
-        put(
-            console,
-            fd,
-            b"hub check STORE
+";
+
+const EXPORT: &[u8] = b"hub export STORE [digits] [party=NUMBER]
+  Prints the hall's lines, or those of a league organiser, for other programs: in the order in
+  which they were filed, whole, and with 'platform:Linux' where a line has no platform. 'digits'
+  spells each UUID in 32 digits, the one form that consoles read; such a line gives the same map.
+  Control bytes are printed as they are, so send it to a file.
+";
+
+const CHECK: &[u8] = b"hub check STORE
   Says that the store is sound, how many lines it holds and which room is left, and where a share
   is set how much of the text the parties claim; or 19.
-",
-        );
-        return true;
-    }
-    false
-}
+";
 
-// The commands on the parties' shares.
-pub fn put_sharing(console: &Console, fd: i32, command: &[u8]) -> bool {
-    if same_bytes(command, b"share") {
-        put(
-            console,
-            fd,
-            b"hub share STORE PARTY BYTES
+const SHARE: &[u8] = b"hub share STORE PARTY BYTES
   Gives a party a share of the text, which others can't fill: PARTY is 'hall' or a league
   organiser's number from 1 to 255. A line that leaves its party within its share is never
   turned away for want of text, however full the others made it. What counts is the sum over
@@ -180,29 +85,15 @@ pub fn put_sharing(console: &Console, fd: i32, command: &[u8]) -> bool {
   refused (25), and so is a share (26). A share takes 4 bytes of the index (21 where they are not
   there). BYTES 0 takes the share away. It may be below what the party uses; its lines stay.
   'hub undo STORE' takes it back.
-",
-        );
-        return true;
-    }
-    if same_bytes(command, b"shares") {
-        put(
-            console,
-            fd,
-            b"hub shares STORE
+";
+
+const SHARES: &[u8] = b"hub shares STORE
   Says of each party that has lines or a share how many bytes of the text it uses, its share, and
   how much of that is kept for it; then what all of them claim, and what is left.
-",
-        );
-        return true;
-    }
-    false
-}
+";
 
-fn put_save(console: &Console, fd: i32) {
-    put(
-        console,
-        fd,
-        b"hub save STORE UUID NAME buttons=CODES axes=CODES ELEMENT=CODE .. [party=NUMBER] [anyway]
+const SAVE: &[u8] =
+    b"hub save STORE UUID NAME buttons=CODES axes=CODES ELEMENT=CODE .. [party=NUMBER] [anyway]
   Builds a mapping line for the pad and files it; prints the line and its map, and where it
   takes the place of another line, that line and the elements that are no longer bound.
   'hub undo STORE' takes a save back. party=7 saves for league organiser 7, as insert does.
@@ -224,15 +115,18 @@ fn put_save(console: &Console, fd: i32) {
     hub save hall.store 030000005e0400008e02000014010000 'Seat 4' \\
       buttons=10130,10131,10133,10134,10136,10137,1013a-1013e axes=30000-30005 \\
       a=10131 b=10130 x=10133 y=10134 leftx=30000 lefty=30001
-",
-    );
-}
+";
 
-fn put_test(console: &Console, fd: i32) {
-    put(
-        console,
-        fd,
-        b"hub test STORE UUID buttons=CODES axes=CODES [party=NUMBER] from=FILE [after=N:UUID ..]
+const SHOW: &[u8] = b"hub show STORE UUID buttons=CODES axes=CODES [party=NUMBER]
+  Reads the line held under that UUID with the pad's codes, and prints it with its map: each
+  code with its element, then name, hat flags and default flag. Where only the UUID without its
+  checksum is held, it goes by that line, and says so as find does. 'hub help save' says how
+  CODES are written, and where a pad's codes are to be found. party=7 takes the line of league
+  organiser 7.
+";
+
+const TEST: &[u8] =
+    b"hub test STORE UUID buttons=CODES axes=CODES [party=NUMBER] from=FILE [after=N:UUID ..]
          [with=FILE [uuid2=UUID] [buttons2=CODES] [axes2=CODES] [after2=N:UUID ..]]
   Reads the line held under that UUID with the pad's codes, and tells what each event of a
   recorded pad gives by it: the code with its raw value, and the element that has another value
@@ -258,110 +152,66 @@ fn put_test(console: &Console, fd: i32) {
   UUID without its checksum is held, it goes by that line, and says so as find does. 'hub help
   save' says how CODES are written.
   party=7 goes by the lines of league organiser 7, for both pads.
-",
-    );
-}
+";
 
-// The commands on mappings.
-pub fn put_mappings(console: &Console, fd: i32, command: &[u8]) -> bool {
-    if same_bytes(command, b"save") {
-        put_save(console, fd);
-        return true;
-    }
-    if same_bytes(command, b"show") {
-        put(
-            console,
-            fd,
-            b"hub show STORE UUID buttons=CODES axes=CODES [party=NUMBER]
-  Reads the line held under that UUID with the pad's codes, and prints it with its map: each
-  code with its element, then name, hat flags and default flag. Where only the UUID without its
-  checksum is held, it goes by that line, and says so as find does. 'hub help save' says how
-  CODES are written, and where a pad's codes are to be found. party=7 takes the line of league
-  organiser 7.
-",
-        );
-        return true;
-    }
-    if same_bytes(command, b"test") {
-        put_test(console, fd);
-        return true;
-    }
-    if same_bytes(command, b"default") {
-        put(
-            console,
-            fd,
-            b"hub default buttons=CODES axes=CODES
+const DEFAULT: &[u8] = b"hub default buttons=CODES axes=CODES
   Prints the map that a pad with these codes gets where no line is held for it.
 hub default layout [--csv]
   Prints the default layout of the buttons for the hall's wall: key code, button and SDL
   name, in a table; with --csv with commas between, for a label printer.
-",
-        );
-        return true;
-    }
-    false
-}
+";
 
-fn put_tidy(console: &Console, fd: i32) {
-    put(
-        console,
-        fd,
-        b"hub tidy FILE
-  Prints a list of at most 1048576 bytes with the pairs of each line by hand side: the left stick,
-  shoulder, trigger and the directions; then the right ones, with a, b, c, x, y and z; then the
-  rest. FILE itself is not changed. A line gives the same map as before, for every pad whose lists
-  have no code twice and none of a hat (10220 to 10223, 30010, 30011). Left alone are comments,
-  lines that are refused, lines that bind a button or an axis twice, unlike, since the later pair
-  wins there, and lines that bind a direction of a hat to another element than its own.
-",
-    );
-}
-
-// The commands that need no store.
-pub fn put_others(console: &Console, fd: i32, command: &[u8]) -> bool {
-    if same_bytes(command, b"lint") {
-        put(
-            console,
-            fd,
-            b"hub lint FILE
+const LINT: &[u8] = b"hub lint FILE
   Reads every line of a list of at most 1048576 bytes, and shows each refused one, up to 1000,
   with its number, its meaning and a mark under the place, which counts bytes from 0. UUID, name
   and the refused pair are shown; two dots stand where the line is cut, one dot for each byte
   that is no printable ASCII. Names the lines that an insert files whose UUID is not spelled in
   32 digits, the one form that consoles read. Then it says how many lines an insert would pass
   over. Lines that start with # are comments, and not read.
-",
-        );
-        return true;
-    }
-    if same_bytes(command, b"tidy") {
-        put_tidy(console, fd);
-        return true;
-    }
-    if same_bytes(command, b"pad") {
-        put_pad(console, fd);
-        return true;
-    }
-    if same_bytes(command, b"demo") {
-        put(
-            console,
-            fd,
-            b"hub demo
+";
+
+const TIDY: &[u8] = b"hub tidy FILE
+  Prints a list of at most 1048576 bytes with the pairs of each line by hand side: the left stick,
+  shoulder, trigger and the directions; then the right ones, with a, b, c, x, y and z; then the
+  rest. FILE itself is not changed. A line gives the same map as before, for every pad whose lists
+  have no code twice and none of a hat (10220 to 10223, 30010, 30011). Left alone are comments,
+  lines that are refused, lines that bind a button or an axis twice, unlike, since the later pair
+  wins there, and lines that bind a direction of a hat to another element than its own.
+";
+
+const DEMO: &[u8] = b"hub demo
   Shows the main job on a small list: a fresh store, insert, save, find, read back. The
   store is in memory; no file is touched.
-",
-        );
-        return true;
-    }
-    if same_bytes(command, b"help") {
-        put(
-            console,
-            fd,
-            b"hub help [COMMAND]
+";
+
+const HELP: &[u8] = b"hub help [COMMAND]
   Lists the commands, or says more about one; so do 'hub --help' and 'hub COMMAND --help'.
-",
-        );
-        return true;
+";
+
+// The page on a command.
+pub fn page(command: &[u8]) -> Option<&'static [u8]> {
+    match command {
+        b"new" => Some(NEW),
+        b"insert" => Some(INSERT),
+        b"edit" => Some(EDIT),
+        b"remove" => Some(REMOVE),
+        b"clear" => Some(CLEAR),
+        b"undo" => Some(UNDO),
+        b"find" => Some(FIND),
+        b"list" => Some(LIST),
+        b"export" => Some(EXPORT),
+        b"check" => Some(CHECK),
+        b"share" => Some(SHARE),
+        b"shares" => Some(SHARES),
+        b"save" => Some(SAVE),
+        b"show" => Some(SHOW),
+        b"test" => Some(TEST),
+        b"default" => Some(DEFAULT),
+        b"lint" => Some(LINT),
+        b"tidy" => Some(TIDY),
+        b"pad" => Some(PAD),
+        b"demo" => Some(DEMO),
+        b"help" => Some(HELP),
+        _ => None,
     }
-    false
 }

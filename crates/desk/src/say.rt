@@ -1,14 +1,25 @@
 // What is printed: answers on standard output; refusals, `none`, `near` and trouble on standard error.
 use crate::console::{Console, print, write};
 pub use crate::console::{ERR, OUT, STATUS};
+use std::fmt::Display;
 use text::uuid::Uuid;
 
-// The status of a command that is done, of one that was refused or found nothing, and of wrong use or file trouble.
-pub const DONE: u8 = 0;
+// Why a command, or a step of one, was not done: it was refused, or found nothing; or wrong use, or trouble with a file.
+// The greater is the worse.
+#[derive(Clone, Copy, PartialEq, Eq, PartialOrd, Ord)]
+pub enum Failure {
+    Refused,
+    Trouble,
+}
 
-pub const REFUSED: u8 = 1;
-
-pub const TROUBLE: u8 = 2;
+// The program's exit status.
+pub fn exit_status(done: Result<(), Failure>) -> u8 {
+    match done {
+        Ok(()) => 0,
+        Err(Failure::Refused) => 1,
+        Err(Failure::Trouble) => 2,
+    }
+}
 
 // Notes for the script `hub` that something could not be written.
 fn noted(console: &Console, written: bool) {
@@ -21,26 +32,25 @@ pub fn put(console: &Console, fd: i32, text: &[u8]) {
     noted(console, write(console, fd, text));
 }
 
+// A value in words or digits.
+pub fn put_value<D: Display + Drop>(console: &Console, fd: i32, value: D) {
+    noted(console, print(console, fd, value));
+}
+
 pub fn put_number(console: &Console, fd: i32, n: usize) {
-    noted(console, print(console, fd, n));
+    put_value(console, fd, n);
 }
 
 // A code, in hexadecimal.
 pub fn put_code(console: &Console, fd: i32, code: u32) {
-    noted(console, print(console, fd, format_args!("{code:x}")));
-}
-
-// A byte, in two hexadecimal digits.
-pub fn put_hex_byte(console: &Console, fd: i32, b: u8) {
-    noted(console, print(console, fd, format_args!("{b:02x}")));
+    put_value(console, fd, format_args!("{code:x}"));
 }
 
 // A UUID, in 32 digits.
 pub fn put_uuid(console: &Console, fd: i32, id: Uuid) {
     let high = id.high;
     let low = id.low;
-    noted(console, print(console, fd, format_args!("{high:016x}")));
-    noted(console, print(console, fd, format_args!("{low:016x}")));
+    put_value(console, fd, format_args!("{high:016x}{low:016x}"));
 }
 
 pub fn say(console: &Console, text: &[u8]) {
@@ -49,6 +59,17 @@ pub fn say(console: &Console, text: &[u8]) {
 
 pub fn say_number(console: &Console, n: usize) {
     put_number(console, OUT, n);
+}
+
+// A count with its words, in a row of its own; nothing where it is 0.
+pub fn say_count(console: &Console, n: usize, words: &[u8]) {
+    if n == 0 {
+        return;
+    }
+    say(console, b"  ");
+    say_number(console, n);
+    say(console, words);
+    say(console, b"\n");
 }
 
 pub fn complain(console: &Console, text: &[u8]) {

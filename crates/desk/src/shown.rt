@@ -3,82 +3,62 @@
 // column.
 use crate::console::{Console, write_error};
 use crate::fields::first;
-use crate::say::{ERR, OUT, put, put_hex_byte};
+use crate::say::{ERR, Failure, OUT, put, put_value};
 use std::io::Error;
-use text::utf8::is_utf8;
+use std::str;
 
 // The most columns before a mark.
 const COLUMNS: usize = 320;
 
-fn byte_at(s: &[u8], i: usize) -> u8 {
-    if i < s.len() {
-        return s[i];
-    }
-    0
+// Whether a byte is printable ASCII.
+fn is_plain(b: u8) -> bool {
+    matches!(b, b' '..=b'~')
 }
 
-// Whether the byte at `i` is one of a control character: below 32, 127, or U+0080 to U+009F, which UTF-8 spells c2 80
-// to c2 9f.
-fn is_control(s: &[u8], i: usize, utf8: bool) -> bool {
-    let b = byte_at(s, i);
-    if b < b' ' {
-        return true;
+// Bytes as \x and two digits each.
+fn put_hidden(console: &Console, fd: i32, bytes: &[u8]) {
+    for b in bytes {
+        put_value(console, fd, format_args!("\\x{b:02x}"));
     }
-    if b < 127 {
-        return false;
-    }
-    if b == 127 {
-        return true;
-    }
-    if !utf8 {
-        return true;
-    }
-    if b == 0xc2 {
-        return byte_at(s, std::num::wrapping_add_usize(i, 1)) < 0xa0;
-    }
-    if b < 0xa0 {
-        return byte_at(s, std::num::wrapping_sub_usize(i, 1)) == 0xc2;
-    }
-    false
 }
 
-fn has_controls(s: &[u8], utf8: bool) -> bool {
-    let mut i: usize = 0;
-    while i < s.len() {
-        if is_control(s, i, utf8) {
-            return true;
-        }
-        i += 1;
-    }
-    false
-}
-
-fn put_byte(console: &Console, fd: i32, s: &[u8], i: usize, utf8: bool) {
-    let b = byte_at(s, i);
-    if is_control(s, i, utf8) {
-        put(console, fd, b"\\x");
-        put_hex_byte(console, fd, b);
+// A character; the bytes of a control character are hidden.
+fn put_char(console: &Console, fd: i32, c: char) {
+    let mut space = [0u8; 4];
+    let bytes = c.encode_utf8(&mut space).as_bytes();
+    if c.is_control() {
+        put_hidden(console, fd, bytes);
         return;
     }
-    let byte = [b];
-    put(console, fd, &byte);
+    put(console, fd, bytes);
 }
 
-fn put_bytes(console: &Console, fd: i32, s: &[u8], utf8: bool) {
-    let mut i: usize = 0;
-    while i < s.len() {
-        put_byte(console, fd, s, i, utf8);
-        i += 1;
+fn put_text(console: &Console, fd: i32, text: &str) {
+    if !text.chars().any(|c| c.is_control()) {
+        put(console, fd, text.as_bytes());
+        return;
+    }
+    for c in text.chars() {
+        put_char(console, fd, c);
+    }
+}
+
+// A text that is not UTF-8.
+fn put_bytes(console: &Console, fd: i32, s: &[u8]) {
+    for b in s {
+        if is_plain(*b) {
+            put(console, fd, &[*b]);
+        } else {
+            put_hidden(console, fd, &[*b]);
+        }
     }
 }
 
 pub fn put_shown(console: &Console, fd: i32, s: &[u8]) {
-    let utf8 = is_utf8(s);
-    if has_controls(s, utf8) {
-        put_bytes(console, fd, s, utf8);
-        return;
+    match str::from_utf8(s) {
+        Ok(text) => put_text(console, fd, text),
+        Err(_) => put_bytes(console, fd, s),
     }
-    put(console, fd, s);
 }
 
 pub fn say_shown(console: &Console, s: &[u8]) {
@@ -90,50 +70,22 @@ pub fn complain_shown(console: &Console, s: &[u8]) {
 }
 
 // Says what failed, and why, by the system's words.
-pub fn fail(console: &Console, what: &[u8], error: Error) {
+pub fn fail(console: &Console, what: &[u8], error: Error) -> Failure {
     complain_shown(console, what);
     write_error(console, error);
-}
-
-// Whether a byte takes one column.
-fn is_plain(b: u8) -> bool {
-    if b < b' ' {
-        return false;
-    }
-    b <= b'~'
-}
-
-fn put_column(console: &Console, fd: i32, b: u8) {
-    if is_plain(b) {
-        let byte = [b];
-        put(console, fd, &byte);
-        return;
-    }
-    put(console, fd, b".");
-}
-
-fn is_all_plain(s: &[u8]) -> bool {
-    let mut i: usize = 0;
-    while i < s.len() {
-        if !is_plain(s[i]) {
-            return false;
-        }
-        i += 1;
-    }
-    true
+    Failure::Trouble
 }
 
 fn put_columns(console: &Console, fd: i32, s: &[u8]) {
-    let mut i: usize = 0;
-    while i < s.len() {
-        put_column(console, fd, s[i]);
-        i += 1;
+    for b in s {
+        let shown = if is_plain(*b) { *b } else { b'.' };
+        put(console, fd, &[shown]);
     }
 }
 
 // A text in which each byte takes one column: one that is no printable ASCII is a dot.
 pub fn put_plain(console: &Console, fd: i32, s: &[u8]) {
-    if is_all_plain(s) {
+    if s.iter().all(|b| is_plain(*b)) {
         put(console, fd, s);
         return;
     }

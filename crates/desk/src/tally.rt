@@ -1,11 +1,10 @@
 // What became of the records of a recording, counted.
 use crate::console::Console;
-use crate::say::{DONE, REFUSED, say, say_number};
-use std::num::wrapping_add_usize;
+use crate::say::{Failure, OUT, put_value, say_count};
 
 // How many records told an event; how many of a button or an axis told none, and why; how many are of other kinds; and
 // how often a map was changed, and how many events that told.
-#[derive(Clone, Copy)]
+#[derive(Clone, Copy, Default)]
 pub struct Tally {
     pub told: usize,
     pub unmapped: usize,
@@ -20,94 +19,59 @@ pub struct Tally {
     pub changed: usize,
 }
 
-pub fn nothing_told() -> Tally {
-    Tally {
-        told: 0,
-        unmapped: 0,
-        valueless: 0,
-        kept: 0,
-        left_out: 0,
-        repeats: 0,
-        beyond: 0,
-        refused: 0,
-        others: 0,
-        changes: 0,
-        changed: 0,
-    }
-}
-
-pub fn more(n: usize) -> usize {
-    wrapping_add_usize(n, 1)
-}
-
-fn sum(a: usize, b: usize, c: usize, d: usize) -> usize {
-    wrapping_add_usize(wrapping_add_usize(a, b), wrapping_add_usize(c, d))
-}
-
-fn say_count(console: &Console, n: usize, words: &[u8]) {
-    if n == 0 {
-        return;
-    }
-    say(console, b"  ");
-    say_number(console, n);
-    say(console, words);
-    say(console, b"\n");
+// One more.
+pub fn count_one(n: &mut usize) {
+    *n = n.wrapping_add(1);
 }
 
 // How many events the changes of map told.
 fn say_changes(console: &Console, tally: Tally) {
-    if tally.changes == 0 {
-        return;
+    let Tally {
+        changes,
+        changed,
+        ..
+    } = tally;
+    if changes != 0 {
+        put_value(
+            console,
+            OUT,
+            format_args!("{changed} events more at {changes} changes of map\n"),
+        );
     }
-    say_number(console, tally.changed);
-    say(console, b" events more at ");
-    say_number(console, tally.changes);
-    say(console, b" changes of map\n");
 }
 
 // What became of the records.
 pub fn say_tally(console: &Console, tally: Tally) {
-    let held = sum(tally.unmapped, tally.valueless, tally.kept, tally.left_out);
-    let other = sum(tally.repeats, tally.beyond, tally.refused, 0);
-    say_number(console, tally.told);
-    say(console, b" events told, ");
-    say_number(console, wrapping_add_usize(held, other));
-    say(console, b" without one, ");
-    say_number(console, tally.others);
-    say(console, b" records of other kinds skipped\n");
-    say_count(
+    let untold: [(usize, &[u8]); 7] = [
+        (tally.unmapped, b" of codes that are not in the map"),
+        (tally.valueless, b" of values that the line gives none"),
+        (tally.kept, b" of elements that keep their value"),
+        (tally.left_out, b" of elements that are left out"),
+        (tally.repeats, b" of buttons that repeat"),
+        (tally.beyond, b" of values that no button or axis has"),
+        (tally.refused, b" of codes over the 256 that a pad holds"),
+    ];
+    let all = untold
+        .iter()
+        .fold(0usize, |all, (n, _)| all.wrapping_add(*n));
+    let Tally { told, others, .. } = tally;
+    put_value(
         console,
-        tally.unmapped,
-        b" of codes that are not in the map",
+        OUT,
+        format_args!(
+            "{told} events told, {all} without one, {others} records of other kinds skipped\n"
+        ),
     );
-    say_count(
-        console,
-        tally.valueless,
-        b" of values that the line gives none",
-    );
-    say_count(console, tally.kept, b" of elements that keep their value");
-    say_count(console, tally.left_out, b" of elements that are left out");
-    say_count(console, tally.repeats, b" of buttons that repeat");
-    say_count(
-        console,
-        tally.beyond,
-        b" of values that no button or axis has",
-    );
-    say_count(
-        console,
-        tally.refused,
-        b" of codes over the 256 that a pad holds",
-    );
+    for (n, words) in untold {
+        say_count(console, n, words);
+    }
     say_changes(console, tally);
 }
 
 // Refused where a value is one that no button or axis has, and where a pad has too many codes.
-pub fn tally_status(tally: Tally) -> u8 {
-    if 0 < tally.beyond {
-        return REFUSED;
+pub fn tally_status(tally: Tally) -> Result<(), Failure> {
+    if 0 < tally.beyond || 0 < tally.refused {
+        return Err(Failure::Refused);
     }
-    if 0 < tally.refused {
-        return REFUSED;
-    }
-    DONE
+    Ok(())
 }

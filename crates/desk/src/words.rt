@@ -1,16 +1,16 @@
 // Refusals in words: document 01's number, what it means, and what it is about. bindings/declared holds these words to those of
-// the header and of the Rust crate.
+// the header and of the Rust crate. A refusal is its number here, not a type: document 01's numbers are what is typed
+// after `hub help` and what is printed.
 use crate::advice::put_advice;
 use crate::console::Console;
 use crate::fields::nth_part;
-use crate::say::{ERR, REFUSED, complain, put, put_code, put_number};
+use crate::say::{ERR, Failure, complain, put, put_value};
 use crate::shown::complain_shown;
 
-// `refused 21: no room in the index`
+// `refused 21: no room in the index`. The meanings stand in one text, a row for each number, and not in an array, since
+// bindings/declared reads them there.
 pub fn put_refused(console: &Console, fd: i32, number: usize) {
-    put(console, fd, b"refused ");
-    put_number(console, fd, number);
-    put(console, fd, b": ");
+    put_value(console, fd, format_args!("refused {number}: "));
     put(
         console,
         fd,
@@ -49,35 +49,32 @@ more than 256 codes held by a pad",
 }
 
 pub fn put_place(console: &Console, fd: i32, place: usize) {
-    put(console, fd, b" (place ");
-    put_number(console, fd, place);
-    put(console, fd, b")\n");
+    put_value(console, fd, format_args!(" (place {place})\n"));
 }
 
-pub fn refused(console: &Console, number: usize) -> u8 {
+// Each of these says what was refused.
+pub fn refused(console: &Console, number: usize) -> Failure {
     put_refused(console, ERR, number);
     complain(console, b"\n");
     if number == 24 {
         put_advice(console, ERR, number);
     }
-    REFUSED
+    Failure::Refused
 }
 
-pub fn refused_at(console: &Console, number: usize, place: usize) -> u8 {
+pub fn refused_at(console: &Console, number: usize, place: usize) -> Failure {
     put_refused(console, ERR, number);
     put_place(console, ERR, place);
-    REFUSED
+    Failure::Refused
 }
 
-pub fn refused_code(console: &Console, number: usize, code: u32) -> u8 {
+pub fn refused_code(console: &Console, number: usize, code: u32) -> Failure {
     put_refused(console, ERR, number);
-    complain(console, b" (code ");
-    put_code(console, ERR, code);
-    complain(console, b")\n");
-    REFUSED
+    put_value(console, ERR, format_args!(" (code {code:x})\n"));
+    Failure::Refused
 }
 
-pub fn refused_file(console: &Console, path: &[u8]) -> u8 {
+pub fn refused_file(console: &Console, path: &[u8]) -> Failure {
     put_refused(console, ERR, 19);
     complain(console, b" (");
     complain_shown(console, path);
@@ -85,11 +82,11 @@ pub fn refused_file(console: &Console, path: &[u8]) -> u8 {
         console,
         b" has not the 131070 bytes of a store file, and is left alone)\n",
     );
-    REFUSED
+    Failure::Refused
 }
 
 // Nothing was found.
-pub fn none(console: &Console) -> u8 {
+pub fn none(console: &Console) -> Failure {
     complain(console, b"none\n");
-    REFUSED
+    Failure::Refused
 }

@@ -2,12 +2,12 @@
 // lines; a letter and what it says stand at the start of each: `I: Bus=0003 Vendor=045e ..`, `N: Name=".."`,
 // `H: Handlers=event5 js0`, `B: KEY=..` and `B: ABS=..`. The last two are bits in hexadecimal, 64 to a word, the word of
 // the highest codes first.
-use desk::codes::{ABS, CodeParse, Codes, KEY, code_of, no_codes, parse_code, with_code};
-use desk::fields::{
-    after, after_part, before, count_parts, first, less, nth_part, part_at, section,
-};
-use std::num::wrapping_add_usize;
-use text::bytes::{same_bytes, write_bytes};
+ghost use Rattle.std.specs.Prelude.{length};
+ghost use Rattle.std.specs.Iterator.{at_most};
+
+use desk::codes::{Codes, Kind, parse_code};
+use desk::fields::{after, before, first, without};
+use std::iter::Take;
 use text::uuid::Uuid;
 
 // The codes of linux/input-event-codes.h: where the buttons of joysticks and pads start, and which codes only these have;
@@ -26,35 +26,56 @@ const ABS_HAT_END: u16 = 0x18;
 
 const ABS_END: u16 = 0x40;
 
-// More devices than a machine has.
+// More devices than a machine has: blocks past this many are not looked at.
 const DEVICES_MAX: usize = 4096;
 
 // The bytes of a name that a GUID has room for.
 const NAME_BYTES: usize = 11;
 
-// Where the block that starts at `at` ends: before an empty line.
-fn block_end(devices: &[u8], at: usize) -> usize {
-    let mut i = at;
-    while i < devices.len() {
-        if part_at(devices, i, b'\n').len() == 0 {
-            return i;
-        }
-        i = after_part(devices, i, b'\n');
+// The devices of a list.
+#[derive(Drop)]
+pub struct Devices<'a> {
+    rest: &'a [u8],
+}
+
+// How long the first block is: up to an empty line.
+fn block_len(devices: &[u8]) -> usize {
+    if devices.starts_with(b"\n") {
+        return 0;
     }
-    i
+    match devices
+        .windows(2)
+        .position(|ends| ends == b"\n\n".as_slice())
+    {
+        Some(n) => n + 1,
+        None => devices.len(),
+    }
+}
+
+impl<'a> Iterator for Devices<'a> {
+    type Item = &'a [u8];
+
+    ghost remaining = { λ s. at_most (length s.rest.now) };
+
+    fn next(&mut self) -> Option<&'a [u8]> {
+        let devices = self.rest;
+        if devices.is_empty() {
+            return None;
+        }
+        let len = block_len(devices);
+        self.rest = match devices.get(len..) {
+            Some([_, rest @ ..]) => rest,
+            _ => &[],
+        };
+        Some(first(devices, len))
+    }
 }
 
 // What follows `key` in the first part that starts with it, of those that end at a `b`; nothing where there is none.
 fn field_of<'a, 'b>(s: &'a [u8], key: &'b [u8], b: u8) -> &'a [u8] {
-    let mut at: usize = 0;
-    while at < s.len() {
-        let part = part_at(s, at, b);
-        if same_bytes(first(part, key.len()), key) {
-            return section(part, key.len(), part.len());
-        }
-        at = after_part(s, at, b);
-    }
-    &s[..0]
+    s.split(|x| *x == b)
+        .find_map(|part| part.strip_prefix(key))
+        .unwrap_or(&[])
 }
 
 // The name of a device, without the quotation marks.
@@ -68,180 +89,116 @@ pub fn device_number(device: &[u8]) -> &[u8] {
     field_of(field_of(device, b"H: Handlers=", b'\n'), b"event", b' ')
 }
 
-// The value of a hexadecimal digit; 0 for what is none.
-fn digit_value(b: u8) -> u8 {
-    match b {
-        b'0'..=b'9' => b - b'0',
-        b'a'..=b'f' => b - b'a' + 10,
-        b'A'..=b'F' => b - b'A' + 10,
-        _ => 0,
-    }
-}
-
-// Whether bit `k` of a digit is set.
-fn digit_has(value: u8, k: u16) -> bool {
-    match k {
-        0 => value % 2 == 1,
-        1 => value / 2 % 2 == 1,
-        2 => value / 4 % 2 == 1,
-        _ => value / 8 % 2 == 1,
-    }
-}
-
-// Whether bit `k` of a word is set.
+// Whether bit `k` of a word is set. What is no hexadecimal digit has none.
 fn word_has(word: &[u8], k: u16) -> bool {
-    let from_end = (k / 4) as usize;
-    if from_end < word.len() {
-        let at = word.len() - 1 - from_end;
-        return digit_has(digit_value(word[at]), k % 4);
+    let Some(digit) = word.iter().rev().nth((k / 4) as usize) else {
+        return false;
+    };
+    match char::from(*digit).to_digit(16) {
+        Some(value) => value >> (k % 4) & 1 == 1,
+        None => false,
     }
-    false
 }
 
 // Whether a list of words has the bit of a code.
 fn bits_have(bits: &[u8], code: u16) -> bool {
-    let words = count_parts(bits, b' ');
-    let from_end = (code / 64) as usize;
-    if from_end < words {
-        return word_has(nth_part(bits, words - 1 - from_end, b' '), code % 64);
+    match without(bits, b' ')
+        .rsplit(|b| *b == b' ')
+        .nth((code / 64) as usize)
+    {
+        Some(word) => word_has(word, code % 64),
+        None => false,
     }
-    false
 }
 
 // The codes of a kind from one number up to another that a list of words has, ascending.
-fn codes_in(codes: Codes, bits: &[u8], kind: u32, from: u16, end: u16) -> Codes {
-    let mut next = codes;
+fn push_codes(codes: &mut Codes, bits: &[u8], kind: Kind, from: u16, end: u16) {
     for code in from..end {
         if bits_have(bits, code) {
-            next = with_code(next, code_of(kind, code));
+            codes.push(kind.code(code));
         }
     }
-    next
 }
 
 // The button codes of a device, in the order by which lines count them: those of joysticks and pads, then those below.
 pub fn device_buttons(device: &[u8]) -> Codes {
     let bits = field_of(device, b"B: KEY=", b'\n');
-    let own = codes_in(no_codes(), bits, KEY, BTN_JOYSTICK, KEY_END);
-    codes_in(own, bits, KEY, 0, BTN_JOYSTICK)
+    let mut codes = Codes::new();
+    push_codes(&mut codes, bits, Kind::Button, BTN_JOYSTICK, KEY_END);
+    push_codes(&mut codes, bits, Kind::Button, 0, BTN_JOYSTICK);
+    codes
 }
 
 // The axis codes, without those of hats.
 pub fn device_axes(device: &[u8]) -> Codes {
     let bits = field_of(device, b"B: ABS=", b'\n');
-    let low = codes_in(no_codes(), bits, ABS, 0, ABS_HAT0X);
-    codes_in(low, bits, ABS, ABS_HAT_END, ABS_END)
+    let mut codes = Codes::new();
+    push_codes(&mut codes, bits, Kind::Axis, 0, ABS_HAT0X);
+    push_codes(&mut codes, bits, Kind::Axis, ABS_HAT_END, ABS_END);
+    codes
 }
 
 // The codes of hats.
 pub fn device_hats(device: &[u8]) -> Codes {
     let bits = field_of(device, b"B: ABS=", b'\n');
-    codes_in(no_codes(), bits, ABS, ABS_HAT0X, ABS_HAT_END)
+    let mut codes = Codes::new();
+    push_codes(&mut codes, bits, Kind::Axis, ABS_HAT0X, ABS_HAT_END);
+    codes
 }
 
 // Whether a device is a pad: it has a button of a joystick or a pad.
-fn is_pad(device: &[u8]) -> bool {
+pub fn is_pad(device: &[u8]) -> bool {
     let bits = field_of(device, b"B: KEY=", b'\n');
-    let own = codes_in(no_codes(), bits, KEY, BTN_JOYSTICK, BTN_DIGI);
-    let all = codes_in(own, bits, KEY, BTN_TRIGGER_HAPPY, KEY_END);
-    0 < all.len
+    (BTN_JOYSTICK..BTN_DIGI)
+        .chain(BTN_TRIGGER_HAPPY..KEY_END)
+        .any(|code| bits_have(bits, code))
 }
 
-// Pad `n` of a list of devices, from 1 on; nothing where there are fewer.
-pub fn pad_device(devices: &[u8], n: usize) -> &[u8] {
-    let mut at: usize = 0;
-    let mut pads: usize = 0;
-    for _ in 0..DEVICES_MAX {
-        let end = block_end(devices, at);
-        let device = section(devices, at, less(end, at));
-        if is_pad(device) {
-            pads = wrapping_add_usize(pads, 1);
-            if pads == n {
-                return device;
-            }
-        }
-        at = after_part(devices, end, b'\n');
-    }
-    &devices[..0]
+// The first devices of a list, each a block of lines.
+pub fn devices_in(list: &[u8]) -> Take<Devices<'_>> {
+    Devices { rest: list }.take(DEVICES_MAX)
 }
 
 // A number of the line `I:`, as `Vendor=045e`; 0 where there is none.
 fn id_number(device: &[u8], key: &[u8]) -> u16 {
-    let parsed = parse_code(field_of(field_of(device, b"I: ", b'\n'), key, b' '));
-    match parsed {
-        CodeParse::Parsed(n) => (n % 65536) as u16,
-        CodeParse::Invalid => 0,
+    match parse_code(field_of(field_of(device, b"I: ", b'\n'), key, b' ')) {
+        Some(n) => (n % 65536) as u16,
+        None => 0,
     }
 }
 
-fn low(n: u16) -> u8 {
-    (n % 256) as u8
-}
-
-fn high(n: u16) -> u8 {
-    (n / 256) as u8
-}
-
-// Numbers whose first byte is the high one.
-fn pair(first: u8, second: u8) -> u16 {
-    (first as u16) * 256 + second as u16
-}
-
-fn quad(first: u16, second: u16) -> u32 {
-    (first as u32) * 65536 + second as u32
-}
-
-fn long(first: u32, second: u32) -> u64 {
-    (first as u64) * 4294967296 + second as u64
-}
-
-fn uuid_in(b: &[u8; 16]) -> Uuid {
-    let high = long(
-        quad(pair(b[0], b[1]), pair(b[2], b[3])),
-        quad(pair(b[4], b[5]), pair(b[6], b[7])),
-    );
-    let low = long(
-        quad(pair(b[8], b[9]), pair(b[10], b[11])),
-        quad(pair(b[12], b[13]), pair(b[14], b[15])),
-    );
-    Uuid { high, low }
-}
-
-// Bus, vendor, product and version, two bytes each with the low one first, and two zeros behind each.
-fn id_guid(bus: u16, vendor: u16, product: u16, version: u16) -> Uuid {
-    let mut b = [0u8; 16];
-    b[0] = low(bus);
-    b[1] = high(bus);
-    b[4] = low(vendor);
-    b[5] = high(vendor);
-    b[8] = low(product);
-    b[9] = high(product);
-    b[12] = low(version);
-    b[13] = high(version);
-    uuid_in(&b)
+// Two numbers, two bytes each with the low one first, and two zeros behind each.
+fn half_guid(first: u16, second: u16) -> u64 {
+    let a = first.to_le_bytes();
+    let b = second.to_le_bytes();
+    u64::from_be_bytes([a[0], a[1], 0, 0, b[0], b[1], 0, 0])
 }
 
 // The bus, two zeros, and the first bytes of the name.
 fn name_guid(bus: u16, name: &[u8]) -> Uuid {
-    let mut b = [0u8; 16];
-    b[0] = low(bus);
-    b[1] = high(bus);
-    write_bytes(&mut b, 4, first(name, NAME_BYTES));
-    uuid_in(&b)
+    let bus = bus.to_le_bytes();
+    let mut b = [0u8; NAME_BYTES];
+    for (place, byte) in b.iter_mut().zip(name) {
+        *place = *byte;
+    }
+    Uuid {
+        high: u64::from_be_bytes([bus[0], bus[1], 0, 0, b[0], b[1], b[2], b[3]]),
+        low: u64::from_be_bytes([b[4], b[5], b[6], b[7], b[8], b[9], b[10], 0]),
+    }
 }
 
-// The GUID of a device, as mapping lines have it.
+// The GUID of a device, as mapping lines have it: bus, vendor, product and version, or the name where there is no such
+// number.
 pub fn device_guid(device: &[u8]) -> Uuid {
     let bus = id_number(device, b"Bus=");
     let vendor = id_number(device, b"Vendor=");
     let product = id_number(device, b"Product=");
     let version = id_number(device, b"Version=");
-    if vendor == 0 {
-        if product == 0 {
-            if version == 0 {
-                return name_guid(bus, device_name(device));
-            }
-        }
+    if (vendor, product, version) == (0, 0, 0) {
+        return name_guid(bus, device_name(device));
     }
-    id_guid(bus, vendor, product, version)
+    Uuid {
+        high: half_guid(bus, vendor),
+        low: half_guid(product, version),
+    }
 }

@@ -1,137 +1,97 @@
 // What holds an element at its value: a code of the pad, or the pad beside it.
-use crate::playing::{Play, pad_of, say_beside, seat_of};
-use crate::values::{AxisValue, axis_value, distance};
+use crate::playing::{Play, beside, say_which};
 use desk::console::Console;
-use desk::say::{OUT, put_code, say};
+use desk::fields::first;
+use desk::say::{OUT, put_value, say};
 use line::ev::{AxisOrBtn, Code};
-use line::mapping::Mapping;
 use pad::events::Raw;
-use pad::state::{HELD_MAX, Pad};
 use pad::two::Which;
-use pad::value::{Emitted, event};
-
-// More than any code.
-const NO_CODE: u32 = 4294967295;
+use pad::value::event;
 
 // A held code is a number: the code, and its last raw value below this: 0 released, 1 pressed, from 2 on an axis value,
 // counted from the least one.
 const CODE_UNIT: u64 = 4294967296;
 
-const AXIS_ZERO: u32 = 32770;
-
-fn axis_raw(y: u32) -> Raw {
-    let read = axis_value(std::num::wrapping_sub_u32(y, AXIS_ZERO));
-    match read {
-        AxisValue::Is(v) => Raw::AxisValueChanged(v),
-        AxisValue::Beyond => Raw::ButtonReleased,
-    }
-}
+const AXIS_ZERO: i64 = 32770;
 
 // The raw value of a held code.
 fn raw_of(y: u32) -> Raw {
     match y {
         0 => Raw::ButtonReleased,
         1 => Raw::ButtonPressed,
-        _ => axis_raw(y),
+        _ => match i16::try_from(i64::from(y) - AXIS_ZERO) {
+            Ok(v) => Raw::AxisValueChanged(v),
+            Err(_) => Raw::ButtonReleased,
+        },
     }
 }
 
-// Whether a held code gives an element that value.
-fn gives(map: Mapping, code: u32, raw: Raw, element: AxisOrBtn, value: i16) -> bool {
-    let emitted = event(map, Code(code), raw);
-    match emitted {
-        Emitted::Is(told) => {
-            let to = told.element;
-            if to.eq(element) {
-                return told.value == value;
-            }
-            false
+// An element of a player's pads and its value, as an event of one of the pads finds it.
+#[derive(Clone, Copy)]
+pub struct Found<'a> {
+    pub play: &'a Play,
+    pub which: Which,
+    pub element: AxisOrBtn,
+    pub value: i16,
+}
+
+impl Found<'_> {
+    // The code of a held one that gives the element its value.
+    fn giver(self, held: u64) -> Option<u32> {
+        let code = (held / CODE_UNIT) as u32;
+        let map = self.play.seat(self.which).map;
+        let raw = raw_of((held % CODE_UNIT) as u32);
+        match event(map, Code(code), raw) {
+            Some(told) if told.element == self.element && told.value == self.value => { Some(code) }
+            _ => None,
         }
-        Emitted::Nothing => false,
     }
-}
 
-// The smaller of a code and a held one that gives an element that value.
-fn smaller(least: u32, held: u64, map: Mapping, element: AxisOrBtn, value: i16) -> u32 {
-    let code = (held / CODE_UNIT) as u32;
-    let raw = raw_of((held % CODE_UNIT) as u32);
-    if code < least {
-        if gives(map, code, raw, element, value) {
-            return code;
+    // The code that the element has its value from: of those that give it, the smallest.
+    fn holder(self) -> Option<u32> {
+        let pad = self.play.pad(self.which);
+        first(&pad.held, pad.count)
+            .iter()
+            .filter_map(|held| self.giver(*held))
+            .min()
+    }
+
+    // Whether the pad itself has the element at that value.
+    fn is_own(self) -> bool {
+        self.play.pad(self.which).value(self.element) == self.value
+    }
+
+    // `code 30005`, or `pad 2`
+    fn say_holder(self, console: &Console) {
+        if !self.is_own() {
+            say_which(console, beside(self.which));
+            return;
+        }
+        if let Some(code) = self.holder() {
+            put_value(console, OUT, format_args!("code {code:x}"));
         }
     }
-    least
-}
 
-// The code that an element has its value from: of those that give it, the smallest.
-fn holder(pad: Pad, map: Mapping, element: AxisOrBtn, value: i16) -> u32 {
-    let mut least = NO_CODE;
-    let mut i: usize = 0;
-    while i < HELD_MAX {
-        if pad.count <= i {
-            return least;
+    // `, held by code 30005`, `, held by pad 2`: nothing for an element at 0.
+    pub fn say_held_by(self, console: &Console) {
+        if self.value != 0 {
+            say(console, b", held by ");
+            self.say_holder(console);
         }
-        least = smaller(least, pad.held[i], map, element, value);
-        i += 1;
     }
-    least
-}
 
-// `code 30005`
-fn say_holder(console: &Console, play: Play, which: Which, element: AxisOrBtn, value: i16) {
-    let seat = seat_of(play, which);
-    let map = seat.map;
-    say(console, b"code ");
-    put_code(
-        console,
-        OUT,
-        holder(pad_of(play, which), map, element, value),
-    );
-}
-
-// Whether the pad itself has an element at that value.
-fn is_own(play: Play, which: Which, element: AxisOrBtn, value: i16) -> bool {
-    let pad = pad_of(play, which);
-    pad.value(element) == value
-}
-
-// `, held by code 30005`, `, held by pad 2`: nothing for an element at 0.
-pub fn say_held_by(console: &Console, play: Play, which: Which, element: AxisOrBtn, value: i16) {
-    if value == 0 {
-        return;
-    }
-    say(console, b", held by ");
-    if is_own(play, which, element, value) {
-        say_holder(console, play, which, element, value);
-    } else {
-        say_beside(console, which);
-    }
-}
-
-// Why an element does not take a value from a code, where it has another one.
-pub fn say_reason(
-    console: &Console,
-    play: Play,
-    which: Which,
-    element: AxisOrBtn,
-    value: i16,
-    given: i16,
-) {
-    let near = distance(given) < distance(value);
-    let own = is_own(play, which, element, value);
-    if own {
-        say_holder(console, play, which, element, value);
-    } else {
-        say_beside(console, which);
-    }
-    if near {
-        say(console, b" holds it farther from zero");
-    } else if own {
-        say(
-            console,
-            b" holds it as far from zero, and is the smaller code",
-        );
-    } else {
-        say(console, b" holds it as far from zero, and is the first pad");
+    // Why the element does not take a value from a code, where it has another one.
+    pub fn say_reason(self, console: &Console, given: i16) {
+        self.say_holder(console);
+        if given.unsigned_abs() < self.value.unsigned_abs() {
+            say(console, b" holds it farther from zero");
+        } else if self.is_own() {
+            say(
+                console,
+                b" holds it as far from zero, and is the smaller code",
+            );
+        } else {
+            say(console, b" holds it as far from zero, and is the first pad");
+        }
     }
 }

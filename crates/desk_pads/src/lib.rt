@@ -16,4 +16,3 @@ pub mod slots;
 pub mod table;
 pub mod telling;
 pub mod tidying;
-pub mod values;

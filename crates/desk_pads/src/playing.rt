@@ -1,26 +1,33 @@
 // The pads of one player while recordings are told: their states and the map of each, and what was counted.
 use crate::elements::{ELEMENTS, element_at, put_element};
-use crate::values::put_value;
 use desk::console::Console;
-use desk::say::{OUT, say, say_number};
-use desk::tally::{Tally, nothing_told};
+use desk::say::{OUT, put_value, say};
+use desk::tally::Tally;
 use line::ev::AxisOrBtn;
 use line::mapping::Mapping;
 use pad::state::Pad;
 use pad::two::{Pads, Which};
 
-// After more records than there are.
-pub const NEVER: usize = 18446744073709551615;
-
-// A pad's map, how many of its records were told, and after how many it gets its next map.
+// A pad's map, how many of its records were told, and after how many it gets its next map, if it gets one.
 #[derive(Clone, Copy)]
 pub struct Seat {
     pub map: Mapping,
     pub records: usize,
-    pub due: usize,
+    pub due: Option<usize>,
 }
 
-// Where there is one recording, the second pad has no codes and the empty map.
+impl Seat {
+    pub fn new(map: Mapping, due: Option<usize>) -> Seat {
+        Seat {
+            map,
+            records: 0,
+            due,
+        }
+    }
+}
+
+// Where there is one recording, the second pad has no codes and the empty map: both seats stand always, as both pads do
+// in `Pads`, so that no step asks whether there is one.
 #[derive(Clone, Copy)]
 pub struct Play {
     pub two: bool,
@@ -30,62 +37,39 @@ pub struct Play {
     pub tally: Tally,
 }
 
-pub fn new_seat(map: Mapping, due: usize) -> Seat {
-    Seat {
-        map,
-        records: 0,
-        due,
-    }
-}
-
-// Nothing is told, and both pads have their maps.
-pub fn new_play(two: bool, first: Seat, second: Seat) -> Play {
-    let one_map = first.map;
-    let other_map = second.map;
-    let fresh = Pads::new();
-    let one = fresh.change_map(Which::First, one_map);
-    let with_one = one.pads;
-    let both = with_one.change_map(Which::Second, other_map);
-    let pads = both.pads;
-    let tally = nothing_told();
-    Play {
-        two,
-        pads,
-        first,
-        second,
-        tally,
-    }
-}
-
-pub fn seat_of(play: Play, which: Which) -> Seat {
-    let first = play.first;
-    let second = play.second;
-    match which {
-        Which::First => first,
-        Which::Second => second,
-    }
-}
-
-pub fn with_seat(play: Play, which: Which, seat: Seat) -> Play {
-    let mut next = play;
-    match which {
-        Which::First => {
-            next.first = seat;
-        }
-        Which::Second => {
-            next.second = seat;
+impl Play {
+    // Nothing is told, and both pads have their maps.
+    pub fn new(two: bool, first: Seat, second: Seat) -> Play {
+        let one = Pads::new().change_map(Which::First, first.map);
+        let both = one.pads.change_map(Which::Second, second.map);
+        Play {
+            two,
+            pads: both.pads,
+            first,
+            second,
+            tally: Tally::default(),
         }
     }
-    next
-}
 
-pub fn pad_of(play: Play, which: Which) -> Pad {
-    let pads = play.pads;
-    let first = pads.first;
-    let second = pads.second;
-    match which {
-        Which::First => first,
-        Which::Second => second,
+    pub fn seat(&self, which: Which) -> Seat {
+        match which {
+            Which::First => self.first,
+            Which::Second => self.second,
+        }
+    }
+
+    pub fn set_seat(&mut self, which: Which, seat: Seat) {
+        match which {
+            Which::First => self.first = seat,
+            Which::Second => self.second = seat,
+        }
+    }
+
+    pub fn pad(&self, which: Which) -> Pad {
+        match which {
+            Which::First => self.pads.first,
+            Which::Second => self.pads.second,
+        }
     }
 }
 
@@ -97,16 +81,16 @@ pub fn say_which(console: &Console, which: Which) {
     }
 }
 
-// `pad 2`, for the first one.
-pub fn say_beside(console: &Console, which: Which) {
+// The player's other pad.
+pub fn beside(which: Which) -> Which {
     match which {
-        Which::First => say(console, b"pad 2"),
-        Which::Second => say(console, b"pad 1"),
+        Which::First => Which::Second,
+        Which::Second => Which::First,
     }
 }
 
 // Whose line it is, where there are two pads.
-pub fn say_pad(console: &Console, play: Play, which: Which) {
+pub fn say_pad(console: &Console, play: &Play, which: Which) {
     if play.two {
         say_which(console, which);
         say(console, b": ");
@@ -116,51 +100,43 @@ pub fn say_pad(console: &Console, play: Play, which: Which) {
 // `South (a) 32767`
 pub fn say_element(console: &Console, element: AxisOrBtn, value: i16) {
     put_element(console, OUT, element);
-    say(console, b" ");
-    put_value(console, OUT, value);
-}
-
-// Prints an element that is not at 0; whether all up to it are.
-fn say_moved(console: &Console, pads: Pads, element: AxisOrBtn, at_rest: bool) -> bool {
-    let value = pads.value(element);
-    if value == 0 {
-        return at_rest;
-    }
-    say(console, b"  ");
-    say_element(console, element, value);
-    say(console, b"\n");
-    false
-}
-
-fn say_rest(console: &Console, at_rest: bool) {
-    if at_rest {
-        say(console, b"  every element is at 0\n");
-    }
+    put_value(console, OUT, format_args!(" {value}"));
 }
 
 // The elements that are not at 0.
 fn say_values(console: &Console, pads: Pads) {
     let mut at_rest = true;
-    let mut k: usize = 0;
-    while k < ELEMENTS {
-        at_rest = say_moved(console, pads, element_at(k), at_rest);
-        k += 1;
+    for k in 0..ELEMENTS {
+        let element = element_at(k);
+        let value = pads.value(element);
+        if value != 0 {
+            at_rest = false;
+            say(console, b"  ");
+            say_element(console, element, value);
+            say(console, b"\n");
+        }
     }
-    say_rest(console, at_rest);
+    if at_rest {
+        say(console, b"  every element is at 0\n");
+    }
 }
 
 // How many codes are held, and the values of the elements.
-pub fn say_end(console: &Console, play: Play) {
+pub fn say_end(console: &Console, play: &Play) {
     let pads = play.pads;
-    let first = pads.first;
-    let second = pads.second;
-    say(console, b"at the end, with ");
-    say_number(console, first.count);
-    say(console, b" codes held");
+    let first = pads.first.count;
+    let second = pads.second.count;
+    put_value(
+        console,
+        OUT,
+        format_args!("at the end, with {first} codes held"),
+    );
     if play.two {
-        say(console, b" by pad 1 and ");
-        say_number(console, second.count);
-        say(console, b" by pad 2");
+        put_value(
+            console,
+            OUT,
+            format_args!(" by pad 1 and {second} by pad 2"),
+        );
     }
     say(console, b":\n");
     say_values(console, pads);

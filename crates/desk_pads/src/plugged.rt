@@ -1,35 +1,35 @@
 // The command pad: what is plugged in. And `pad:1`, which other commands take for a UUID and lists; `pad:1:FILE` is of
 // a copy of /proc/bus/input/devices.
 use crate::devices::{
-    device_axes, device_buttons, device_guid, device_hats, device_name, device_number, pad_device,
+    device_axes, device_buttons, device_guid, device_hats, device_name, device_number, devices_in,
+    is_pad,
 };
-use desk::codes::{Codes, no_codes, put_codes};
+use desk::codes::{Codes, put_codes};
 use desk::console::Console;
-use desk::fields::{after, before, first};
-use desk::files::{List, list_space, read_list};
-use desk::say::{DONE, OUT, REFUSED, TROUBLE, complain, put_uuid, say, say_number};
+use desk::fields::{after, before};
+use desk::files::{list_space, read_list};
+use desk::say::{Failure, OUT, complain, put_uuid, put_value, say};
 use desk::shown::{complain_shown, say_shown};
-use text::bytes::same_bytes;
-use text::decimal::{IndexParse, parse_u16};
+use std::array;
+use text::decimal::parse_u16;
 use text::uuid::Uuid;
 
 // More pads than a machine has, and the most that an insert looks for.
-const PADS_MAX: usize = 256;
+const PADS_MAX: usize = 255;
 
 const GUIDS_MAX: usize = 32;
 
-// A pad that an argument names: the status, and where that is DONE its GUID and codes.
+// A pad that an argument names.
 #[derive(Clone, Copy)]
 pub struct Plugged {
-    pub status: u8,
     pub id: Uuid,
     pub buttons: Codes,
     pub axes: Codes,
 }
 
 // The codes of hats, where there are any.
-fn say_hats(console: &Console, hats: Codes) {
-    if 0 < hats.len {
+fn say_hats(console: &Console, hats: &[u32]) {
+    if !hats.is_empty() {
         say(console, b"  hats: ");
         put_codes(console, OUT, hats);
         say(console, b"\n");
@@ -38,7 +38,7 @@ fn say_hats(console: &Console, hats: Codes) {
 
 // The device that a pad's events are read from, where one is listed. The script `hub` reads this row.
 fn say_device(console: &Console, number: &[u8]) {
-    if 0 < number.len() {
+    if !number.is_empty() {
         say(console, b"  device: /dev/input/event");
         say_shown(console, number);
         say(console, b"\n");
@@ -47,195 +47,117 @@ fn say_device(console: &Console, number: &[u8]) {
 
 // `pad 1: Microsoft X-Box 360 pad`, its GUID, its lists as other commands take them, its hats and its device
 fn say_pad(console: &Console, n: usize, device: &[u8]) {
-    say(console, b"pad ");
-    say_number(console, n);
-    say(console, b": ");
+    put_value(console, OUT, format_args!("pad {n}: "));
     say_shown(console, device_name(device));
     say(console, b"\n  ");
     put_uuid(console, OUT, device_guid(device));
     say(console, b"\n  buttons=");
-    put_codes(console, OUT, device_buttons(device));
+    put_codes(console, OUT, device_buttons(device).as_slice());
     say(console, b"\n  axes=");
-    put_codes(console, OUT, device_axes(device));
+    put_codes(console, OUT, device_axes(device).as_slice());
     say(console, b"\n");
-    say_hats(console, device_hats(device));
+    say_hats(console, device_hats(device).as_slice());
     say_device(console, device_number(device));
 }
 
-fn no_pads(console: &Console) -> u8 {
-    complain(
-        console,
-        b"none: no pad is plugged in, or none that the list of devices shows\n",
-    );
-    REFUSED
-}
-
-fn say_pads(console: &Console, devices: &[u8]) -> u8 {
-    for n in 1..PADS_MAX {
-        let device = pad_device(devices, n);
-        if device.len() == 0 {
-            if n == 1 {
-                return no_pads(console);
-            }
-            return DONE;
-        }
-        say_pad(console, n, device);
+fn say_pads(console: &Console, list: &[u8]) -> Result<(), Failure> {
+    let mut told: usize = 0;
+    for device in devices_in(list)
+        .filter(|device| is_pad(device))
+        .take(PADS_MAX)
+    {
+        told = told.wrapping_add(1);
+        say_pad(console, told, device);
     }
-    DONE
+    if told == 0 {
+        complain(
+            console,
+            b"none: no pad is plugged in, or none that the list of devices shows\n",
+        );
+        return Err(Failure::Refused);
+    }
+    Ok(())
 }
 
 // Reads the list of devices: a copy where one is named, else the machine's own.
-fn read_devices(console: &Console, copy: &[u8], space: &mut [u8]) -> List {
-    if copy.len() == 0 {
-        return read_list(console, b"/proc/bus/input/devices", space);
-    }
-    read_list(console, copy, space)
+fn read_devices<'a>(
+    console: &Console,
+    copy: &[u8],
+    space: &'a mut [u8],
+) -> Result<&'a [u8], Failure> {
+    let path = if copy.is_empty() {
+        b"/proc/bus/input/devices".as_slice()
+    } else {
+        copy
+    };
+    read_list(console, path, space)
 }
 
 // `hub pad`, `hub pad from=FILE`
-pub fn list_pads(console: &Console, copy: &[u8]) -> u8 {
+pub fn list_pads(console: &Console, copy: &[u8]) -> Result<(), Failure> {
     let mut space = list_space();
-    match read_devices(console, copy, &mut space) {
-        List::Read(n) => say_pads(console, first(&space, n)),
-        List::Failed => TROUBLE,
-    }
+    say_pads(console, read_devices(console, copy, &mut space)?)
 }
 
-// The GUIDs of the first pads, and the status.
+// The GUIDs of the first pads, as many as there are.
 #[derive(Clone, Copy)]
 pub struct Guids {
-    pub high: [u64; GUIDS_MAX],
-    pub low: [u64; GUIDS_MAX],
-    pub len: usize,
-    pub status: u8,
+    list: [Option<Uuid>; GUIDS_MAX],
 }
 
-pub fn no_guids(status: u8) -> Guids {
-    Guids {
-        high: [0u64; GUIDS_MAX],
-        low: [0u64; GUIDS_MAX],
-        len: 0,
-        status,
-    }
-}
-
-// One GUID more; none past the end.
-fn with_guid(guids: Guids, id: Uuid) -> Guids {
-    let n = guids.len;
-    if n < GUIDS_MAX {
-        let mut next = guids;
-        next.high[n] = id.high;
-        next.low[n] = id.low;
-        next.len = n + 1;
-        return next;
-    }
-    guids
-}
-
-fn guid_at(guids: Guids, n: usize) -> Uuid {
-    if n < GUIDS_MAX {
-        let high = guids.high[n];
-        let low = guids.low[n];
-        return Uuid { high, low };
-    }
-    Uuid::NIL
-}
-
-fn guids_in(devices: &[u8]) -> Guids {
-    let mut guids = no_guids(DONE);
-    for n in 1..=GUIDS_MAX {
-        let device = pad_device(devices, n);
-        if device.len() == 0 {
-            return guids;
+impl Guids {
+    fn of_devices(list: &[u8]) -> Guids {
+        let mut pads = devices_in(list).filter(|device| is_pad(device));
+        Guids {
+            list: array::from_fn(|_| pads.next().map(|device| device_guid(device))),
         }
-        guids = with_guid(guids, device_guid(device));
     }
-    guids
+
+    // Whether a UUID, checksum or not, is one of the GUIDs.
+    pub fn has(&self, id: Uuid) -> bool {
+        let plain = id.without_checksum();
+        self.list.iter().flatten().any(|guid| *guid == plain)
+    }
 }
 
 // The GUIDs of the pads that are plugged in, or of those in a copy.
-pub fn plugged_guids(console: &Console, copy: &[u8]) -> Guids {
+pub fn plugged_guids(console: &Console, copy: &[u8]) -> Result<Guids, Failure> {
     let mut space = list_space();
-    match read_devices(console, copy, &mut space) {
-        List::Read(n) => guids_in(first(&space, n)),
-        List::Failed => no_guids(TROUBLE),
-    }
-}
-
-fn is_same(a: Uuid, b: Uuid) -> bool {
-    if a.high != b.high {
-        return false;
-    }
-    a.low == b.low
-}
-
-fn has_plain(guids: Guids, plain: Uuid) -> bool {
-    for n in 0..GUIDS_MAX {
-        if guids.len <= n {
-            return false;
-        }
-        if is_same(guid_at(guids, n), plain) {
-            return true;
-        }
-    }
-    false
-}
-
-// Whether a UUID, checksum or not, is one of the GUIDs.
-pub fn has_guid(guids: Guids, id: Uuid) -> bool {
-    has_plain(guids, id.without_checksum())
+    Ok(Guids::of_devices(read_devices(console, copy, &mut space)?))
 }
 
 // Whether an argument names a pad, as `pad:1`.
 pub fn is_pad_name(arg: &[u8]) -> bool {
-    same_bytes(first(arg, 4), b"pad:")
+    arg.starts_with(b"pad:")
 }
 
-fn not_plugged(status: u8) -> Plugged {
-    Plugged {
-        status,
-        id: Uuid::NIL,
-        buttons: no_codes(),
-        axes: no_codes(),
-    }
-}
-
-fn plugged_in(console: &Console, devices: &[u8], n: u16, arg: &[u8]) -> Plugged {
-    let device = pad_device(devices, n as usize);
-    if device.len() == 0 {
-        complain_shown(console, arg);
-        complain(console, b": there is no such pad; hub pad lists them\n");
-        return not_plugged(REFUSED);
-    }
-    Plugged {
-        status: DONE,
-        id: device_guid(device),
-        buttons: device_buttons(device),
-        axes: device_axes(device),
-    }
-}
-
-fn plugged_number(console: &Console, n: u16, copy: &[u8], arg: &[u8]) -> Plugged {
-    let mut space = list_space();
-    match read_devices(console, copy, &mut space) {
-        List::Read(len) => plugged_in(console, first(&space, len), n, arg),
-        List::Failed => not_plugged(TROUBLE),
-    }
+// Pad `n` of a list of devices, from 1 on; None where there are fewer.
+fn pad_device(list: &[u8], n: u16) -> Option<&[u8]> {
+    let before = (n as usize).checked_sub(1)?;
+    devices_in(list).filter(|device| is_pad(device)).nth(before)
 }
 
 // The pad that `pad:1` or `pad:1:FILE` names.
-pub fn pad_named(console: &Console, arg: &[u8]) -> Plugged {
+pub fn pad_named(console: &Console, arg: &[u8]) -> Result<Plugged, Failure> {
     let rest = after(arg, b':');
-    let number = parse_u16(before(rest, b':'));
-    match number {
-        IndexParse::Parsed(n) => plugged_number(console, n, after(rest, b':'), arg),
-        IndexParse::Invalid => {
-            complain_shown(console, arg);
-            complain(
-                console,
-                b": a pad is pad:1, pad:2, ..; hub pad lists them\n",
-            );
-            not_plugged(TROUBLE)
-        }
-    }
+    let Some(n) = parse_u16(before(rest, b':')) else {
+        complain_shown(console, arg);
+        complain(
+            console,
+            b": a pad is pad:1, pad:2, ..; hub pad lists them\n",
+        );
+        return Err(Failure::Trouble);
+    };
+    let mut space = list_space();
+    let list = read_devices(console, after(rest, b':'), &mut space)?;
+    let Some(device) = pad_device(list, n) else {
+        complain_shown(console, arg);
+        complain(console, b": there is no such pad; hub pad lists them\n");
+        return Err(Failure::Refused);
+    };
+    Ok(Plugged {
+        id: device_guid(device),
+        buttons: device_buttons(device),
+        axes: device_axes(device),
+    })
 }

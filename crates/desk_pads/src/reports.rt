@@ -1,60 +1,49 @@
 // What a record of a recorded pad says: a raw event of a button or an axis, or something else.
-use crate::values::{AxisValue, axis_value};
-use desk::codes::{ABS, KEY, code_of};
+use desk::codes::Kind;
 use desk::input_events::Input;
 use line::ev::Code;
 use pad::events::Raw;
 
-// What a pad reports of a code.
+// Why a record of a button or an axis is no raw event: the button is held, and repeats; or no button or axis has this
+// value.
 #[derive(Clone, Copy)]
-pub struct RawEvent {
-    pub code: Code,
-    pub raw: Raw,
+pub enum NoEvent {
+    Repeats,
+    Beyond(Kind),
 }
 
-// What a record says: a raw event; a button that is held and repeats; a value that no button or axis has; or what is
-// neither a button's nor an axis's (EV_SYN, EV_MSC and others).
+// A record of a button or an axis: its code, and the raw value that it reports.
 #[derive(Clone, Copy)]
-pub enum Report {
-    Is(RawEvent),
-    Repeats(Code),
-    Beyond(Code),
-    Other,
+pub struct Report {
+    pub code: Code,
+    pub raw: Result<Raw, NoEvent>,
 }
 
 // A button is released by 0 and pressed by 1, and repeats by 2.
-fn button_report(code: Code, value: u32) -> Report {
+fn button_raw(value: i32) -> Result<Raw, NoEvent> {
     match value {
-        0 => Report::Is(RawEvent {
-            code,
-            raw: Raw::ButtonReleased,
-        }),
-        1 => Report::Is(RawEvent {
-            code,
-            raw: Raw::ButtonPressed,
-        }),
-        2 => Report::Repeats(code),
-        _ => Report::Beyond(code),
+        0 => Ok(Raw::ButtonReleased),
+        1 => Ok(Raw::ButtonPressed),
+        2 => Err(NoEvent::Repeats),
+        _ => Err(NoEvent::Beyond(Kind::Button)),
     }
 }
 
-fn axis_report(code: Code, value: u32) -> Report {
-    let read = axis_value(value);
-    match read {
-        AxisValue::Is(v) => Report::Is(RawEvent {
-            code,
-            raw: Raw::AxisValueChanged(v),
-        }),
-        AxisValue::Beyond => Report::Beyond(code),
+fn axis_raw(value: i32) -> Result<Raw, NoEvent> {
+    match i16::try_from(value) {
+        Ok(v) => Ok(Raw::AxisValueChanged(v)),
+        Err(_) => Err(NoEvent::Beyond(Kind::Axis)),
     }
 }
 
-pub fn report_of(input: Input) -> Report {
-    if input.kind as u32 == KEY {
-        return button_report(Code(code_of(KEY, input.number)), input.value);
-    }
-    if input.kind as u32 == ABS {
-        return axis_report(Code(code_of(ABS, input.number)), input.value);
-    }
-    Report::Other
+// None for a record that is neither a button's nor an axis's (EV_SYN, EV_MSC and others).
+pub fn report_of(input: Input) -> Option<Report> {
+    let kind = Kind::of_number(input.kind as u32)?;
+    Some(Report {
+        code: Code(kind.code(input.number)),
+        raw: match kind {
+            Kind::Button => button_raw(input.value),
+            Kind::Axis => axis_raw(input.value),
+        },
+    })
 }

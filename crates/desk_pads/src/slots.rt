@@ -1,141 +1,115 @@
 // The slots that arguments fill, as `a=10130`.
 use crate::elements::{element_named, put_nearest_element};
 use desk::arguments::is_party;
-use desk::codes::{ABS, CodeParse, KEY, complain_kind, is_of_kind, parse_code};
+use desk::codes::{Kind, Typed};
 use desk::console::{Console, argument, argument_count};
 use desk::fields::{after, before};
 use desk::files::arg_space;
 use desk::say::{ERR, complain};
 use desk::shown::complain_shown;
 use line::ev::{AxisOrBtn, Code};
-use line::tables::KeyElement;
-use map::mapping_data::{Changed, MappingData};
-use text::bytes::same_bytes;
+use map::mapping_data::MappingData;
 
-// The slots, how many arguments filled one, and whether one could not.
+// The slots, and how many arguments filled one.
 #[derive(Clone, Copy)]
 pub struct Slots {
     pub filled: MappingData,
     pub given: usize,
-    pub bad: bool,
-}
-
-fn with_bad(slots: Slots) -> Slots {
-    let mut next = slots;
-    next.bad = true;
-    next
-}
-
-fn with_changed(console: &Console, slots: Slots, pair: &[u8], changed: Changed) -> Slots {
-    let former = changed.former;
-    if former.is_some() {
-        complain_shown(console, pair);
-        complain(console, b": the element is given twice\n");
-        return with_bad(slots);
-    }
-    let filled = changed.slots;
-    Slots {
-        filled,
-        given: std::num::wrapping_add_usize(slots.given, 1),
-        bad: slots.bad,
-    }
-}
-
-fn with_element(console: &Console, slots: Slots, pair: &[u8], e: AxisOrBtn, code: u32) -> Slots {
-    let filled = slots.filled;
-    match e {
-        AxisOrBtn::Btn(b) => with_changed(console, slots, pair, filled.insert_btn(Code(code), b)),
-        AxisOrBtn::Axis(a) => with_changed(console, slots, pair, filled.insert_axis(Code(code), a)),
-    }
 }
 
 // The kind of an element's own list.
-pub fn kind_of(e: AxisOrBtn) -> u32 {
+fn kind_of(e: AxisOrBtn) -> Kind {
     if e.is_button() {
-        return KEY;
+        Kind::Button
+    } else {
+        Kind::Axis
     }
-    ABS
 }
 
-// A code is of one of the two kinds; whether it is in the element's list is the library's to say.
-fn with_kind(console: &Console, slots: Slots, pair: &[u8], e: AxisOrBtn, code: u32) -> Slots {
-    if is_of_kind(code, KEY) {
-        return with_element(console, slots, pair, e, code);
+// The code that an argument gives, if it is one.
+fn code_in<'a>(console: &Console, pair: &'a [u8]) -> Option<Typed<'a>> {
+    let typed = Typed::parse(after(pair, b'='));
+    if typed.is_none() {
+        complain_shown(console, pair);
+        complain(
+            console,
+            b": not of the form ELEMENT=CODE; a code has 1 to 8 hexadecimal digits\n",
+        );
     }
-    if is_of_kind(code, ABS) {
-        return with_element(console, slots, pair, e, code);
-    }
-    complain_kind(console, after(pair, b'='), code, kind_of(e));
-    with_bad(slots)
+    typed
 }
 
-fn with_code(console: &Console, slots: Slots, pair: &[u8], code: u32) -> Slots {
+// The element that an argument names, if it names one.
+fn element_in(console: &Console, pair: &[u8]) -> Option<AxisOrBtn> {
     let key = before(pair, b'=');
     let element = element_named(key);
-    match element {
-        KeyElement::Is(e) => with_kind(console, slots, pair, e, code),
-        KeyElement::Missing => {
-            complain_shown(console, pair);
-            complain(console, b": no element has this name");
-            put_nearest_element(console, ERR, key);
-            complain(console, b"\n");
-            with_bad(slots)
-        }
+    if element.is_none() {
+        complain_shown(console, pair);
+        complain(console, b": no element has this name");
+        put_nearest_element(console, ERR, key);
+        complain(console, b"\n");
     }
+    element
+}
+
+// The code and the element of `a=10130`; what is not understood is said. A code is of one of the two kinds; whether it is
+// in the element's list is the library's to say.
+fn pair_in(console: &Console, pair: &[u8]) -> Option<(Code, AxisOrBtn)> {
+    let typed = code_in(console, pair)?;
+    let element = element_in(console, pair)?;
+    if Kind::of_code(typed.code).is_none() {
+        typed.complain_kind(console, kind_of(element));
+        return None;
+    }
+    Some((Code(typed.code), element))
 }
 
 // Whether an argument fills no slot: a list of codes, a party, or `anyway`.
 fn is_no_pair(arg: &[u8]) -> bool {
-    let key = before(arg, b'=');
-    if same_bytes(key, b"buttons") {
-        return true;
-    }
-    if same_bytes(key, b"axes") {
-        return true;
-    }
-    if is_party(arg) {
-        return true;
-    }
-    same_bytes(arg, b"anyway")
+    matches!(before(arg, b'='), b"buttons" | b"axes") || is_party(arg) || matches!(arg, b"anyway")
 }
 
-// `a=10130`
-fn with_pair(console: &Console, slots: Slots, pair: &[u8]) -> Slots {
-    if is_no_pair(pair) {
-        return slots;
+impl Slots {
+    // The slot of an element filled; whether it was empty.
+    fn fill(&mut self, code: Code, element: AxisOrBtn) -> bool {
+        let former = match element {
+            AxisOrBtn::Btn(b) => self.filled.insert_btn(code, b),
+            AxisOrBtn::Axis(a) => self.filled.insert_axis(code, a),
+        };
+        self.given = self.given.wrapping_add(1);
+        former.is_none()
     }
-    let code = parse_code(after(pair, b'='));
-    match code {
-        CodeParse::Parsed(c) => with_code(console, slots, pair, c),
-        CodeParse::Invalid => {
-            complain_shown(console, pair);
-            complain(
-                console,
-                b": not of the form ELEMENT=CODE; a code has 1 to 8 hexadecimal digits\n",
-            );
-            with_bad(slots)
+
+    // The slot that argument `i` fills, if it fills one; whether it was understood.
+    fn take(&mut self, console: &Console, i: usize) -> bool {
+        let mut space = arg_space();
+        let arg = argument(console, i, &mut space);
+        if is_no_pair(arg) {
+            return true;
         }
+        let Some((code, element)) = pair_in(console, arg) else {
+            return false;
+        };
+        let is_first = self.fill(code, element);
+        if !is_first {
+            complain_shown(console, arg);
+            complain(console, b": the element is given twice\n");
+        }
+        is_first
     }
 }
 
-fn with_arg(console: &Console, slots: Slots, i: usize) -> Slots {
-    let mut space = arg_space();
-    let n = argument(console, i, &mut space);
-    with_pair(console, slots, &space[..n])
-}
-
-// The slots that the arguments from `from` on fill.
-pub fn slots_named(console: &Console, from: usize) -> Slots {
+// The slots that the arguments from `from` on fill; None where one is not understood, which is said.
+pub fn slots_named(console: &Console, from: usize) -> Option<Slots> {
     let mut slots = Slots {
         filled: MappingData::new(),
         given: 0,
-        bad: false,
     };
-    let count = argument_count(console);
-    let mut i = from;
-    while i < count {
-        slots = with_arg(console, slots, i);
-        i += 1;
+    let mut all = true;
+    for i in from..argument_count(console) {
+        if !slots.take(console, i) {
+            all = false;
+        }
     }
-    slots
+    all.then_some(slots)
 }

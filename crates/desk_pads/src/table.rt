@@ -2,81 +2,63 @@
 use crate::elements::put_element;
 use crate::excerpt::put_reading_refused;
 use desk::console::Console;
-use desk::fields::section;
-use desk::say::{DONE, ERR, OUT, put_code, say, say_number};
+use desk::fields::{first, section};
+use desk::say::{ERR, Failure, OUT, put_value, say};
 use desk::shown::say_shown;
-use line::ev::AxisOrBtn;
-use line::mapping::{CODES_MAX, Mapping};
-use line::parser::{AxisRange, Ranges};
-use line::reading::{SdlAnswer, parse_sdl_mapping};
+use line::mapping::{Entry, Mapping};
+use line::parser::AxisRange;
+use line::reading::parse_sdl_mapping;
 
 // Nothing where it is full.
 fn say_half(console: &Console, half: AxisRange, side: &[u8]) {
     match half {
-        AxisRange::Full => {}
-        AxisRange::UpperHalf => {
-            say(console, b", upper half ");
-            say(console, side);
-        }
-        AxisRange::LowerHalf => {
-            say(console, b", lower half ");
-            say(console, side);
-        }
+        AxisRange::Full => return,
+        AxisRange::UpperHalf => say(console, b", upper half "),
+        AxisRange::LowerHalf => say(console, b", lower half "),
     }
+    say(console, side);
 }
 
 // `30002  RightTrigger2 (righttrigger), upper half in, inverted`
-fn say_entry(console: &Console, code: u32, element: AxisOrBtn, ranges: Ranges) {
-    put_code(console, OUT, code);
-    say(console, b"  ");
-    put_element(console, OUT, element);
-    let input = ranges.input;
-    say_half(console, input, b"in");
-    let output = ranges.output;
-    say_half(console, output, b"out");
-    if ranges.inverted {
+fn say_entry(console: &Console, entry: &Entry) {
+    let code = entry.code.0;
+    put_value(console, OUT, format_args!("{code:x}  "));
+    put_element(console, OUT, entry.element);
+    say_half(console, entry.ranges.input, b"in");
+    say_half(console, entry.ranges.output, b"out");
+    if entry.ranges.inverted {
         say(console, b", inverted");
     }
     say(console, b"\n");
 }
 
-fn say_entries(console: &Console, map: Mapping) {
-    let mut i: usize = 0;
-    while i < CODES_MAX {
-        if map.count <= i {
-            return;
-        }
-        let e = map.entries[i];
-        let code = e.code;
-        let element = e.element;
-        let ranges = e.ranges;
-        say_entry(console, code.0, element, ranges);
-        i += 1;
-    }
-}
-
 // The entries, then name, hat flags and default flag.
-pub fn say_map(console: &Console, map: Mapping, line: &[u8]) -> u8 {
-    say_entries(console, map);
+pub fn say_map(console: &Console, map: &Mapping, line: &[u8]) {
+    for entry in first(&map.entries, map.count) {
+        say_entry(console, entry);
+    }
     say(console, b"name '");
     say_shown(console, section(line, map.name_start, map.name_len));
-    say(console, b"', hat flags ");
-    say_number(console, map.hats_mapped as usize);
-    if map.is_default {
-        say(console, b", default on\n");
-    } else {
-        say(console, b", default off\n");
-    }
-    DONE
+    let flags = map.hats_mapped;
+    let default = if map.is_default { "on" } else { "off" };
+    put_value(
+        console,
+        OUT,
+        format_args!("', hat flags {flags}, default {default}\n"),
+    );
 }
 
 // Reads a line, and prints its map.
-pub fn say_reading(console: &Console, line: &[u8], buttons: &[u32], axes: &[u32]) -> u8 {
+pub fn say_reading(
+    console: &Console,
+    line: &[u8],
+    buttons: &[u32],
+    axes: &[u32],
+) -> Result<(), Failure> {
     let reading = parse_sdl_mapping(line, buttons, axes);
-    let answer = reading.answer;
-    let map = reading.map;
-    match answer {
-        SdlAnswer::Accepted => say_map(console, map, line),
-        SdlAnswer::Refused(e) => put_reading_refused(console, ERR, e, line),
+    if let Err(e) = reading.answer {
+        return Err(put_reading_refused(console, ERR, e, line));
     }
+    say_map(console, &reading.map, line);
+    Ok(())
 }

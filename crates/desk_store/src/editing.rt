@@ -1,354 +1,232 @@
 // The command edit: pairs of a line that is held, changed by arguments as `a:b1`.
-use crate::holding::no_uuid;
-use crate::parties::{Caller, caller_named};
+use crate::buffers::Buffer;
+use crate::parties::Caller;
+use crate::records::{LineKey, View};
+use crate::targets::Target;
+use crate::wrong::{id_named, wrong};
 use desk::arguments::is_party;
-use desk::changing::{Held, may_change, replace};
 use desk::console::{Console, argument, argument_count};
-use desk::fields::{after, after_part, before, first, part_at};
-use desk::files::{ARG_ROOM, arg_space, half, load};
+use desk::fields::{after, before, without};
+use desk::files::{ARG_ROOM, StoreFile, arg_space};
 use desk::help::wrong_use;
 use desk::near::complain_near;
-use desk::say::{DONE, REFUSED, TROUBLE, complain, say};
-use desk::shown::{complain_shown, say_shown};
+use desk::say::{Failure, complain, say};
+use desk::shown::say_shown;
 use desk::words::{none, refused};
 use desk_pads::bound::say_lost;
 use desk_pads::pairs::readable_status;
-use desk_pads::refusals::refused_outcome;
-use store::calls::{Answer, get, insert};
-use store::near::{NearLook, found_near};
-use store::parties::Party;
-use text::bytes::{Written, same_bytes, write_bytes};
-use text::uuid::{Uuid, UuidParse};
+use desk_pads::refusals::{refused_by, refused_outcome};
+use store::calls::insert;
+use store::near::{Nearness, found_near};
+use store::refusal::store_outcome;
 
-// A line that is written, and whether it is longer than a line may be.
+// A line that is held: what stands before its first comma, its name, and its pairs with the commas between them.
 #[derive(Clone, Copy)]
-struct NewLine {
-    bytes: [u8; ARG_ROOM],
-    len: usize,
-    over: bool,
+struct Parts<'a> {
+    id: &'a [u8],
+    name: &'a [u8],
+    pairs: &'a [u8],
 }
 
-fn with_bytes(line: NewLine, part: &[u8]) -> NewLine {
-    let mut bytes = line.bytes;
-    let written = write_bytes(&mut bytes, line.len, part);
-    match written {
-        Written::Upto(len) => NewLine {
-            bytes,
-            len,
-            over: line.over,
-        },
-        Written::TooShort => NewLine {
-            bytes,
-            len: line.len,
-            over: true,
-        },
+// A line that is written.
+type NewLine = Buffer<ARG_ROOM>;
+
+impl<'a> Parts<'a> {
+    // None where the line has no name.
+    fn of(held: &'a [u8]) -> Option<Parts<'a>> {
+        let mut fields = held.splitn(3, |b| *b == b',');
+        Some(Parts {
+            id: fields.next()?,
+            name: fields.next()?,
+            pairs: fields.next().unwrap_or(b""),
+        })
+    }
+
+    // Whether the line has a pair with that key.
+    fn has_key(&self, key: &[u8]) -> bool {
+        self.pairs
+            .split_inclusive(|b| *b == b',')
+            .any(|pair| key_of(without(pair, b',')) == key)
     }
 }
 
-fn with_pair(line: NewLine, pair: &[u8]) -> NewLine {
-    with_bytes(with_bytes(line, pair), b",")
+fn key_of(pair: &[u8]) -> &[u8] {
+    before(pair, b':')
+}
+
+fn push_pair(line: &mut NewLine, pair: &[u8]) -> Option<()> {
+    line.push(pair)?;
+    line.push(b",")
 }
 
 // Whether argument `i` is a pair with that key.
 fn is_pair_of(console: &Console, key: &[u8], i: usize) -> bool {
     let mut space = arg_space();
-    let n = argument(console, i, &mut space);
-    let arg = &space[..n];
-    if is_party(arg) {
-        return false;
-    }
-    same_bytes(before(arg, b':'), key)
+    let arg = argument(console, i, &mut space);
+    !is_party(arg) && key_of(arg) == key
 }
 
-// The first argument from `from` on that is a pair with that key; 0 where there is none.
-fn pair_with(console: &Console, key: &[u8], from: usize) -> usize {
-    let count = argument_count(console);
-    for i in from..count {
-        if is_pair_of(console, key, i) {
-            return i;
+// The first argument from `from` on that is a pair with that key. (desk's `argument_with` seeks `KEY=..`: one function for
+// both would take the test as a closure, and a public function that calls one asks its callers for a `requires`.)
+fn pair_with(console: &Console, key: &[u8], from: usize) -> Option<usize> {
+    (from..argument_count(console)).find(|i| is_pair_of(console, key, *i))
+}
+
+// Puts an argument, unless its value is empty.
+fn push_arg(line: &mut NewLine, arg: &[u8]) -> Option<()> {
+    if after(arg, b':').is_empty() {
+        return Some(());
+    }
+    push_pair(line, arg)
+}
+
+// Puts a pair of the held line, or the argument in its place.
+fn push_held(console: &Console, line: &mut NewLine, pair: &[u8], from: usize) -> Option<()> {
+    match pair_with(console, key_of(pair), from) {
+        Some(i) => {
+            let mut space = arg_space();
+            push_arg(line, argument(console, i, &mut space))
         }
+        None => push_pair(line, pair),
     }
-    0
 }
 
-// Argument `i`, unless its value is empty.
-fn with_arg(console: &Console, line: NewLine, i: usize) -> NewLine {
+// Puts argument `i` behind the others, where the held line has no such key.
+fn push_new(console: &Console, line: &mut NewLine, held: &Parts, i: usize) -> Option<()> {
     let mut space = arg_space();
-    let n = argument(console, i, &mut space);
-    let arg = &space[..n];
-    if after(arg, b':').len() == 0 {
-        return line;
+    let arg = argument(console, i, &mut space);
+    if is_party(arg) || held.has_key(key_of(arg)) {
+        return Some(());
     }
-    with_pair(line, arg)
+    push_arg(line, arg)
 }
 
-// A pair of the held line, or the argument in its place.
-fn with_held(console: &Console, line: NewLine, pair: &[u8], from: usize) -> NewLine {
-    let i = pair_with(console, before(pair, b':'), from);
-    if i == 0 {
-        return with_pair(line, pair);
+// UUID, name, and the pairs of the held line, changed by all arguments from `from` on; None where that is longer than a
+// line may be.
+fn edited(console: &Console, held: &Parts, from: usize) -> Option<NewLine> {
+    let mut line = NewLine::new();
+    push_pair(&mut line, held.id)?;
+    push_pair(&mut line, held.name)?;
+    for pair in held.pairs.split_inclusive(|b| *b == b',') {
+        push_held(console, &mut line, without(pair, b','), from)?;
     }
-    with_arg(console, line, i)
+    for i in from..argument_count(console) {
+        push_new(console, &mut line, held, i)?;
+    }
+    Some(line)
 }
 
-// Where the pairs of a line start.
-fn pairs_at(held: &[u8]) -> usize {
-    after_part(held, after_part(held, 0, b','), b',')
-}
-
-// UUID and name, with a comma behind each.
-fn with_head(held: &[u8]) -> NewLine {
-    let name_at = after_part(held, 0, b',');
-    let bytes = arg_space();
-    let line = NewLine {
-        bytes,
-        len: 0,
-        over: false,
+// The changed line, where it may be filed: the held one has a name, the new one is not too long, and is read.
+fn new_line(console: &Console, former: &[u8], from: usize) -> Result<NewLine, Failure> {
+    let Some(held) = Parts::of(former) else {
+        return Err(refused(console, 2));
     };
-    with_pair(
-        with_bytes(line, first(held, name_at)),
-        part_at(held, name_at, b','),
-    )
+    let Some(line) = edited(console, &held, from) else {
+        return Err(refused(console, 20));
+    };
+    readable_status(console, line.as_slice())?;
+    Ok(line)
 }
 
-// UUID, name, and the pairs of the held line, changed.
-fn with_pairs(console: &Console, held: &[u8], from: usize) -> NewLine {
-    let mut line = with_head(held);
-    let mut at = pairs_at(held);
-    while at < held.len() {
-        line = with_held(console, line, part_at(held, at, b','), from);
-        at = after_part(held, at, b',');
-    }
-    line
-}
-
-// Whether a line has a pair with that key.
-fn has_key(held: &[u8], key: &[u8]) -> bool {
-    let mut at = pairs_at(held);
-    while at < held.len() {
-        if same_bytes(before(part_at(held, at, b','), b':'), key) {
-            return true;
-        }
-        at = after_part(held, at, b',');
-    }
-    false
-}
-
-// Argument `i` behind the others, where the line has no such key.
-fn with_new(console: &Console, line: NewLine, held: &[u8], i: usize) -> NewLine {
-    let mut space = arg_space();
-    let n = argument(console, i, &mut space);
-    let arg = &space[..n];
-    if is_party(arg) {
-        return line;
-    }
-    if has_key(held, before(arg, b':')) {
-        return line;
-    }
-    with_arg(console, line, i)
-}
-
-// The line with all arguments from `from` on.
-fn edited(console: &Console, held: &[u8], from: usize) -> NewLine {
-    let count = argument_count(console);
-    let mut line = with_pairs(console, held, from);
-    for i in from..count {
-        line = with_new(console, line, held, i);
-    }
-    line
-}
-
-fn unchanged(console: &Console, status: u8) -> u8 {
+fn unchanged(console: &Console, failure: Failure) -> Failure {
     complain(console, b"nothing is changed\n");
-    status
+    failure
 }
 
 // Whether a party holds a line under that UUID itself.
-pub fn exact_status(console: &Console, index: &[u8], text: &[u8], party: Party, id: Uuid) -> u8 {
-    let look = found_near(index, text, party, id);
-    match look {
-        NearLook::Exact => DONE,
-        NearLook::Near => {
-            complain_near(console, id);
-            unchanged(console, REFUSED)
+pub(crate) fn exact(console: &Console, store: View, key: LineKey) -> Result<(), Failure> {
+    match found_near(store.index, store.text, key.party, key.id) {
+        Ok(Some(Nearness::Exact)) => Ok(()),
+        Ok(Some(Nearness::Near)) => {
+            complain_near(console, key.id);
+            Err(unchanged(console, Failure::Refused))
         }
-        NearLook::Missing => none(console),
-        NearLook::Unsound => refused_outcome(console, look.outcome()),
-        NearLook::NoOwner => refused_outcome(console, look.outcome()),
+        Ok(None) => Err(none(console)),
+        Err(e) => Err(refused_by(console, e.refusal())),
     }
 }
 
-// Whether the changed line may be filed: the held one has a name, the new one is not too long, and is read.
-fn edited_status(console: &Console, held: &[u8], line: &[u8], over: bool) -> u8 {
-    if before(held, b',').len() == held.len() {
-        return refused(console, 2);
-    }
-    if over {
-        return refused(console, 20);
-    }
-    readable_status(console, line)
-}
-
-// Whether an insert filed the line.
-fn filed_status(console: &Console, answer: Answer, filed: &[u8], line: &[u8]) -> u8 {
-    let status = refused_outcome(console, answer.outcome());
-    if status != DONE {
-        return status;
-    }
-    if same_bytes(filed, line) {
-        return DONE;
+// Files the changed line.
+fn file_line(
+    console: &Console,
+    file: &mut StoreFile,
+    key: LineKey,
+    line: &[u8],
+) -> Result<(), Failure> {
+    let inserted = insert(&mut file.index, &mut file.text, key.party, line);
+    refused_outcome(console, store_outcome(inserted.answer))?;
+    if View::of(file).line(key) == line {
+        return Ok(());
     }
     complain(
         console,
         b"the line would be for another platform than Linux, and is not filed\n",
     );
-    REFUSED
+    Err(Failure::Refused)
 }
 
 // The line as it was and as it is, and what is no longer bound.
-fn say_edited(console: &Console, former: &[u8], line: &[u8]) -> u8 {
+fn say_edited(console: &Console, former: &[u8], line: &[u8]) {
     say(console, b"was: ");
     say_shown(console, former);
     say(console, b"\nnow: ");
     say_shown(console, line);
     say(console, b"\n");
     say_lost(console, former, line);
-    DONE
 }
 
-fn edit_held(
-    console: &Console,
-    held: Held,
-    store: &[u8],
-    party: Party,
-    id: Uuid,
-    from: usize,
-) -> u8 {
-    let mut former_index = half();
-    let mut former_text = half();
-    let status = load(console, store, &mut former_index, &mut former_text);
-    if status != DONE {
-        return status;
-    }
-    let status = exact_status(console, &former_index, &former_text, party, id);
-    if status != DONE {
-        return status;
-    }
-    let made = edited(console, get(&former_index, &former_text, party, id), from);
-    let bytes = made.bytes;
-    let line = first(&bytes, made.len);
-    let status = edited_status(
-        console,
-        get(&former_index, &former_text, party, id),
-        line,
-        made.over,
-    );
-    if status != DONE {
-        return unchanged(console, status);
-    }
-    let mut index = former_index;
-    let mut text = former_text;
-    let inserted = insert(&mut index, &mut text, party, line);
-    let answer = inserted.answer;
-    let status = filed_status(console, answer, get(&index, &text, party, id), line);
-    if status != DONE {
-        return unchanged(console, status);
-    }
-    let status = replace(
-        console,
-        store,
-        held,
-        &former_index,
-        &former_text,
-        &index,
-        &text,
-    );
-    if status != DONE {
-        return status;
-    }
-    say_edited(console, get(&former_index, &former_text, party, id), line)
-}
-
-fn no_pair(console: &Console, arg: &[u8], words: &[u8]) -> u8 {
-    complain_shown(console, arg);
-    complain(console, words);
-    TROUBLE
+fn edit_held(console: &Console, target: Target, key: LineKey, from: usize) -> Result<(), Failure> {
+    let former = target.load(console)?;
+    let store = View::of(&former);
+    exact(console, store, key)?;
+    let held = store.line(key);
+    let made = new_line(console, held, from).map_err(|failure| unchanged(console, failure))?;
+    let line = made.as_slice();
+    let mut file = former;
+    file_line(console, &mut file, key, line).map_err(|failure| unchanged(console, failure))?;
+    target.replace(console, &former, &file)?;
+    say_edited(console, held, line);
+    Ok(())
 }
 
 // Whether argument `i` is a party or a pair, and the first with its key.
-fn arg_status(console: &Console, i: usize, from: usize) -> u8 {
+fn pair_given(console: &Console, i: usize, from: usize) -> Result<(), Failure> {
     let mut space = arg_space();
-    let n = argument(console, i, &mut space);
-    let arg = &space[..n];
-    let key = before(arg, b':');
+    let arg = argument(console, i, &mut space);
+    let key = key_of(arg);
     if is_party(arg) {
-        return DONE;
+        return Ok(());
     }
-    if key.len() == arg.len() {
-        return no_pair(console, arg, b": not of the form KEY:VALUE, as a:b1\n");
-    }
-    if key.len() == 0 {
-        return no_pair(console, arg, b": not of the form KEY:VALUE, as a:b1\n");
-    }
-    if before(arg, b',').len() < arg.len() {
-        return no_pair(
-            console,
-            arg,
-            b": one pair an argument, with no comma in it\n",
-        );
-    }
-    if before(arg, b'\n').len() < arg.len() {
-        return no_pair(console, arg, b": a pair has no line end in it\n");
-    }
-    if pair_with(console, key, from) != i {
-        return no_pair(console, arg, b": the key is given twice\n");
-    }
-    DONE
-}
-
-// Whether all arguments from `from` on are.
-fn args_status(console: &Console, from: usize) -> u8 {
-    let count = argument_count(console);
-    for i in from..count {
-        let status = arg_status(console, i, from);
-        if status != DONE {
-            return status;
-        }
-    }
-    DONE
-}
-
-fn edit_asked(
-    console: &Console,
-    held: Held,
-    store: &[u8],
-    key: &[u8],
-    caller: Caller,
-    from: usize,
-) -> u8 {
-    let party = caller.party;
-    let status = args_status(console, from);
-    if status != DONE {
-        return status;
-    }
-    let parsed = Uuid::parse_str(key);
-    match parsed {
-        UuidParse::Parsed(spelled) => edit_held(console, held, store, party, spelled.id, from),
-        UuidParse::Invalid => no_uuid(console, key),
-    }
+    let words: &[u8] = if key.is_empty() || key.len() == arg.len() {
+        b": not of the form KEY:VALUE, as a:b1\n"
+    } else if arg.contains(&b',') {
+        b": one pair an argument, with no comma in it\n"
+    } else if arg.contains(&b'\n') {
+        b": a pair has no line end in it\n"
+    } else if pair_with(console, key, from) != Some(i) {
+        b": the key is given twice\n"
+    } else {
+        return Ok(());
+    };
+    Err(wrong(console, arg, words))
 }
 
 // `hub edit STORE UUID ..`; the pairs stand from argument `from` on.
-pub fn edit_line(console: &Console, held: Held, store: &[u8], key: &[u8], from: usize) -> u8 {
-    if !may_change(console, held) {
-        return TROUBLE;
-    }
-    let caller = caller_named(console, from);
+pub fn edit_line(
+    console: &Console,
+    target: Target,
+    key: &[u8],
+    from: usize,
+) -> Result<(), Failure> {
+    target.may_change(console)?;
+    let caller = Caller::named(console, from);
     if caller.others == 0 {
-        return wrong_use(console, b"edit");
+        return Err(wrong_use(console, b"edit"));
     }
-    if caller.bad {
-        return TROUBLE;
+    let party = caller.party()?;
+    for i in from..argument_count(console) {
+        pair_given(console, i, from)?;
     }
-    edit_asked(console, held, store, key, caller, from)
+    let id = id_named(console, key)?;
+    edit_held(console, target, LineKey { party, id }, from)
 }

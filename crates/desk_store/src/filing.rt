@@ -1,126 +1,77 @@
 // The commands that change a whole store: new, clear, undo.
-use crate::holding::say_store;
-use desk::changing::{Held, load_old, may_change, place, replace};
+use crate::holding::say_sound;
+use crate::records::View;
+use crate::targets::Target;
+use desk::changing::load_old;
 use desk::console::Console;
-use desk::files::{half, load, stands};
-use desk::say::{DONE, TROUBLE, complain, say};
+use desk::files::{StoreFile, stands};
+use desk::say::{Failure, complain, say};
 use desk::shown::{complain_shown, say_shown};
 use desk_pads::refusals::refused_outcome;
-use store::calls::{Answer, clear};
-use text::bytes::same_bytes;
+use store::calls::clear;
+use store::refusal::store_outcome;
 
 // `hub new STORE`
-pub fn new_store(console: &Console, held: Held, store: &[u8]) -> u8 {
-    if !may_change(console, held) {
-        return TROUBLE;
-    }
-    if stands(console, store) {
-        complain_shown(console, store);
+pub fn new_store(console: &Console, target: Target) -> Result<(), Failure> {
+    target.may_change(console)?;
+    if stands(console, target.path) {
+        complain_shown(console, target.path);
         complain(console, b": the file stands already, and is left alone\n");
-        return TROUBLE;
+        return Err(Failure::Trouble);
     }
-    let index = half();
-    let text = half();
-    let status = place(console, store, held, &index, &text);
-    if status == DONE {
-        say(console, b"a fresh store: ");
-        say_shown(console, store);
-        say(console, b"\n");
-    }
-    status
+    target.place(console, &StoreFile::new())?;
+    say(console, b"a fresh store: ");
+    say_shown(console, target.path);
+    say(console, b"\n");
+    Ok(())
 }
 
 // `hub clear STORE`
-pub fn clear_store(console: &Console, held: Held, store: &[u8]) -> u8 {
-    if !may_change(console, held) {
-        return TROUBLE;
-    }
-    let mut former_index = half();
-    let mut former_text = half();
-    let status = load(console, store, &mut former_index, &mut former_text);
-    if status != DONE {
-        return status;
-    }
-    let mut index = former_index;
-    let mut text = former_text;
-    let answer = clear(&mut index, &mut text);
-    if let Answer::Done = answer {
-        let status = replace(
-            console,
-            store,
-            held,
-            &former_index,
-            &former_text,
-            &index,
-            &text,
-        );
-        if status == DONE {
-            say(
-                console,
-                b"cleared: 0 lines held; hub undo brings the former ones back\n",
-            );
-        }
-        return status;
-    }
-    refused_outcome(console, answer.outcome())
+pub fn clear_store(console: &Console, target: Target) -> Result<(), Failure> {
+    target.may_change(console)?;
+    let former = target.load(console)?;
+    let mut file = former;
+    let answer = clear(&mut file.index, &mut file.text);
+    refused_outcome(console, store_outcome(answer))?;
+    target.replace(console, &former, &file)?;
+    say(
+        console,
+        b"cleared: 0 lines held; hub undo brings the former ones back\n",
+    );
+    Ok(())
 }
 
 // The store becomes the one of STORE.old, and STORE.old the one that it was.
-fn swap(
-    console: &Console,
-    held: Held,
-    store: &[u8],
-    index: &[u8],
-    text: &[u8],
-    old_index: &[u8],
-    old_text: &[u8],
-) -> u8 {
-    if same_bytes(index, old_index) {
-        if same_bytes(text, old_text) {
-            complain(
-                console,
-                b"STORE.old holds the same as the store; there is nothing to undo.\n",
-            );
-            return TROUBLE;
-        }
+fn swap(console: &Console, target: Target, old: &StoreFile) -> Result<(), Failure> {
+    let file = target.load(console)?;
+    if file == *old {
+        complain(
+            console,
+            b"STORE.old holds the same as the store; there is nothing to undo.\n",
+        );
+        return Err(Failure::Trouble);
     }
-    let status = replace(console, store, held, index, text, old_index, old_text);
-    if status == DONE {
-        say(console, b"undone; hub undo once more takes this back\n");
-        say_store(console, old_index, old_text, false);
-    }
-    status
+    target.replace(console, &file, old)?;
+    say(console, b"undone; hub undo once more takes this back\n");
+    // A store that is not sound is put back all the same, and what it is is said.
+    let _ = say_sound(console, View::of(old));
+    Ok(())
 }
 
 // Brings STORE.old back where there is no store.
-fn restore(console: &Console, held: Held, store: &[u8], index: &[u8], text: &[u8]) -> u8 {
-    let status = place(console, store, held, index, text);
-    if status == DONE {
-        say(console, b"the store was gone, and is STORE.old again\n");
-        say_store(console, index, text, false);
-    }
-    status
+fn restore(console: &Console, target: Target, old: &StoreFile) -> Result<(), Failure> {
+    target.place(console, old)?;
+    say(console, b"the store was gone, and is STORE.old again\n");
+    let _ = say_sound(console, View::of(old));
+    Ok(())
 }
 
 // `hub undo STORE`
-pub fn undo(console: &Console, held: Held, store: &[u8]) -> u8 {
-    if !may_change(console, held) {
-        return TROUBLE;
+pub fn undo(console: &Console, target: Target) -> Result<(), Failure> {
+    target.may_change(console)?;
+    let old = load_old(console, target.path)?;
+    if stands(console, target.path) {
+        return swap(console, target, &old);
     }
-    let mut old_index = half();
-    let mut old_text = half();
-    let status = load_old(console, store, &mut old_index, &mut old_text);
-    if status != DONE {
-        return status;
-    }
-    if !stands(console, store) {
-        return restore(console, held, store, &old_index, &old_text);
-    }
-    let mut index = half();
-    let mut text = half();
-    let status = load(console, store, &mut index, &mut text);
-    if status != DONE {
-        return status;
-    }
-    swap(console, held, store, &index, &text, &old_index, &old_text)
+    restore(console, target, &old)
 }

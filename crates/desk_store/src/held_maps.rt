@@ -1,16 +1,14 @@
 // The map of a line that is held, read with a pad's codes.
-use desk::codes::{Codes, first_codes};
+use crate::holding::near_line;
+use crate::records::{LineKey, View};
+use crate::wrong::complain_about;
+use desk::codes::Codes;
 use desk::console::Console;
-use desk::near::complain_near;
-use desk::say::{DONE, ERR, complain};
-use desk::shown::complain_shown;
-use desk::words::none;
+use desk::say::{ERR, Failure};
 use desk_pads::excerpt::put_reading_refused;
-use desk_pads::refusals::refused_outcome;
-use line::reading::{SdlAnswer, SdlMapping, parse_sdl_mapping};
-use store::near::{NearLook, found_near, get_near};
-use store::parties::Party;
-use text::uuid::Uuid;
+use desk_pads::plugged::Plugged;
+use line::mapping::Mapping;
+use line::reading::{SdlMapping, parse_sdl_mapping};
 
 // A pad's codes, in the order by which lines count them.
 #[derive(Clone, Copy)]
@@ -19,79 +17,49 @@ pub struct Lists {
     pub axes: Codes,
 }
 
-// Reads a line.
-pub fn read_with(line: &[u8], lists: Lists) -> SdlMapping {
-    let buttons = lists.buttons;
-    let button_list = buttons.list;
-    let axes = lists.axes;
-    let axis_list = axes.list;
-    parse_sdl_mapping(
-        line,
-        first_codes(&button_list, buttons.len),
-        first_codes(&axis_list, axes.len),
-    )
-}
+impl Lists {
+    // The lists of a pad where there are none.
+    pub fn or_of(self, pad: Plugged) -> Lists {
+        Lists {
+            buttons: or_else(self.buttons, pad.buttons),
+            axes: or_else(self.axes, pad.axes),
+        }
+    }
 
-// The argument that a complaint is about; nothing where it is the command's own UUID.
-fn complain_about(console: &Console, arg: &[u8]) {
-    if 0 < arg.len() {
-        complain_shown(console, arg);
-        complain(console, b": ");
+    // Reads a line.
+    pub fn read(&self, line: &[u8]) -> SdlMapping {
+        parse_sdl_mapping(line, self.buttons.as_slice(), self.axes.as_slice())
     }
 }
 
-// Whether a party holds a line for a UUID: what is not exact is said.
-pub fn held_status(
+fn or_else(codes: Codes, others: Codes) -> Codes {
+    if codes.is_empty() { others } else { codes }
+}
+
+// The map of a line. What is refused is said, of the argument `arg` where that is not empty.
+pub fn map_of(
     console: &Console,
-    index: &[u8],
-    text: &[u8],
-    party: Party,
-    id: Uuid,
+    line: &[u8],
+    lists: &Lists,
     arg: &[u8],
-) -> u8 {
-    let look = found_near(index, text, party, id);
-    match look {
-        NearLook::Exact => DONE,
-        NearLook::Near => {
+) -> Result<Mapping, Failure> {
+    let reading = lists.read(line);
+    match reading.answer {
+        Ok(()) => Ok(reading.map),
+        Err(e) => {
             complain_about(console, arg);
-            complain_near(console, id);
-            DONE
-        }
-        NearLook::Missing => {
-            complain_about(console, arg);
-            none(console)
-        }
-        NearLook::Unsound => refused_outcome(console, look.outcome()),
-        NearLook::NoOwner => refused_outcome(console, look.outcome()),
-    }
-}
-
-// Whether a line is accepted: what is refused is said.
-pub fn reading_status(console: &Console, line: &[u8], lists: Lists, arg: &[u8]) -> u8 {
-    let reading = read_with(line, lists);
-    let answer = reading.answer;
-    match answer {
-        SdlAnswer::Accepted => DONE,
-        SdlAnswer::Refused(e) => {
-            complain_about(console, arg);
-            put_reading_refused(console, ERR, e, line)
+            Err(put_reading_refused(console, ERR, e, line))
         }
     }
 }
 
-// Whether a party holds a line for a UUID, and it is accepted.
-pub fn map_status(
+// The map of the line that a party holds for a UUID.
+pub fn held_map(
     console: &Console,
-    index: &[u8],
-    text: &[u8],
-    party: Party,
-    id: Uuid,
-    lists: Lists,
+    store: View,
+    key: LineKey,
+    lists: &Lists,
     arg: &[u8],
-) -> u8 {
-    let status = held_status(console, index, text, party, id, arg);
-    if status != DONE {
-        return status;
-    }
-    reading_status(console, get_near(index, text, party, id), lists, arg)
+) -> Result<Mapping, Failure> {
+    map_of(console, near_line(console, store, key, arg)?, lists, arg)
 }

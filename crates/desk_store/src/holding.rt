@@ -1,34 +1,24 @@
 // The commands that look into a store: find, list, check.
-use crate::parties::{Caller, OWNED_RECORD, RECORD, SHARE_RECORD, caller_named};
+use crate::parties::{Caller, OWNED_RECORD, RECORD};
+use crate::records::{LineKey, Record, View};
 use crate::shares::{claims_in, put_sum};
+use crate::wrong::{complain_about, id_named};
 use desk::console::Console;
-use desk::fields::{less, section};
-use desk::files::{HALF, half, load};
+use desk::files::{HALF, load};
 use desk::help::wrong_use;
 use desk::near::complain_near;
-use desk::say::{DONE, OUT, TROUBLE, complain, say, say_number};
-use desk::shown::{complain_shown, say_shown};
+use desk::say::{Failure, OUT, say, say_number};
+use desk::shown::say_shown;
+use desk::tally::count_one;
 use desk::words::none;
-use desk_pads::refusals::{refused_by, refused_outcome};
+use desk_pads::refusals::refused_by;
 use store::calls::found;
-use store::near::{NearLook, found_near, get_near};
+use store::near::{Nearness, found_near};
 use store::parties::Party;
-use store::refusal::LookOutcome;
-use text::bytes::same_bytes;
-use text::uuid::{Uuid, UuidParse};
+use text::uuid::Uuid;
 
-// A record of the index: its bytes, whether it is a line's, its owner, 0 for the hall, and the length of its line; all 0
-// where there is none.
-#[derive(Clone, Copy)]
-pub struct Record {
-    pub size: usize,
-    pub line: bool,
-    pub owner: u8,
-    pub len: usize,
-}
-
-// The lines held, how many of them are organisers', their bytes, the shares, and the end of all records.
-#[derive(Clone, Copy)]
+// The lines held, how many of them are organisers', their bytes, the shares, and the bytes of all records.
+#[derive(Clone, Copy, Default)]
 struct Extent {
     shares: usize,
     lines: usize,
@@ -39,287 +29,185 @@ struct Extent {
 
 // The lines held, and the room left in the index.
 #[derive(Clone, Copy)]
-pub struct Room {
+pub(crate) struct Room {
     pub held: usize,
     pub index: usize,
 }
 
-pub fn no_uuid(console: &Console, key: &[u8]) -> u8 {
-    complain_shown(console, key);
-    complain(
-        console,
-        b": no UUID; it has 32 hexadecimal digits, or 36 characters with hyphens\n",
-    );
-    TROUBLE
+// The line that a party holds under a UUID, or else under that without its checksum. What is not exact is said, of the
+// argument `arg` where that is not empty.
+pub(crate) fn near_line<'a>(
+    console: &Console,
+    store: View<'a>,
+    key: LineKey,
+    arg: &[u8],
+) -> Result<&'a [u8], Failure> {
+    match found_near(store.index, store.text, key.party, key.id) {
+        Ok(Some(Nearness::Exact)) => {}
+        Ok(Some(Nearness::Near)) => {
+            complain_about(console, arg);
+            complain_near(console, key.id);
+        }
+        Ok(None) => {
+            complain_about(console, arg);
+            return Err(none(console));
+        }
+        Err(e) => return Err(refused_by(console, e.refusal())),
+    }
+    Ok(store.near_line(key))
 }
 
-fn say_shown_line(console: &Console, line: &[u8]) -> u8 {
+// Prints a line, shown, and its end.
+pub(crate) fn say_shown_line(console: &Console, line: &[u8]) {
     say_shown(console, line);
     say(console, b"\n");
-    DONE
 }
 
 // Prints the line that a party holds under a UUID, or else under that without its checksum.
-pub fn say_line(console: &Console, index: &[u8], text: &[u8], party: Party, id: Uuid) -> u8 {
-    let look = found_near(index, text, party, id);
-    match look {
-        NearLook::Exact => say_shown_line(console, get_near(index, text, party, id)),
-        NearLook::Near => {
-            complain_near(console, id);
-            say_shown_line(console, get_near(index, text, party, id))
-        }
-        NearLook::Missing => none(console),
-        NearLook::Unsound => refused_outcome(console, look.outcome()),
-        NearLook::NoOwner => refused_outcome(console, look.outcome()),
-    }
-}
-
-fn find_held(console: &Console, store: &[u8], party: Party, id: Uuid) -> u8 {
-    let mut index = half();
-    let mut text = half();
-    let status = load(console, store, &mut index, &mut text);
-    if status != DONE {
-        return status;
-    }
-    say_line(console, &index, &text, party, id)
+pub(crate) fn say_line(console: &Console, store: View, key: LineKey) -> Result<(), Failure> {
+    say_shown_line(console, near_line(console, store, key, b"")?);
+    Ok(())
 }
 
 // Whether a store is sound, and the party one that may look into it: what is refused is said.
-pub fn sound_status(console: &Console, index: &[u8], text: &[u8], party: Party) -> u8 {
-    let looked = found(index, text, party, Uuid::NIL).outcome();
-    if let LookOutcome::CannotLook(refusal) = looked {
-        return refused_by(console, refusal);
-    }
-    DONE
-}
-
-fn find_asked(console: &Console, store: &[u8], key: &[u8], caller: Caller) -> u8 {
-    let party = caller.party;
-    let parsed = Uuid::parse_str(key);
-    match parsed {
-        UuidParse::Parsed(spelled) => find_held(console, store, party, spelled.id),
-        UuidParse::Invalid => no_uuid(console, key),
+pub(crate) fn sound(console: &Console, store: View, party: Party) -> Result<(), Failure> {
+    match found(store.index, store.text, party, Uuid::NIL) {
+        Ok(_) => Ok(()),
+        Err(e) => Err(refused_by(console, e.refusal())),
     }
 }
 
 // `hub find STORE UUID ..`; the party stands from argument `from` on.
-pub fn find_line(console: &Console, store: &[u8], key: &[u8], from: usize) -> u8 {
-    let caller = caller_named(console, from);
+pub fn find_line(console: &Console, path: &[u8], key: &[u8], from: usize) -> Result<(), Failure> {
+    let caller = Caller::named(console, from);
     if caller.others != 0 {
-        return wrong_use(console, b"find");
+        return Err(wrong_use(console, b"find"));
     }
-    if caller.bad {
-        return TROUBLE;
-    }
-    find_asked(console, store, key, caller)
-}
-
-fn word(high: u8, low: u8) -> usize {
-    (high as usize) * 256 + low as usize
-}
-
-fn no_record() -> Record {
-    Record {
-        size: 0,
-        line: false,
-        owner: 0,
-        len: 0,
-    }
-}
-
-// Kind 1 and the body, which ends in the line's length.
-fn hall_record(index: &[u8], at: usize) -> Record {
-    let record = section(index, at, RECORD);
-    if record.len() == RECORD {
-        return Record {
-            size: RECORD,
-            line: true,
-            owner: 0,
-            len: word(record[19], record[20]),
-        };
-    }
-    no_record()
-}
-
-// Kind 3, the owner and the same body.
-fn owned_record(index: &[u8], at: usize) -> Record {
-    let record = section(index, at, OWNED_RECORD);
-    if record.len() == OWNED_RECORD {
-        return Record {
-            size: OWNED_RECORD,
-            line: true,
-            owner: record[1],
-            len: word(record[20], record[21]),
-        };
-    }
-    no_record()
-}
-
-// Kind 4, the owner and its share.
-fn share_record(index: &[u8], at: usize) -> Record {
-    let record = section(index, at, SHARE_RECORD);
-    if record.len() == SHARE_RECORD {
-        return Record {
-            size: SHARE_RECORD,
-            line: false,
-            owner: record[1],
-            len: 0,
-        };
-    }
-    no_record()
-}
-
-// The record that starts at `at`.
-pub fn record_at(index: &[u8], at: usize) -> Record {
-    let kind = section(index, at, 1);
-    if same_bytes(kind, b"\x01") {
-        return hall_record(index, at);
-    }
-    if same_bytes(kind, b"\x03") {
-        return owned_record(index, at);
-    }
-    if same_bytes(kind, b"\x04") {
-        return share_record(index, at);
-    }
-    no_record()
+    let party = caller.party()?;
+    let id = id_named(console, key)?;
+    let file = load(console, path)?;
+    say_line(console, View::of(&file), LineKey { party, id })
 }
 
 // A line, after its party where that is an organiser.
-fn say_owned(console: &Console, owner: u8, line: &[u8]) {
-    if owner != 0 {
+fn say_record(console: &Console, record: Record) {
+    let Some(line) = record.line else {
+        return;
+    };
+    if record.owner != 0 {
         say(console, b"party ");
-        say_number(console, owner as usize);
+        say_number(console, usize::from(record.owner));
         say(console, b": ");
     }
-    say_shown(console, line);
-    say(console, b"\n");
+    say_shown_line(console, line);
 }
 
-// Prints the line of a record, if it has one.
-fn say_record(console: &Console, record: Record, line: &[u8]) {
-    if record.line {
-        say_owned(console, record.owner, line);
-    }
-}
-
-// What is held with one more record.
-fn with_record(seen: Extent, record: Record) -> Extent {
-    let mut next = seen;
-    next.records = std::num::wrapping_add_usize(seen.records, record.size);
-    if !record.line {
-        next.shares = std::num::wrapping_add_usize(seen.shares, 1);
-        return next;
-    }
-    next.lines = std::num::wrapping_add_usize(seen.lines, 1);
-    if record.owner != 0 {
-        next.owned = std::num::wrapping_add_usize(seen.owned, 1);
-    }
-    next.bytes = std::num::wrapping_add_usize(seen.bytes, record.len);
-    next
-}
-
-// Goes through the records of a sound store; `shown`: prints each line.
-fn held(console: &Console, index: &[u8], text: &[u8], shown: bool) -> Extent {
-    let mut seen = Extent {
-        shares: 0,
-        lines: 0,
-        owned: 0,
-        bytes: 0,
-        records: 0,
-    };
-    let mut at: usize = 0;
-    while at < index.len() {
-        let record = record_at(index, at);
-        let size = record.size;
-        if size == 0 {
-            return seen;
+impl Extent {
+    // What a sound store holds.
+    fn of(store: View) -> Extent {
+        let mut seen = Extent::default();
+        for record in store.records() {
+            seen.count(record);
         }
-        if shown {
-            say_record(console, record, section(text, seen.bytes, record.len));
-        }
-        seen = with_record(seen, record);
-        if index.len() - at < size {
-            return seen;
-        }
-        at += size;
+        seen
     }
-    seen
-}
 
-fn room_beside(held: Extent) -> Room {
-    Room {
-        held: held.lines,
-        index: less(HALF, held.records),
+    // One more record.
+    fn count(&mut self, record: Record) {
+        self.records = self.records.wrapping_add(record.size);
+        let Some(line) = record.line else {
+            count_one(&mut self.shares);
+            return;
+        };
+        count_one(&mut self.lines);
+        if record.owner != 0 {
+            count_one(&mut self.owned);
+        }
+        self.bytes = self.bytes.wrapping_add(line.len());
+    }
+
+    fn room(self) -> Room {
+        Room {
+            held: self.lines,
+            index: HALF.saturating_sub(self.records),
+        }
+    }
+
+    // The room for lines: the hall's, and an organiser's where one holds any.
+    fn say_line_room(self, console: &Console) {
+        let room = self.room();
+        say_number(console, room.index / RECORD);
+        say(console, b" more lines");
+        if self.owned != 0 {
+            say(console, b" of the hall or ");
+            say_number(console, room.index / OWNED_RECORD);
+            say(console, b" of an organiser");
+        }
+    }
+
+    // The lines held and the room left, of the text that many bytes.
+    fn say_held(self, console: &Console, left: usize) {
+        say_number(console, self.lines);
+        say(console, b" lines held, ");
+        if self.owned != 0 {
+            say_number(console, self.owned);
+            say(console, b" of them organisers', ");
+        }
+        say(console, b"of ");
+        say_number(console, self.bytes);
+        say(console, b" bytes; room for ");
+        self.say_line_room(console);
+        say(console, b" and ");
+        say_number(console, left);
+        say(console, b" more bytes");
     }
 }
 
 // The room of a sound store.
-pub fn room_in(console: &Console, index: &[u8], text: &[u8]) -> Room {
-    room_beside(held(console, index, text, false))
+pub(crate) fn room_in(store: View) -> Room {
+    Extent::of(store).room()
 }
 
-// The room for lines: the hall's, and an organiser's where one holds any.
-fn say_line_room(console: &Console, owned: usize, room: Room) {
-    say_number(console, room.index / RECORD);
-    say(console, b" more lines");
-    if owned != 0 {
-        say(console, b" of the hall or ");
-        say_number(console, room.index / OWNED_RECORD);
-        say(console, b" of an organiser");
-    }
-}
-
-// The lines held and the room left, of the text that many bytes.
-fn say_held(console: &Console, held: Extent, left: usize) {
-    let room = room_beside(held);
-    let owned = held.owned;
-    say_number(console, held.lines);
-    say(console, b" lines held, ");
-    if owned != 0 {
-        say_number(console, owned);
-        say(console, b" of them organisers', ");
-    }
-    say(console, b"of ");
-    say_number(console, held.bytes);
-    say(console, b" bytes; room for ");
-    say_line_room(console, owned, room);
-    say(console, b" and ");
-    say_number(console, left);
-    say(console, b" more bytes");
-}
-
-// The same, and where a share is set what the parties claim.
-fn say_extent(console: &Console, held: Extent, index: &[u8], text: &[u8]) {
+// What is held and what room is left, and where a share is set what the parties claim.
+fn say_extent(console: &Console, store: View) {
+    let held = Extent::of(store);
     if held.shares == 0 {
-        say_held(console, held, less(HALF, held.bytes));
+        held.say_held(console, HALF.saturating_sub(held.bytes));
         say(console, b"\n");
         return;
     }
-    let claims = claims_in(console, index, text);
-    say_held(console, held, less(HALF, claims.bytes));
+    let claims = claims_in(store);
+    held.say_held(console, HALF.saturating_sub(claims.bytes));
     say(console, b" beside the parties' shares\n");
     put_sum(console, OUT, claims);
 }
 
-pub fn say_store(console: &Console, index: &[u8], text: &[u8], shown: bool) -> u8 {
-    let status = sound_status(console, index, text, Party::Hall);
-    if status != DONE {
-        return status;
-    }
-    if !shown {
-        say(console, b"sound: ");
-    }
-    say_extent(console, held(console, index, text, shown), index, text);
-    DONE
+// That a store is sound, and what it holds.
+pub(crate) fn say_sound(console: &Console, store: View) -> Result<(), Failure> {
+    sound(console, store, Party::Hall)?;
+    say(console, b"sound: ");
+    say_extent(console, store);
+    Ok(())
 }
 
-// `hub list STORE` where the lines are shown, `hub check STORE` where not.
-pub fn list_store(console: &Console, store: &[u8], shown: bool) -> u8 {
-    let mut index = half();
-    let mut text = half();
-    let status = load(console, store, &mut index, &mut text);
-    if status != DONE {
-        return status;
+// The lines of a store, and what it holds.
+pub(crate) fn say_store(console: &Console, store: View) -> Result<(), Failure> {
+    sound(console, store, Party::Hall)?;
+    for record in store.records() {
+        say_record(console, record);
     }
-    say_store(console, &index, &text, shown)
+    say_extent(console, store);
+    Ok(())
+}
+
+// `hub list STORE`
+pub fn list_store(console: &Console, path: &[u8]) -> Result<(), Failure> {
+    let file = load(console, path)?;
+    say_store(console, View::of(&file))
+}
+
+// `hub check STORE`
+pub fn check_store(console: &Console, path: &[u8]) -> Result<(), Failure> {
+    let file = load(console, path)?;
+    say_sound(console, View::of(&file))
 }

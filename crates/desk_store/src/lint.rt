@@ -1,38 +1,54 @@
 // The command lint: every line of a list is read, with no codes.
 use crate::census::{LineKind, kind_of};
-use desk::codes::first_codes;
 use desk::console::Console;
-use desk::fields::{after_part, bare, first, less, line_at};
-use desk::files::{List, list_space, read_list};
+use desk::fields::bare;
+use desk::files::{list_space, read_list};
 use desk::forms::{has_other_form, say_form, say_other_forms};
-use desk::say::{DONE, OUT, REFUSED, TROUBLE, say, say_number};
+use desk::say::{Failure, OUT, say, say_number};
+use desk::tally::count_one;
 use desk::words::put_refused;
 use desk_pads::excerpt::{put_first_refused, put_reading_refused};
-use line::parser::{Answer, Error, first_token};
-use line::reading::{ParseSdlMappingError, SdlAnswer, parse_sdl_mapping};
-use std::num::wrapping_add_usize;
-use text::bytes::same_bytes;
+use line::parser::first_token;
+use line::reading::parse_sdl_mapping;
 
 // The most refused lines that are shown.
 const SHOWN: usize = 1000;
 
-// How many lines were read, how many were refused, and how many an insert passes over, with the first of each kind.
-#[derive(Clone, Copy)]
+// Lines that an insert passes over: how many, and the number of the first.
+#[derive(Clone, Copy, Default)]
+struct Passed {
+    count: usize,
+    first: Option<usize>,
+}
+
+// How many lines were read, how many were refused, and how many an insert passes over.
+#[derive(Clone, Copy, Default)]
 struct Tally {
     lines: usize,
     comments: usize,
     refused: usize,
-    elsewhere: usize,
-    first_elsewhere: usize,
-    no_uuid: usize,
-    first_no_uuid: usize,
+    elsewhere: Passed,
+    no_uuid: Passed,
     other_forms: usize,
 }
 
-fn with_refused(tally: Tally) -> Tally {
-    let mut next = tally;
-    next.refused = wrapping_add_usize(tally.refused, 1);
-    next
+impl Passed {
+    fn count(&mut self, number: usize) {
+        count_one(&mut self.count);
+        self.first = self.first.or(Some(number));
+    }
+
+    fn say(self, console: &Console, words: &[u8]) {
+        let Some(number) = self.first else {
+            return;
+        };
+        say(console, b"  an insert passes over ");
+        say_number(console, self.count);
+        say(console, words);
+        say(console, b"; the first is line ");
+        say_number(console, number);
+        say(console, b"\n");
+    }
 }
 
 fn say_line_number(console: &Console, number: usize) {
@@ -41,173 +57,104 @@ fn say_line_number(console: &Console, number: usize) {
     say(console, b": ");
 }
 
-// A line whose first field is refused, or that is not UTF-8.
-fn with_first(console: &Console, tally: Tally, e: Error, line: &[u8]) -> Tally {
-    if tally.refused < SHOWN {
-        say_line_number(console, tally.lines);
-        put_first_refused(console, OUT, e, line);
-    }
-    with_refused(tally)
-}
-
-fn with_reading(console: &Console, tally: Tally, e: ParseSdlMappingError, line: &[u8]) -> Tally {
-    if tally.refused < SHOWN {
-        say_line_number(console, tally.lines);
-        put_reading_refused(console, OUT, e, line);
-    }
-    with_refused(tally)
-}
-
-// A line that an insert refuses with 20.
-fn with_long(console: &Console, tally: Tally, line: &[u8]) -> Tally {
-    if tally.refused < SHOWN {
-        say_line_number(console, tally.lines);
-        put_refused(console, OUT, 20);
-        say(console, b": it has ");
-        say_number(console, line.len());
-        say(console, b"\n");
-    }
-    with_refused(tally)
-}
-
-// A line that can be read: whether an insert files it.
-fn with_readable(console: &Console, tally: Tally, line: &[u8]) -> Tally {
-    let mut next = tally;
-    let kind = kind_of(line);
-    match kind {
-        LineKind::Empty => {}
-        LineKind::Comment => {}
-        LineKind::NoUuid => {
-            if tally.no_uuid == 0 {
-                next.first_no_uuid = tally.lines;
-            }
-            next.no_uuid = wrapping_add_usize(tally.no_uuid, 1);
+impl Tally {
+    // A line that is refused; `say_why` says by what.
+    fn count_refused<F: FnOnce()>(&mut self, console: &Console, say_why: F)
+        requires { F.IsAlwaysCallable say_why }
+    {
+        if self.refused < SHOWN {
+            say_line_number(console, self.lines);
+            say_why();
         }
-        LineKind::Elsewhere => {
-            if tally.elsewhere == 0 {
-                next.first_elsewhere = tally.lines;
-            }
-            next.elsewhere = wrapping_add_usize(tally.elsewhere, 1);
+        count_one(&mut self.refused);
+    }
+
+    // A line that an insert refuses with 20.
+    fn count_long(&mut self, console: &Console, line: &[u8]) {
+        self.count_refused(console, || {
+            put_refused(console, OUT, 20);
+            say(console, b": it has ");
+            say_number(console, line.len());
+            say(console, b"\n");
+        });
+    }
+
+    // A line that can be read: whether an insert files it.
+    fn count_readable(&mut self, console: &Console, line: &[u8]) {
+        match kind_of(line) {
+            LineKind::NoUuid => self.no_uuid.count(self.lines),
+            LineKind::Elsewhere => self.elsewhere.count(self.lines),
+            LineKind::TooLong => self.count_long(console, line),
+            LineKind::Empty | LineKind::Comment | LineKind::Wanted => {}
         }
-        LineKind::TooLong => {
-            next = with_long(console, tally, line);
+    }
+
+    // A line that an insert files, readable or not, whose UUID is in another form than 32 digits.
+    fn count_form(&mut self, console: &Console, line: &[u8]) {
+        if has_other_form(line) && kind_of(line) == LineKind::Wanted {
+            say_line_number(console, self.lines);
+            say_form(console, line);
+            count_one(&mut self.other_forms);
         }
-        LineKind::Wanted => {}
     }
-    next
-}
 
-// A line that an insert files, readable or not, whose UUID is in another form than 32 digits.
-fn with_form(console: &Console, tally: Tally, line: &[u8]) -> Tally {
-    let mut next = tally;
-    if !has_other_form(line) {
-        return next;
+    fn count_read(&mut self, console: &Console, line: &[u8]) {
+        match parse_sdl_mapping(line, &[], &[]).answer {
+            Ok(()) => self.count_readable(console, line),
+            Err(e) => self.count_refused(console, || {
+                let _ = put_reading_refused(console, OUT, e, line);
+            }),
+        }
     }
-    let kind = kind_of(line);
-    if let LineKind::Wanted = kind {
-        say_line_number(console, tally.lines);
-        say_form(console, line);
-        next.other_forms = wrapping_add_usize(tally.other_forms, 1);
-    }
-    next
-}
 
-fn with_read(console: &Console, tally: Tally, line: &[u8]) -> Tally {
-    let none = [0u32; 1];
-    let codes = first_codes(&none, 0);
-    let reading = parse_sdl_mapping(line, codes, codes);
-    let answer = reading.answer;
-    match answer {
-        SdlAnswer::Accepted => with_readable(console, tally, line),
-        SdlAnswer::Refused(e) => with_reading(console, tally, e, line),
+    fn count(&mut self, console: &Console, line: &[u8]) {
+        count_one(&mut self.lines);
+        if line.is_empty() {
+            return;
+        }
+        if line.starts_with(b"#") {
+            count_one(&mut self.comments);
+            return;
+        }
+        self.count_form(console, line);
+        match first_token(line) {
+            Some(Ok(_)) => self.count_read(console, line),
+            Some(Err(e)) => self.count_refused(console, || {
+                let _ = put_first_refused(console, OUT, e, line);
+            }),
+            None => {}
+        }
     }
-}
 
-fn with_line(console: &Console, tally: Tally, line: &[u8]) -> Tally {
-    let mut next = tally;
-    next.lines = wrapping_add_usize(tally.lines, 1);
-    if line.len() == 0 {
-        return next;
+    fn say(self, console: &Console) {
+        if SHOWN < self.refused {
+            say_number(console, self.refused - SHOWN);
+            say(console, b" more refused lines are not shown\n");
+        }
+        say_number(console, self.lines);
+        say(console, b" lines, ");
+        say_number(console, self.comments);
+        say(console, b" comments, ");
+        say_number(console, self.refused);
+        say(console, b" refused\n");
+        self.elsewhere.say(console, b" for other platforms");
+        self.no_uuid
+            .say(console, b" whose first field is no UUID but xinput");
+        say_other_forms(console, self.other_forms);
     }
-    if same_bytes(first(line, 1), b"#") {
-        next.comments = wrapping_add_usize(tally.comments, 1);
-        return next;
-    }
-    next = with_form(console, next, line);
-    let token = first_token(line);
-    match token {
-        Answer::Found(_) => with_read(console, next, line),
-        Answer::Refused(e) => with_first(console, next, e, line),
-        Answer::End => next,
-    }
-}
-
-fn say_passed(console: &Console, n: usize, words: &[u8], number: usize) {
-    if n == 0 {
-        return;
-    }
-    say(console, b"  an insert passes over ");
-    say_number(console, n);
-    say(console, words);
-    say(console, b"; the first is line ");
-    say_number(console, number);
-    say(console, b"\n");
-}
-
-fn say_tally(console: &Console, tally: Tally) -> u8 {
-    if SHOWN < tally.refused {
-        say_number(console, less(tally.refused, SHOWN));
-        say(console, b" more refused lines are not shown\n");
-    }
-    say_number(console, tally.lines);
-    say(console, b" lines, ");
-    say_number(console, tally.comments);
-    say(console, b" comments, ");
-    say_number(console, tally.refused);
-    say(console, b" refused\n");
-    say_passed(
-        console,
-        tally.elsewhere,
-        b" for other platforms",
-        tally.first_elsewhere,
-    );
-    say_passed(
-        console,
-        tally.no_uuid,
-        b" whose first field is no UUID but xinput",
-        tally.first_no_uuid,
-    );
-    say_other_forms(console, tally.other_forms);
-    if tally.refused == 0 {
-        return DONE;
-    }
-    REFUSED
-}
-
-fn lint_text(console: &Console, list: &[u8]) -> u8 {
-    let mut tally = Tally {
-        lines: 0,
-        comments: 0,
-        refused: 0,
-        elsewhere: 0,
-        first_elsewhere: 0,
-        no_uuid: 0,
-        first_no_uuid: 0,
-        other_forms: 0,
-    };
-    let mut at: usize = 0;
-    while at < list.len() {
-        tally = with_line(console, tally, bare(line_at(list, at)));
-        at = after_part(list, at, b'\n');
-    }
-    say_tally(console, tally)
 }
 
 // `hub lint FILE`
-pub fn lint_list(console: &Console, path: &[u8]) -> u8 {
+pub fn lint_list(console: &Console, path: &[u8]) -> Result<(), Failure> {
     let mut space = list_space();
-    match read_list(console, path, &mut space) {
-        List::Read(n) => lint_text(console, first(&space, n)),
-        List::Failed => TROUBLE,
+    let list = read_list(console, path, &mut space)?;
+    let mut tally = Tally::default();
+    for line in list.split_inclusive(|b| *b == b'\n') {
+        tally.count(console, bare(line));
     }
+    tally.say(console);
+    if tally.refused == 0 {
+        return Ok(());
+    }
+    Err(Failure::Refused)
 }

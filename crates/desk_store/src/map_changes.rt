@@ -1,303 +1,202 @@
 // Changes of map in the middle of a recording: `after=N:UUID` for the first pad, `after2=N:UUID` for the second.
-use crate::held_maps::{map_status, read_with};
-use crate::test_args::{Request, lists_of};
+use crate::held_maps::held_map;
+use crate::test_args::Test;
 use desk::console::{Console, argument, argument_count};
 use desk::fields::{after, before};
 use desk::files::arg_space;
-use desk::say::{DONE, ERR, REFUSED, complain, put_number, say, say_number};
+use desk::say::{ERR, Failure, complain, put_number, say, say_number};
 use desk::shown::say_shown;
-use desk::tally::more;
-use desk_pads::holders::say_held_by;
-use desk_pads::playing::{NEVER, Play, say_element, say_which, seat_of, with_seat};
+use desk::tally::count_one;
+use desk_pads::holders::Found;
+use desk_pads::playing::{Play, say_element, say_which};
 use line::mapping::Mapping;
-use pad::events::{ELEMENTS, Event, Events};
+use pad::events::{Event, Events};
 use pad::two::Which;
-use std::num::wrapping_add_usize;
-use store::near::get_near;
-use text::bytes::same_bytes;
-use text::uuid::{Uuid, UuidParse};
+use text::uuid::Uuid;
 
 // The most digits of a number of records.
 const DIGITS_MAX: usize = 9;
 
-// After how many records of a pad the map of which line comes; NEVER where it is not so written.
+// After how many records of a pad the map of which line comes.
 #[derive(Clone, Copy)]
 struct MapChange {
     records: usize,
     id: Uuid,
 }
 
-// A number of one to nine digits, else NEVER.
-pub fn parse_count(s: &[u8]) -> usize {
-    if s.len() == 0 {
-        return NEVER;
+// A number of one to nine digits.
+pub fn parse_count(s: &[u8]) -> Option<usize> {
+    if s.is_empty() || DIGITS_MAX < s.len() {
+        return None;
     }
-    if DIGITS_MAX < s.len() {
-        return NEVER;
-    }
-    let mut n: usize = 0;
-    let mut i: usize = 0;
-    while i < s.len() {
-        let b = s[i];
-        if b < b'0' {
-            return NEVER;
-        }
-        if b'9' < b {
-            return NEVER;
-        }
-        n = n % 1000000000 * 10 + (b - b'0') as usize;
-        i += 1;
-    }
-    n
+    s.iter().try_fold(0, with_digit)
 }
 
-fn no_change() -> MapChange {
-    MapChange {
-        records: NEVER,
-        id: Uuid::NIL,
+fn with_digit(n: usize, b: &u8) -> Option<usize> {
+    if !b.is_ascii_digit() {
+        return None;
     }
+    n.checked_mul(10)?.checked_add(usize::from(*b - b'0'))
 }
 
 // `2:UUID`
-fn parse_change(s: &[u8]) -> MapChange {
-    let records = parse_count(before(s, b':'));
-    let parsed = Uuid::parse_str(after(s, b':'));
-    match parsed {
-        UuidParse::Parsed(spelled) => {
-            let id = spelled.id;
-            MapChange { records, id }
-        }
-        UuidParse::Invalid => no_change(),
-    }
+fn parse_change(s: &[u8]) -> Option<MapChange> {
+    let records = parse_count(before(s, b':'))?;
+    let id = Uuid::parse_str(after(s, b':'))?.id;
+    Some(MapChange { records, id })
 }
 
 // Whether an argument is a change of map, so written.
 pub fn is_change(arg: &[u8]) -> bool {
-    parse_change(after(arg, b'=')).records != NEVER
+    parse_change(after(arg, b'=')).is_some()
 }
 
-fn is_for(arg: &[u8], which: Which) -> bool {
-    let key = before(arg, b'=');
+// The key of the arguments that change a pad's map.
+fn key_of(which: Which) -> &'static [u8] {
     match which {
-        Which::First => same_bytes(key, b"after"),
-        Which::Second => same_bytes(key, b"after2"),
+        Which::First => b"after",
+        Which::Second => b"after2",
     }
 }
 
 // The change of a pad's map that argument `i` is, if it is one.
-fn change_at(console: &Console, which: Which, i: usize) -> MapChange {
+fn change_at(console: &Console, which: Which, i: usize) -> Option<MapChange> {
     let mut space = arg_space();
-    let n = argument(console, i, &mut space);
-    let arg = &space[..n];
-    if is_for(arg, which) {
-        return parse_change(after(arg, b'='));
+    let arg = argument(console, i, &mut space);
+    if before(arg, b'=') != key_of(which) {
+        return None;
     }
-    no_change()
+    parse_change(after(arg, b'='))
 }
 
-// The fewest records, not less than `least`, after which a change of a pad's map comes.
-pub fn due_from(console: &Console, which: Which, from: usize, least: usize) -> usize {
-    let count = argument_count(console);
-    let mut due = NEVER;
-    let mut i = from;
-    while i < count {
-        let change = change_at(console, which, i);
-        if least <= change.records {
-            if change.records < due {
-                due = change.records;
-            }
-        }
-        i += 1;
-    }
-    due
-}
-
-// Whether the line of a change is held and accepted.
-fn change_status(
-    console: &Console,
-    index: &[u8],
-    text: &[u8],
-    asked: Request,
-    which: Which,
-    i: usize,
-) -> u8 {
-    let change = change_at(console, which, i);
-    let id = change.id;
-    let caller = asked.caller;
-    let party = caller.party;
-    let mut space = arg_space();
-    let n = argument(console, i, &mut space);
-    if change.records == NEVER {
-        return DONE;
-    }
-    map_status(
-        console,
-        index,
-        text,
-        party,
-        id,
-        lists_of(asked, which),
-        &space[..n],
-    )
-}
-
-// Whether all lines of a pad's changes are.
-pub fn changes_status(
-    console: &Console,
-    index: &[u8],
-    text: &[u8],
-    asked: Request,
-    which: Which,
-) -> u8 {
-    let count = argument_count(console);
-    let mut i = asked.from;
-    while i < count {
-        let status = change_status(console, index, text, asked, which, i);
-        if status != DONE {
-            return status;
-        }
-        i += 1;
-    }
-    DONE
+// The fewest records, not less than `least`, after which a change of a pad's map comes by an argument from `from` on.
+pub fn due_from(console: &Console, which: Which, from: usize, least: usize) -> Option<usize> {
+    (from..argument_count(console))
+        .filter_map(|i| change_at(console, which, i))
+        .map(|change| change.records)
+        .filter(|records| least <= *records)
+        .min()
 }
 
 // `pad 1, after 2 records: ` and the line.
-fn say_change(console: &Console, play: Play, which: Which, line: &[u8]) {
-    let seat = seat_of(play, which);
+fn say_change(console: &Console, play: &Play, which: Which, line: &[u8]) {
     if play.two {
         say_which(console, which);
         say(console, b", ");
     }
     say(console, b"after ");
-    say_number(console, seat.records);
+    say_number(console, play.seat(which).records);
     say(console, b" records: ");
     say_shown(console, line);
     say(console, b"\n");
 }
 
-fn say_event(console: &Console, play: Play, which: Which, told: Event) {
-    let element = told.element;
-    let value = told.value;
+fn say_event(console: &Console, play: &Play, which: Which, told: Event) {
     say(console, b"  ");
-    say_element(console, element, value);
-    say_held_by(console, play, which, element, value);
+    say_element(console, told.element, told.value);
+    let found = Found {
+        play,
+        which,
+        element: told.element,
+        value: told.value,
+    };
+    found.say_held_by(console);
     say(console, b"\n");
 }
 
 // The events of a change of map, one a line.
-fn say_events(console: &Console, play: Play, which: Which, events: Events) {
-    let list = events.list;
-    let mut i: usize = 0;
-    while i < ELEMENTS {
-        if events.count <= i {
-            return;
-        }
-        let told = list[i];
-        say_event(console, play, which, told);
-        i += 1;
-    }
-}
-
-// Another map for a pad, told.
-fn with_map(console: &Console, play: Play, which: Which, map: Mapping) -> Play {
-    let pads = play.pads;
-    let told = pads.change_map(which, map);
-    let later = told.pads;
-    let events = told.events;
-    let mut seat = seat_of(play, which);
-    seat.map = map;
-    let mut next = with_seat(play, which, seat);
-    next.pads = later;
-    let mut tally = play.tally;
-    tally.changes = more(tally.changes);
-    tally.changed = wrapping_add_usize(tally.changed, events.count);
-    next.tally = tally;
+fn say_events(console: &Console, play: &Play, which: Which, events: Events) {
     if events.count == 0 {
         say(console, b"  no element has another value\n");
     }
-    say_events(console, next, which, events);
-    next
+    for told in events.list.iter().take(events.count) {
+        say_event(console, play, which, *told);
+    }
 }
 
-// The change that argument `i` is, where it comes after so many records.
-fn with_change(
-    console: &Console,
-    index: &[u8],
-    text: &[u8],
-    asked: Request,
-    play: Play,
-    which: Which,
-    i: usize,
-) -> Play {
-    let seat = seat_of(play, which);
-    let change = change_at(console, which, i);
-    if change.records != seat.records {
-        return play;
-    }
-    let id = change.id;
-    let caller = asked.caller;
-    let party = caller.party;
-    let line = get_near(index, text, party, id);
-    say_change(console, play, which, line);
-    let reading = read_with(line, lists_of(asked, which));
-    let map = reading.map;
-    with_map(console, play, which, map)
+// Gives a pad another map, and tells what comes of it.
+fn give_map(console: &Console, play: &mut Play, which: Which, map: Mapping) {
+    let told = play.pads.change_map(which, map);
+    play.pads = told.pads;
+    let mut seat = play.seat(which);
+    seat.map = map;
+    play.set_seat(which, seat);
+    count_one(&mut play.tally.changes);
+    play.tally.changed = play.tally.changed.wrapping_add(told.events.count);
+    say_events(console, play, which, told.events);
 }
 
-// The changes of a pad's map that are due, in the order of the arguments.
-fn with_due(
-    console: &Console,
-    index: &[u8],
-    text: &[u8],
-    asked: Request,
-    play: Play,
-    which: Which,
-) -> Play {
-    let count = argument_count(console);
-    let mut next = play;
-    let mut i = asked.from;
-    while i < count {
-        next = with_change(console, index, text, asked, next, which, i);
-        i += 1;
+impl Test<'_> {
+    // Whether the line of a change is held and accepted.
+    fn has_change(self, console: &Console, which: Which, i: usize) -> Result<(), Failure> {
+        if let Some(change) = change_at(console, which, i) {
+            let mut space = arg_space();
+            let arg = argument(console, i, &mut space);
+            held_map(
+                console,
+                self.store,
+                self.key(change.id),
+                &self.asked.lists(which),
+                arg,
+            )?;
+        }
+        Ok(())
     }
-    next
-}
 
-// The changes of a pad's map that come after its last record.
-pub fn with_changes(
-    console: &Console,
-    index: &[u8],
-    text: &[u8],
-    asked: Request,
-    play: Play,
-    which: Which,
-) -> Play {
-    let now = seat_of(play, which);
-    if now.due != now.records {
-        return play;
+    // Whether all lines of a pad's changes are.
+    pub fn has_changes(self, console: &Console, which: Which) -> Result<(), Failure> {
+        for i in self.asked.from..argument_count(console) {
+            self.has_change(console, which, i)?;
+        }
+        Ok(())
     }
-    let next = with_due(console, index, text, asked, play, which);
-    let mut seat = seat_of(next, which);
-    seat.due = due_from(console, which, asked.from, more(seat.records));
-    with_seat(next, which, seat)
+
+    // The change that argument `i` is, where it comes after so many records.
+    fn change(self, console: &Console, play: &mut Play, which: Which, i: usize) {
+        let Some(change) = change_at(console, which, i) else {
+            return;
+        };
+        if change.records == play.seat(which).records {
+            let line = self.store.near_line(self.key(change.id));
+            say_change(console, play, which, line);
+            give_map(console, play, which, self.asked.lists(which).read(line).map);
+        }
+    }
+
+    // The changes of a pad's map that come after its last record, in the order of the arguments.
+    pub fn change_all(self, console: &Console, play: &mut Play, which: Which) {
+        let now = play.seat(which);
+        if now.due != Some(now.records) {
+            return;
+        }
+        for i in self.asked.from..argument_count(console) {
+            self.change(console, play, which, i);
+        }
+        let mut seat = play.seat(which);
+        seat.due = due_from(
+            console,
+            which,
+            self.asked.from,
+            seat.records.wrapping_add(1),
+        );
+        play.set_seat(which, seat);
+    }
 }
 
 // Says which change of a pad's map never came.
-pub fn never_status(console: &Console, play: Play, which: Which) -> u8 {
-    let seat = seat_of(play, which);
-    if seat.due == NEVER {
-        return DONE;
-    }
-    match which {
-        Which::First => complain(console, b"after="),
-        Which::Second => complain(console, b"after2="),
-    }
-    put_number(console, ERR, seat.due);
+pub fn all_came(console: &Console, play: &Play, which: Which) -> Result<(), Failure> {
+    let seat = play.seat(which);
+    let Some(due) = seat.due else {
+        return Ok(());
+    };
+    complain(console, key_of(which));
+    complain(console, b"=");
+    put_number(console, ERR, due);
     complain(console, b":..: the recording has only ");
     put_number(console, ERR, seat.records);
     complain(
         console,
         b" records of buttons and axes, so this change never came\n",
     );
-    REFUSED
+    Err(Failure::Refused)
 }

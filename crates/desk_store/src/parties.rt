@@ -1,12 +1,12 @@
 // Whose lines a command is about: `party=7` is a league organiser, no `party=` the hall.
+use crate::wrong::wrong;
 use desk::arguments::is_party;
 use desk::console::{Console, argument, argument_count};
 use desk::fields::after;
 use desk::files::arg_space;
-use desk::say::complain;
-use desk::shown::complain_shown;
+use desk::say::Failure;
 use store::parties::Party;
-use text::decimal::{IndexParse, parse_u16};
+use text::decimal::parse_u16;
 
 // The bytes of a record of the index: the hall's, and an organiser's, which has its owner behind the kind.
 pub const RECORD: usize = 21;
@@ -16,83 +16,70 @@ pub const OWNED_RECORD: usize = 22;
 // Those of a party's share, which holds no line.
 pub const SHARE_RECORD: usize = 4;
 
-// Who calls, how many arguments say so, how many say something else, and whether one was not understood.
+// The organiser that the arguments name, if they name one; how many of them say something else; and whether all that are
+// about the party were understood.
 #[derive(Clone, Copy)]
 pub struct Caller {
-    pub party: Party,
-    pub given: usize,
+    organiser: Option<u8>,
+    understood: Result<(), Failure>,
     pub others: usize,
-    pub bad: bool,
 }
 
-fn with_bad(caller: Caller) -> Caller {
-    let mut next = caller;
-    next.bad = true;
-    next
-}
-
-fn no_party(console: &Console, caller: Caller, arg: &[u8]) -> Caller {
-    complain_shown(console, arg);
-    complain(
-        console,
-        b": a league organiser is a number from 1 to 255; without party= the lines are the hall's\n",
-    );
-    with_bad(caller)
-}
-
-// What an organiser with owner 0 may do is the library's to say.
-fn with_number(console: &Console, caller: Caller, arg: &[u8], n: u16) -> Caller {
-    if n < 256 {
-        return Caller {
-            party: Party::Organiser(n as u8),
-            given: std::num::wrapping_add_usize(caller.given, 1),
-            others: caller.others,
-            bad: caller.bad,
+impl Caller {
+    // Who calls, by the arguments from `from` on. What is not understood is said.
+    pub fn named(console: &Console, from: usize) -> Caller {
+        let mut caller = Caller {
+            organiser: None,
+            understood: Ok(()),
+            others: 0,
         };
+        for i in from..argument_count(console) {
+            let mut space = arg_space();
+            caller = caller.with_arg(console, argument(console, i, &mut space));
+        }
+        caller
     }
-    no_party(console, caller, arg)
+
+    // Who calls, where that was understood.
+    pub fn party(self) -> Result<Party, Failure> {
+        self.understood?;
+        match self.organiser {
+            Some(owner) => Ok(Party::Organiser(owner)),
+            None => Ok(Party::Hall),
+        }
+    }
+
+    fn with_arg(self, console: &Console, arg: &[u8]) -> Caller {
+        let mut next = self;
+        if is_party(arg) {
+            match self.named_by(console, arg) {
+                Ok(owner) => next.organiser = Some(owner),
+                Err(failure) => next.understood = Err(failure),
+            }
+        } else {
+            next.others = self.others.wrapping_add(1);
+        }
+        next
+    }
+
+    // `party=7`. What an organiser with owner 0 may do is the library's to say.
+    fn named_by(self, console: &Console, arg: &[u8]) -> Result<u8, Failure> {
+        if self.organiser.is_some() {
+            return Err(wrong(console, arg, b": the party is given twice\n"));
+        }
+        match parse_u16(after(arg, b'=')) {
+            Some(n) if n < 256 => Ok(n as u8),
+            _ => Err(no_party(console, arg)),
+        }
+    }
 }
 
-// `party=7`
-fn with_party(console: &Console, caller: Caller, arg: &[u8]) -> Caller {
-    if caller.given != 0 {
-        complain_shown(console, arg);
-        complain(console, b": the party is given twice\n");
-        return with_bad(caller);
-    }
-    let number = parse_u16(after(arg, b'='));
-    match number {
-        IndexParse::Parsed(n) => with_number(console, caller, arg, n),
-        IndexParse::Invalid => no_party(console, caller, arg),
-    }
-}
-
-fn with_arg(console: &Console, caller: Caller, i: usize) -> Caller {
-    let mut space = arg_space();
-    let n = argument(console, i, &mut space);
-    if is_party(&space[..n]) {
-        return with_party(console, caller, &space[..n]);
-    }
-    let mut next = caller;
-    next.others = std::num::wrapping_add_usize(caller.others, 1);
-    next
-}
-
-// Who calls, by the arguments from `from` on.
-pub fn caller_named(console: &Console, from: usize) -> Caller {
-    let mut caller = Caller {
-        party: Party::Hall,
-        given: 0,
-        others: 0,
-        bad: false,
-    };
-    let count = argument_count(console);
-    let mut i = from;
-    while i < count {
-        caller = with_arg(console, caller, i);
-        i += 1;
-    }
-    caller
+fn no_party(console: &Console, arg: &[u8]) -> Failure {
+    wrong(
+        console,
+        arg,
+        b": a league organiser is a number from 1 to 255; without party= the lines are the hall's\n",
+    )
 }
 
 // The owner byte of a party.
@@ -103,10 +90,18 @@ pub fn owner_of(party: Party) -> u8 {
     }
 }
 
-// The bytes of the index that a line of a party takes.
-pub fn record_of(party: Party) -> usize {
+// The party of an owner byte; 0 is the hall.
+pub fn party_of(owner: u8) -> Party {
+    match owner {
+        0 => Party::Hall,
+        _ => Party::Organiser(owner),
+    }
+}
+
+// How many lines of a party so many bytes of the index take.
+pub fn lines_in(bytes: usize, party: Party) -> usize {
     match party {
-        Party::Hall => RECORD,
-        Party::Organiser(_) => OWNED_RECORD,
+        Party::Hall => bytes / RECORD,
+        Party::Organiser(_) => bytes / OWNED_RECORD,
     }
 }

@@ -1,74 +1,130 @@
-// The lines of a sound store, one after the other.
-use crate::holding::record_at;
-use desk::fields::{before, nth_part, section};
-use std::num::wrapping_add_usize;
+// A store in memory: its records one after the other, and the lines that they are about.
+ghost use Rattle.std.specs.Prelude.{length};
+ghost use Rattle.std.specs.Iterator.{at_most};
+
+use crate::parties::{OWNED_RECORD, RECORD, SHARE_RECORD, owner_of};
+use desk::fields::{before, first, nth_part};
+use desk::files::StoreFile;
+use store::calls::get;
+use store::near::get_near;
 use store::parties::Party;
-use text::uuid::{Uuid, UuidParse};
+use text::uuid::Uuid;
 
-// More lines than a store holds.
-pub const LINES_MAX: usize = 65535;
+// The last bytes of a line's record: where the line stands in the text, and its length.
+const PLACE_BYTES: usize = 4;
 
-// A line that is held: the place and the size of its record, its owner, 0 for the hall, and where its text stands. Its
-// length is 0 where there is none.
+// The two halves of a store, which stand elsewhere.
 #[derive(Clone, Copy)]
-pub struct HeldLine {
-    pub at: usize,
+pub struct View<'a> {
+    pub index: &'a [u8],
+    pub text: &'a [u8],
+}
+
+// Whose line, and under which UUID.
+#[derive(Clone, Copy)]
+pub struct LineKey {
+    pub party: Party,
+    pub id: Uuid,
+}
+
+impl<'a> View<'a> {
+    pub fn of(file: &'a StoreFile) -> View<'a> {
+        View {
+            index: &file.index,
+            text: &file.text,
+        }
+    }
+
+    // The records of a sound store.
+    pub fn records(self) -> Records<'a> {
+        Records {
+            index: self.index,
+            text: self.text,
+        }
+    }
+
+    // The line that a party holds under a UUID itself; empty where it holds none.
+    pub fn line(self, key: LineKey) -> &'a [u8] {
+        get(self.index, self.text, key.party, key.id)
+    }
+
+    // The same, or else the line under that UUID without its checksum.
+    pub fn near_line(self, key: LineKey) -> &'a [u8] {
+        get_near(self.index, self.text, key.party, key.id)
+    }
+}
+
+// A record: how many bytes it has; its first ones, up to where its line stands; its owner, 0 for the hall; and its line. A
+// party's share has no line.
+#[derive(Clone, Copy, PartialEq, Eq)]
+pub struct Record<'a> {
     pub size: usize,
+    pub head: &'a [u8],
     pub owner: u8,
-    pub start: usize,
-    pub len: usize,
+    pub line: Option<&'a [u8]>,
 }
 
-pub fn no_line() -> HeldLine {
-    HeldLine {
-        at: 0,
-        size: 0,
-        owner: 0,
-        start: 0,
-        len: 0,
+impl Record<'_> {
+    pub fn is_line(&self) -> bool {
+        self.line.is_some()
+    }
+
+    // Whether it is about the line of that key.
+    pub fn is_under(&self, key: LineKey) -> bool {
+        match self.line {
+            Some(line) => self.owner == owner_of(key.party) && uuid_of(line) == key.id,
+            None => false,
+        }
     }
 }
 
-// The line whose record is `at` or the first one behind it, its text at `start`; records without a line are passed.
-pub fn line_from(index: &[u8], at: usize, start: usize) -> HeldLine {
-    let mut place = at;
-    while place < index.len() {
-        let record = record_at(index, place);
-        let size = record.size;
-        if size == 0 {
-            return no_line();
-        }
-        if record.line {
-            return HeldLine {
-                at: place,
-                size,
-                owner: record.owner,
-                start,
-                len: record.len,
-            };
-        }
-        if index.len() - place < size {
-            return no_line();
-        }
-        place += size;
+// What is left of a store: the records from a place on, and the text from their first line on.
+#[derive(Drop)]
+pub struct Records<'a> {
+    index: &'a [u8],
+    text: &'a [u8],
+}
+
+fn word(high: u8, low: u8) -> usize {
+    usize::from(high) * 256 + usize::from(low)
+}
+
+// The first bytes of a text, as far as there are any, and the others.
+fn cut(text: &[u8], len: usize) -> (&[u8], &[u8]) {
+    text.split_at(len.min(text.len()))
+}
+
+impl<'a> Iterator for Records<'a> {
+    type Item = Record<'a>;
+
+    ghost remaining = { λ s. at_most (length s.index.now) };
+
+    // Kind 1 and the body, which ends in the line's length; kind 3, the owner and the same body; kind 4, the owner and its
+    // share.
+    fn next(&mut self) -> Option<Record<'a>> {
+        let size = match self.index {
+            [1, ..] => RECORD,
+            [3, ..] => OWNED_RECORD,
+            [4, ..] => SHARE_RECORD,
+            _ => return None,
+        };
+        let (bytes, index) = self.index.split_at_checked(size)?;
+        let (owner, len) = match bytes {
+            [1, .., high, low] => (0, Some(word(*high, *low))),
+            [3, owner, .., high, low] => (*owner, Some(word(*high, *low))),
+            [_, owner, ..] => (*owner, None),
+            _ => return None,
+        };
+        let (line, text) = cut(self.text, len.unwrap_or(0));
+        self.index = index;
+        self.text = text;
+        Some(Record {
+            size,
+            head: first(bytes, size - PLACE_BYTES),
+            owner,
+            line: len.map(|_| line),
+        })
     }
-    no_line()
-}
-
-pub fn first_line(index: &[u8]) -> HeldLine {
-    line_from(index, 0, 0)
-}
-
-pub fn next_line(index: &[u8], line: HeldLine) -> HeldLine {
-    line_from(
-        index,
-        wrapping_add_usize(line.at, line.size),
-        wrapping_add_usize(line.start, line.len),
-    )
-}
-
-pub fn text_of(text: &[u8], line: HeldLine) -> &[u8] {
-    section(text, line.start, line.len)
 }
 
 pub fn name_of(line: &[u8]) -> &[u8] {
@@ -77,32 +133,5 @@ pub fn name_of(line: &[u8]) -> &[u8] {
 
 // The UUID that a line is held under.
 pub fn uuid_of(line: &[u8]) -> Uuid {
-    let parsed = Uuid::parse_str(before(line, b','));
-    match parsed {
-        UuidParse::Parsed(spelled) => {
-            let id = spelled.id;
-            id
-        }
-        UuidParse::Invalid => Uuid::NIL,
-    }
-}
-
-// Whether it is a line of a party under a UUID.
-pub fn is_under(text: &[u8], line: HeldLine, owner: u8, id: Uuid) -> bool {
-    if line.owner != owner {
-        return false;
-    }
-    let own = uuid_of(text_of(text, line));
-    if own.high != id.high {
-        return false;
-    }
-    own.low == id.low
-}
-
-// The party of an owner byte; 0 is the hall.
-pub fn party_of(owner: u8) -> Party {
-    if owner == 0 {
-        return Party::Hall;
-    }
-    Party::Organiser(owner)
+    Uuid::parse_str(before(line, b',')).map_or(Uuid::NIL, |spelled| spelled.id)
 }

@@ -1,18 +1,20 @@
 // The command save.
-use crate::holding::no_uuid;
-use crate::inserting::complain_full;
-use crate::mappings::{Request, asked_from, is_good, with_pad};
-use desk::changing::{Held, may_change, replace};
-use desk::codes::{Codes, first_codes, has_code};
+use crate::held_maps::Lists;
+use crate::holding::say_shown_line;
+use crate::mappings::Request;
+use crate::records::{LineKey, View};
+use crate::reports::{Full, NoRoom};
+use crate::targets::Target;
+use crate::wrong::id_named;
 use desk::console::{Console, argument};
-use desk::files::{arg_space, half, load};
-use desk::say::{DONE, ERR, REFUSED, TROUBLE, complain, put_code, say};
+use desk::files::{StoreFile, arg_space};
+use desk::say::{ERR, Failure, complain, put_code, say};
 use desk::shown::say_shown;
 use desk::words::put_refused;
 use desk_pads::bound::{say_lost, slot_with, twins};
-use desk_pads::elements::{element_at, put_element, put_ident};
+use desk_pads::elements::{ELEMENTS, element_at, put_element, put_ident};
 use desk_pads::plugged::{is_pad_name, pad_named};
-use desk_pads::refusals::{refused_by, refused_outcome};
+use desk_pads::refusals::refused_by;
 use desk_pads::slots::Slots;
 use desk_pads::table::say_map;
 use line::ev::Code;
@@ -20,268 +22,193 @@ use line::mapping::Mapping;
 use map::error::MappingError;
 use map::from_data::from_data;
 use map::mapping_data::MappingData;
-use store::calls::{SaveAnswer, get, save};
-use store::parties::Party;
-use text::uuid::{Uuid, UuidParse};
+use store::calls::{SaveError, Saved, save};
+use text::uuid::Uuid;
 
 // A saved line and its map.
-pub fn say_saved(console: &Console, line: &[u8], map: Mapping) -> u8 {
-    say_shown(console, line);
-    say(console, b"\n");
-    say_map(console, map, line)
+pub(crate) fn say_saved(console: &Console, line: &[u8], map: Mapping) {
+    say_shown_line(console, line);
+    say_map(console, &map, line);
+}
+
+// A line that is saved: whose, under which UUID, with which name, slots and lists.
+#[derive(Clone, Copy)]
+struct Save<'a> {
+    key: LineKey,
+    name: &'a [u8],
+    slots: MappingData,
+    lists: Lists,
+}
+
+impl Save<'_> {
+    fn file(&self, file: &mut StoreFile) -> Saved {
+        save(
+            &mut file.index,
+            &mut file.text,
+            self.key.party,
+            self.slots,
+            self.lists.buttons.as_slice(),
+            self.lists.axes.as_slice(),
+            self.name,
+            self.key.id,
+        )
+    }
+
+    // The length of the line that it builds.
+    fn built_len(&self) -> usize {
+        let mut out = arg_space();
+        let built = from_data(
+            self.slots,
+            self.lists.buttons.as_slice(),
+            self.lists.axes.as_slice(),
+            self.name,
+            self.key.id,
+            &mut out,
+        );
+        built.len
+    }
+
+    // Which list a code of a slot is not in.
+    fn refused_slot(&self, console: &Console, code: Code) -> Failure {
+        let is_listed = self.lists.buttons.as_slice().contains(&code.0);
+        let from = if is_listed { 20 } else { 0 };
+        let e = element_at(slot_with(&self.slots, from, code).unwrap_or(ELEMENTS));
+        put_refused(console, ERR, 15);
+        complain(console, b": ");
+        put_ident(console, ERR, e);
+        if e.is_button() {
+            complain(console, b" is a button; ");
+            put_code(console, ERR, code.0);
+            complain(console, b" is not in buttons=\n");
+        } else {
+            complain(console, b" is an axis; ");
+            put_code(console, ERR, code.0);
+            complain(console, b" is not in axes=\n");
+        }
+        Failure::Refused
+    }
+
+    fn refused_build(&self, console: &Console, e: MappingError) -> Failure {
+        match e {
+            MappingError::InvalidCode(code) => self.refused_slot(console, code),
+            _ => refused_by(console, e.refusal()),
+        }
+    }
+
+    fn no_room(&self, console: &Console, full: Full, store: View) -> Failure {
+        put_refused(console, ERR, full.number());
+        complain(console, b"\n  ");
+        let no_room = NoRoom {
+            full,
+            wanted: self.built_len(),
+            freed: store.line(self.key).len(),
+            party: self.key.party,
+            store,
+        };
+        no_room.complain(console);
+        Failure::Refused
+    }
+
+    // A save that was refused, in a store that is as it was.
+    fn refused(&self, console: &Console, e: SaveError, store: View) -> Failure {
+        match e {
+            SaveError::Refused(e) => self.refused_build(console, e),
+            SaveError::NoRoom => self.no_room(console, Full::Index, store),
+            SaveError::NoText => self.no_room(console, Full::Text, store),
+            _ => refused_by(console, e.refusal()),
+        }
+    }
+
+    // Saves into a store, and puts it in place.
+    fn run(&self, console: &Console, target: Target) -> Result<(), Failure> {
+        let former = target.load(console)?;
+        let mut file = former;
+        let saved = self.file(&mut file);
+        if let Err(e) = saved.answer {
+            return Err(self.refused(console, e, View::of(&file)));
+        }
+        target.replace(console, &former, &file)?;
+        let line = View::of(&file).line(self.key);
+        say_filed(console, View::of(&former).line(self.key), line, saved.map);
+        Ok(())
+    }
 }
 
 // A saved line, the one that it takes the place of, and what is no longer bound.
-fn say_filed(console: &Console, former: &[u8], line: &[u8], map: Mapping) -> u8 {
+fn say_filed(console: &Console, former: &[u8], line: &[u8], map: Mapping) {
     say_saved(console, line, map);
-    if former.len() == 0 {
-        return DONE;
+    if former.is_empty() {
+        return;
     }
     say(console, b"in place of: ");
     say_shown(console, former);
     say(console, b"\n");
     say_lost(console, former, line);
-    DONE
 }
 
-// Which list a code of a slot is not in.
-fn refused_slot(console: &Console, slots: MappingData, buttons: &[u32], code: Code) -> u8 {
-    let mut k = slot_with(slots, 0, code);
-    if has_code(buttons, code.0) {
-        k = slot_with(slots, 20, code);
-    }
-    let e = element_at(k);
-    put_refused(console, ERR, 15);
-    complain(console, b": ");
-    put_ident(console, ERR, e);
-    if e.is_button() {
-        complain(console, b" is a button; ");
-        put_code(console, ERR, code.0);
-        complain(console, b" is not in buttons=\n");
-    } else {
-        complain(console, b" is an axis; ");
-        put_code(console, ERR, code.0);
-        complain(console, b" is not in axes=\n");
-    }
-    REFUSED
-}
-
-fn refused_build(console: &Console, e: MappingError, slots: MappingData, buttons: &[u32]) -> u8 {
-    if let MappingError::InvalidCode(code) = e {
-        return refused_slot(console, slots, buttons, code);
-    }
-    refused_by(console, e.refusal())
-}
-
-// The length of the line that a save builds.
-fn built_len(slots: MappingData, buttons: &[u32], axes: &[u32], name: &[u8], id: Uuid) -> usize {
-    let mut out = arg_space();
-    let built = from_data(slots, buttons, axes, name, id, &mut out);
-    built.len
-}
-
-fn no_room(
-    console: &Console,
-    number: usize,
-    wanted: usize,
-    index: &[u8],
-    text: &[u8],
-    party: Party,
-    id: Uuid,
-) -> u8 {
-    put_refused(console, ERR, number);
-    complain(console, b"\n  ");
-    let freed = get(index, text, party, id).len();
-    complain_full(console, number, wanted, freed, party, index, text);
-    REFUSED
-}
-
-// Saves into the store of two buffers, and puts it in place.
-fn save_slots(
-    console: &Console,
-    held: Held,
-    store: &[u8],
-    party: Party,
-    id: Uuid,
-    name: &[u8],
-    slots: MappingData,
-    buttons: &[u32],
-    axes: &[u32],
-) -> u8 {
-    let mut former_index = half();
-    let mut former_text = half();
-    let status = load(console, store, &mut former_index, &mut former_text);
-    if status != DONE {
-        return status;
-    }
-    let mut index = former_index;
-    let mut text = former_text;
-    let saved = save(&mut index, &mut text, party, slots, buttons, axes, name, id);
-    let answer = saved.answer;
-    let map = saved.map;
-    let wanted = built_len(slots, buttons, axes, name, id);
-    match answer {
-        SaveAnswer::Done => {
-            let status = replace(
-                console,
-                store,
-                held,
-                &former_index,
-                &former_text,
-                &index,
-                &text,
-            );
-            if status != DONE {
-                return status;
-            }
-            say_filed(
-                console,
-                get(&former_index, &former_text, party, id),
-                get(&index, &text, party, id),
-                map,
-            )
-        }
-        SaveAnswer::Refused(e) => refused_build(console, e, slots, buttons),
-        SaveAnswer::UnsavedName => refused_outcome(console, answer.outcome()),
-        SaveAnswer::Unsound => refused_outcome(console, answer.outcome()),
-        SaveAnswer::NoRoom => no_room(console, 21, wanted, &index, &text, party, id),
-        SaveAnswer::NoOwner => refused_outcome(console, answer.outcome()),
-        SaveAnswer::NoText => no_room(console, 25, wanted, &index, &text, party, id),
-    }
-}
-
-fn complain_anyway(console: &Console) -> bool {
+fn complain_anyway(console: &Console) -> Failure {
     complain(console, b"Add 'anyway' to save it all the same.\n");
-    false
+    Failure::Trouble
 }
 
 // Whether nothing is lost in a save: an element at least, and no code on two of them.
-fn is_whole(console: &Console, slots: Slots) -> bool {
+fn whole(console: &Console, slots: Slots) -> Result<(), Failure> {
     if slots.given == 0 {
         complain(
             console,
             b"No element is given (as a=10130): the line would bind nothing.\n",
         );
-        return complain_anyway(console);
+        return Err(complain_anyway(console));
     }
-    let filled = slots.filled;
-    let pair = twins(filled);
-    if pair.found {
+    if let Some((first, second)) = twins(&slots.filled) {
         complain(console, b"One code is given to two elements, ");
-        put_element(console, ERR, element_at(pair.first));
+        put_element(console, ERR, element_at(first));
         complain(console, b" and ");
-        put_element(console, ERR, element_at(pair.second));
+        put_element(console, ERR, element_at(second));
         complain(
             console,
             b": when the line is read, only the second has it.\n",
         );
-        return complain_anyway(console);
+        return Err(complain_anyway(console));
     }
-    true
-}
-
-fn save_codes(
-    console: &Console,
-    held: Held,
-    store: &[u8],
-    party: Party,
-    id: Uuid,
-    name: &[u8],
-    filled: MappingData,
-    buttons: Codes,
-    axes: Codes,
-) -> u8 {
-    let button_list = buttons.list;
-    let axis_list = axes.list;
-    save_slots(
-        console,
-        held,
-        store,
-        party,
-        id,
-        name,
-        filled,
-        first_codes(&button_list, buttons.len),
-        first_codes(&axis_list, axes.len),
-    )
-}
-
-fn save_lists(
-    console: &Console,
-    held: Held,
-    store: &[u8],
-    id: Uuid,
-    name: &[u8],
-    asked: Request,
-) -> u8 {
-    let buttons = asked.buttons;
-    let axes = asked.axes;
-    let slots = asked.slots;
-    let filled = slots.filled;
-    let caller = asked.caller;
-    let party = caller.party;
-    save_codes(console, held, store, party, id, name, filled, buttons, axes)
+    Ok(())
 }
 
 fn save_request(
     console: &Console,
-    held: Held,
-    store: &[u8],
+    target: Target,
     id: Uuid,
     name: &[u8],
     asked: Request,
-) -> u8 {
-    if !is_good(asked) {
-        return TROUBLE;
+) -> Result<(), Failure> {
+    if !asked.anyway {
+        whole(console, asked.slots)?;
     }
-    if asked.anyway {
-        return save_lists(console, held, store, id, name, asked);
-    }
-    let slots = asked.slots;
-    if is_whole(console, slots) {
-        return save_lists(console, held, store, id, name, asked);
-    }
-    TROUBLE
-}
-
-// The same for a pad that is plugged in; the other arguments stand from `from` on.
-fn save_pad(
-    console: &Console,
-    held: Held,
-    store: &[u8],
-    key: &[u8],
-    name: &[u8],
-    from: usize,
-) -> u8 {
-    let asked = asked_from(console, from);
-    let pad = pad_named(console, key);
-    if pad.status != DONE {
-        return pad.status;
-    }
-    save_request(console, held, store, pad.id, name, with_pad(asked, pad))
+    let save = Save {
+        key: asked.key(id),
+        name,
+        slots: asked.slots.filled,
+        lists: asked.lists,
+    };
+    save.run(console, target)
 }
 
 // `hub save STORE UUID NAME ..`; the name is argument `at`.
-pub fn save_mapping(console: &Console, held: Held, store: &[u8], key: &[u8], at: usize) -> u8 {
-    if !may_change(console, held) {
-        return TROUBLE;
-    }
-    let mut name = arg_space();
-    let n = argument(console, at, &mut name);
-    let from = std::num::wrapping_add_usize(at, 1);
+pub fn save_mapping(
+    console: &Console,
+    target: Target,
+    key: &[u8],
+    at: usize,
+) -> Result<(), Failure> {
+    target.may_change(console)?;
+    let mut space = arg_space();
+    let name = argument(console, at, &mut space);
+    let from = at.wrapping_add(1);
     if is_pad_name(key) {
-        return save_pad(console, held, store, key, &name[..n], from);
+        let asked = Request::named(console, from);
+        let pad = pad_named(console, key)?;
+        return save_request(console, target, pad.id, name, asked?.or_of(pad));
     }
-    let parsed = Uuid::parse_str(key);
-    match parsed {
-        UuidParse::Parsed(spelled) => save_request(
-            console,
-            held,
-            store,
-            spelled.id,
-            &name[..n],
-            asked_from(console, from),
-        ),
-        UuidParse::Invalid => no_uuid(console, key),
-    }
+    let id = id_named(console, key)?;
+    save_request(console, target, id, name, Request::named(console, from)?)
 }

@@ -1,64 +1,41 @@
 // The parties' shares of the text: the commands share and shares, and who claims what of it.
 use crate::parties::owner_of;
-use desk::changing::{Held, may_change, replace};
+use crate::records::View;
+use crate::targets::Target;
+use crate::wrong::wrong;
 use desk::console::{Console, argument};
-use desk::fields::less;
-use desk::files::{HALF, arg_space, half, load};
-use desk::say::{DONE, ERR, OUT, REFUSED, TROUBLE, complain, put, put_number};
-use desk::shown::complain_shown;
+use desk::files::{HALF, arg_space, load};
+use desk::say::{ERR, Failure, OUT, complain, put, put_number};
+use desk::tally::count_one;
 use desk::words::put_refused;
 use desk_pads::refusals::refused_by;
-use line::refusal::{Outcome, Refusal};
-use std::num::wrapping_add_usize;
+use store::calls::StoreError;
 use store::parties::Party;
-use store::sharing::{ShareTold, ShareUse, set_share, share_of};
-use text::bytes::same_bytes;
-use text::decimal::{IndexParse, parse_u16};
+use store::sharing::{ShareUse, set_share, share_of};
+use text::decimal::parse_u16;
 
-// The hall and the organisers from 1 to 255.
-pub const OWNERS: usize = 256;
+// More bytes than a text has; a share of more is refused as one of so many.
+const TOO_MANY: usize = 65536;
 
 // How many parties have a share, and the sum over all parties of the larger of use and share.
-#[derive(Clone, Copy)]
-pub struct Claims {
+#[derive(Clone, Copy, Default)]
+pub(crate) struct Claims {
     pub shares: usize,
     pub bytes: usize,
 }
 
-// The owner byte of a party that is named, or that none is.
-#[derive(Clone, Copy)]
-enum Named {
-    Owner(u8),
-    Nobody,
-}
-
-// A number of bytes, or none.
-#[derive(Clone, Copy)]
-enum Size {
-    Bytes(usize),
-    NoSize,
-}
-
 // The share and the use of a party in a sound store.
-fn told_of(index: &[u8], text: &[u8], owner: u8) -> ShareUse {
-    let told = share_of(index, text, owner);
-    match told {
-        ShareTold::Told(u) => u,
-        ShareTold::Unsound => ShareUse { share: 0, used: 0 },
-    }
+fn told_of(store: View, owner: u8) -> ShareUse {
+    share_of(store.index, store.text, owner).unwrap_or(ShareUse { share: 0, used: 0 })
 }
 
 // The share of a party in a sound store.
-pub fn share_in(index: &[u8], text: &[u8], owner: u8) -> usize {
-    let u = told_of(index, text, owner);
-    u.share
+pub(crate) fn share_in(store: View, owner: u8) -> usize {
+    told_of(store, owner).share
 }
 
-fn larger(u: ShareUse) -> usize {
-    if u.used < u.share {
-        return u.share;
-    }
-    u.used
+fn larger(told: ShareUse) -> usize {
+    told.share.max(told.used)
 }
 
 // `hall` or `party 7`
@@ -68,72 +45,72 @@ fn put_party(console: &Console, fd: i32, owner: u8) {
         return;
     }
     put(console, fd, b"party ");
-    put_number(console, fd, owner as usize);
+    put_number(console, fd, usize::from(owner));
 }
 
 // What a party uses of the text, its share, and what is kept for it.
-fn put_use(console: &Console, fd: i32, owner: u8, u: ShareUse) {
+fn put_use(console: &Console, fd: i32, owner: u8, told: ShareUse) {
     put_party(console, fd, owner);
     put(console, fd, b": ");
-    put_number(console, fd, u.used);
+    put_number(console, fd, told.used);
     put(console, fd, b" bytes used, ");
-    if u.share == 0 {
+    if told.share == 0 {
         put(console, fd, b"no share\n");
         return;
     }
     put(console, fd, b"share ");
-    put_number(console, fd, u.share);
+    put_number(console, fd, told.share);
     put(console, fd, b", of which ");
-    put_number(console, fd, less(u.share, u.used));
+    put_number(console, fd, told.share.saturating_sub(told.used));
     put(console, fd, b" are kept for it\n");
 }
 
 // A party that has neither lines nor a share is not shown.
-fn put_claim(console: &Console, fd: i32, owner: u8, u: ShareUse) {
-    if larger(u) == 0 {
+fn put_claim(console: &Console, fd: i32, owner: u8, told: ShareUse) {
+    if larger(told) == 0 {
         return;
     }
     if fd == ERR {
         put(console, fd, b"    ");
     }
-    put_use(console, fd, owner, u);
+    put_use(console, fd, owner, told);
 }
 
-fn with_party(claims: Claims, u: ShareUse) -> Claims {
-    let mut next = claims;
-    if u.share != 0 {
-        next.shares = wrapping_add_usize(claims.shares, 1);
-    }
-    next.bytes = wrapping_add_usize(claims.bytes, larger(u));
-    next
-}
-
-// Adds up what the parties claim in a sound store; `shown`: prints each of them.
-fn claims_of(console: &Console, index: &[u8], text: &[u8], fd: i32, shown: bool) -> Claims {
-    let mut claims = Claims {
-        shares: 0,
-        bytes: 0,
-    };
-    let mut o: usize = 0;
-    while o < OWNERS {
-        let owner = (o % 256) as u8;
-        let u = told_of(index, text, owner);
-        if shown {
-            put_claim(console, fd, owner, u);
+impl Claims {
+    // What a party claims.
+    fn add(&mut self, told: ShareUse) {
+        if told.share != 0 {
+            count_one(&mut self.shares);
         }
-        claims = with_party(claims, u);
-        o += 1;
+        self.bytes = self.bytes.wrapping_add(larger(told));
+    }
+}
+
+// Adds up what the parties claim in a sound store, and shows each of them to `see`.
+fn claims_seen<F: Fn(u8, ShareUse)>(store: View, see: F) -> Claims
+    requires { F.IsAlwaysCallable see }
+{
+    let mut claims = Claims::default();
+    for owner in 0..=u8::MAX {
+        let told = told_of(store, owner);
+        see(owner, told);
+        claims.add(told);
     }
     claims
 }
 
 // What the parties claim in a sound store.
-pub fn claims_in(console: &Console, index: &[u8], text: &[u8]) -> Claims {
-    claims_of(console, index, text, OUT, false)
+pub(crate) fn claims_in(store: View) -> Claims {
+    claims_seen(store, |_, _| {})
+}
+
+// The same, and prints what each party claims.
+fn put_claims(console: &Console, fd: i32, store: View) -> Claims {
+    claims_seen(store, |owner, told| put_claim(console, fd, owner, told))
 }
 
 // `claimed: 513 of 65535 bytes ..`
-pub fn put_sum(console: &Console, fd: i32, claims: Claims) {
+pub(crate) fn put_sum(console: &Console, fd: i32, claims: Claims) {
     put(console, fd, b"claimed: ");
     put_number(console, fd, claims.bytes);
     put(console, fd, b" of ");
@@ -143,202 +120,140 @@ pub fn put_sum(console: &Console, fd: i32, claims: Claims) {
         fd,
         b" bytes of the text, of each party the larger of use and share; ",
     );
-    put_number(console, fd, less(HALF, claims.bytes));
+    put_number(console, fd, HALF.saturating_sub(claims.bytes));
     put(console, fd, b" are left\n");
 }
 
-// How much of the text the others leave to an owner.
-fn left_to(console: &Console, index: &[u8], text: &[u8], owner: u8) -> usize {
-    let claims = claims_in(console, index, text);
-    less(
-        HALF,
-        less(claims.bytes, larger(told_of(index, text, owner))),
-    )
+// How much of the text the others leave to a party that uses and has so much.
+fn left_to(store: View, told: ShareUse) -> usize {
+    let others = claims_in(store).bytes.saturating_sub(larger(told));
+    HALF.saturating_sub(others)
 }
 
 // How many bytes a line of a party can have that takes the place of one of `freed` bytes.
-pub fn free_for(console: &Console, index: &[u8], text: &[u8], party: Party, freed: usize) -> usize {
-    let owner = owner_of(party);
-    let u = told_of(index, text, owner);
-    less(left_to(console, index, text, owner), less(u.used, freed))
+pub(crate) fn free_for(store: View, party: Party, freed: usize) -> usize {
+    let told = told_of(store, owner_of(party));
+    left_to(store, told).saturating_sub(told.used.saturating_sub(freed))
 }
 
 // Who claims what of the text, where a share is set.
-pub fn complain_claims(console: &Console, index: &[u8], text: &[u8]) {
-    let claims = claims_in(console, index, text);
-    if claims.shares == 0 {
+pub(crate) fn complain_claims(console: &Console, store: View) {
+    if claims_in(store).shares == 0 {
         return;
     }
     complain(
         console,
         b"  of the text each party claims the larger of use and share (hub share changes a share):\n",
     );
-    claims_of(console, index, text, ERR, true);
+    put_claims(console, ERR, store);
 }
 
 // `hub shares STORE`
-pub fn list_shares(console: &Console, store: &[u8]) -> u8 {
-    let mut index = half();
-    let mut text = half();
-    let status = load(console, store, &mut index, &mut text);
-    if status != DONE {
-        return status;
+pub fn list_shares(console: &Console, path: &[u8]) -> Result<(), Failure> {
+    let file = load(console, path)?;
+    let store = View::of(&file);
+    if let Err(unsound) = share_of(store.index, store.text, 0) {
+        return Err(refused_by(console, unsound.refusal()));
     }
-    let outcome = share_of(&index, &text, 0).outcome();
-    if let Outcome::Refuses(refusal) = outcome {
-        return refused_by(console, refusal);
-    }
-    put_sum(console, OUT, claims_of(console, &index, &text, OUT, true));
-    DONE
+    put_sum(console, OUT, put_claims(console, OUT, store));
+    Ok(())
 }
 
-fn owner_named(who: &[u8]) -> Named {
-    if same_bytes(who, b"hall") {
-        return Named::Owner(0);
+// The owner byte that `hall` or a number from 1 to 255 names.
+fn owner_named(who: &[u8]) -> Option<u8> {
+    if who == b"hall".as_slice() {
+        return Some(0);
     }
-    let number = parse_u16(who);
-    if let IndexParse::Parsed(n) = number {
-        if n == 0 {
-            return Named::Nobody;
-        }
-        if n < 256 {
-            return Named::Owner(n as u8);
-        }
+    match parse_u16(who) {
+        Some(n) if 0 < n && n < 256 => Some(n as u8),
+        _ => None,
     }
-    Named::Nobody
-}
-
-// Whether all bytes are digits.
-fn all_digits(s: &[u8]) -> bool {
-    let mut i = 0;
-    while i < s.len() {
-        if s[i] < b'0' {
-            return false;
-        }
-        if b'9' < s[i] {
-            return false;
-        }
-        i += 1;
-    }
-    true
 }
 
 // A number of bytes; of those that exceed every text one stands for all.
-fn size_named(s: &[u8]) -> Size {
-    let number = parse_u16(s);
-    if let IndexParse::Parsed(n) = number {
-        return Size::Bytes(n as usize);
+fn size_named(s: &[u8]) -> Option<usize> {
+    if let Some(n) = parse_u16(s) {
+        return Some(usize::from(n));
     }
-    if s.len() == 0 {
-        return Size::NoSize;
+    if s.is_empty() || !s.iter().all(|b| b.is_ascii_digit()) {
+        return None;
     }
-    if all_digits(s) {
-        return Size::Bytes(65536);
-    }
-    Size::NoSize
+    Some(TOO_MANY)
 }
 
-fn say_set(console: &Console, index: &[u8], text: &[u8], owner: u8) -> u8 {
-    put_use(console, OUT, owner, told_of(index, text, owner));
-    put_sum(console, OUT, claims_in(console, index, text));
-    DONE
+fn say_set(console: &Console, store: View, owner: u8) {
+    put_use(console, OUT, owner, told_of(store, owner));
+    put_sum(console, OUT, claims_in(store));
 }
 
 // 26: how much the party can have at most, and who claims the rest.
-fn too_large(console: &Console, index: &[u8], text: &[u8], owner: u8) -> u8 {
+fn complain_too_large(console: &Console, store: View, owner: u8) {
     complain(console, b"  at most ");
-    put_number(console, ERR, left_to(console, index, text, owner));
+    put_number(console, ERR, left_to(store, told_of(store, owner)));
     complain(console, b" bytes can be the share of ");
     put_party(console, ERR, owner);
     complain(
         console,
         b"; of the text each party claims the larger of use and share:\n",
     );
-    claims_of(console, index, text, ERR, true);
+    put_claims(console, ERR, store);
     complain(
         console,
         b"  what can be done: give less; or lower another share (hub share STORE PARTY BYTES); or keep a second
   store for the league.\n",
     );
-    REFUSED
 }
 
 // A setting that was refused, in a store that is as it was.
-fn refused_share(console: &Console, refusal: Refusal, index: &[u8], text: &[u8], owner: u8) -> u8 {
-    let number = refusal.number as usize;
-    if number == 26 {
-        put_refused(console, ERR, number);
-        complain(console, b"\n");
-        return too_large(console, index, text, owner);
-    }
-    if number == 21 {
-        put_refused(console, ERR, number);
-        complain(
-            console,
-            b"\n  a share takes 4 bytes of the index, and fewer are free; hub shares says who has one\n",
-        );
-        return REFUSED;
-    }
-    refused_by(console, refusal)
-}
-
-fn set_in(console: &Console, held: Held, store: &[u8], owner: u8, bytes: usize) -> u8 {
-    let mut former = half();
-    let mut text = half();
-    let status = load(console, store, &mut former, &mut text);
-    if status != DONE {
-        return status;
-    }
-    let mut index = former;
-    let outcome = set_share(&mut index, &text, owner, bytes).outcome();
-    match outcome {
-        Outcome::Passes => {
-            let status = replace(console, store, held, &former, &text, &index, &text);
-            if status != DONE {
-                return status;
-            }
-            say_set(console, &index, &text, owner)
+fn refused_share(console: &Console, e: StoreError, store: View, owner: u8) -> Failure {
+    let number = usize::from(e.refusal().number);
+    match e {
+        StoreError::ShareTooLarge => {
+            put_refused(console, ERR, number);
+            complain(console, b"\n");
+            complain_too_large(console, store, owner);
         }
-        Outcome::Refuses(refusal) => refused_share(console, refusal, &index, &text, owner),
+        StoreError::NoRoom => {
+            put_refused(console, ERR, number);
+            complain(
+                console,
+                b"\n  a share takes 4 bytes of the index, and fewer are free; hub shares says who has one\n",
+            );
+        }
+        _ => return refused_by(console, e.refusal()),
     }
+    Failure::Refused
 }
 
-fn no_party(console: &Console, who: &[u8]) -> u8 {
-    complain_shown(console, who);
-    complain(
-        console,
-        b": a party is 'hall', or a league organiser's number from 1 to 255\n",
-    );
-    TROUBLE
-}
-
-fn no_size(console: &Console, size: &[u8]) -> u8 {
-    complain_shown(console, size);
-    complain(
-        console,
-        b": a share is a number of bytes; 0 takes it away\n",
-    );
-    TROUBLE
-}
-
-fn set_named(console: &Console, held: Held, store: &[u8], owner: u8, size: &[u8]) -> u8 {
-    let named = size_named(size);
-    match named {
-        Size::Bytes(bytes) => set_in(console, held, store, owner, bytes),
-        Size::NoSize => no_size(console, size),
+fn set_in(console: &Console, target: Target, owner: u8, bytes: usize) -> Result<(), Failure> {
+    let former = target.load(console)?;
+    let mut file = former;
+    if let Err(e) = set_share(&mut file.index, &file.text, owner, bytes) {
+        return Err(refused_share(console, e, View::of(&file), owner));
     }
+    target.replace(console, &former, &file)?;
+    say_set(console, View::of(&file), owner);
+    Ok(())
 }
 
 // `hub share STORE PARTY BYTES`; the bytes are argument `at`.
-pub fn give_share(console: &Console, held: Held, store: &[u8], who: &[u8], at: usize) -> u8 {
-    if !may_change(console, held) {
-        return TROUBLE;
-    }
-    let mut size = arg_space();
-    let n = argument(console, at, &mut size);
-    let named = owner_named(who);
-    match named {
-        Named::Owner(owner) => set_named(console, held, store, owner, &size[..n]),
-        Named::Nobody => no_party(console, who),
-    }
+pub fn give_share(console: &Console, target: Target, who: &[u8], at: usize) -> Result<(), Failure> {
+    target.may_change(console)?;
+    let mut space = arg_space();
+    let size = argument(console, at, &mut space);
+    let Some(owner) = owner_named(who) else {
+        return Err(wrong(
+            console,
+            who,
+            b": a party is 'hall', or a league organiser's number from 1 to 255\n",
+        ));
+    };
+    let Some(bytes) = size_named(size) else {
+        return Err(wrong(
+            console,
+            size,
+            b": a share is a number of bytes; 0 takes it away\n",
+        ));
+    };
+    set_in(console, target, owner, bytes)
 }

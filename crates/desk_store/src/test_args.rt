@@ -1,68 +1,107 @@
 // The arguments of the command test after the store and the UUID.
 use crate::held_maps::Lists;
 use crate::map_changes::{is_change, parse_count};
-use crate::parties::{Caller, caller_named};
+use crate::parties::Caller;
+use crate::records::{LineKey, View};
+use crate::wrong::wrong;
 use desk::arguments::is_party;
-use desk::codes::{ABS, Codes, KEY, codes_named};
+use desk::codes::{Codes, Kind, codes_named};
 use desk::console::{Console, argument, argument_count};
 use desk::fields::{after, before};
 use desk::files::arg_space;
 use desk::help::wrong_use;
-use desk::say::{DONE, TROUBLE, complain};
+use desk::say::{Failure, complain};
 use desk::shown::complain_shown;
-use desk::tally::more;
-use desk_pads::playing::NEVER;
 use desk_pads::plugged::Plugged;
 use pad::two::Which;
-use text::bytes::same_bytes;
+use store::parties::Party;
+use text::uuid::Uuid;
 
-// Which arguments name the recordings and the second pad's UUID, and how many do; which lists the second pad has of its
-// own; after how many records it ends, and how many arguments say so; one that is about a second pad; and whether one was
-// not understood.
-#[derive(Clone, Copy)]
-pub struct Named {
-    pub stream: usize,
-    pub streams: usize,
-    pub beside: usize,
-    pub besides: usize,
-    pub uuid: usize,
-    pub uuids: usize,
-    pub has_buttons: bool,
-    pub has_axes: bool,
-    pub limit: usize,
-    pub limits: usize,
-    pub second: usize,
-    pub bad: bool,
+// What a key is given: nothing, one thing, or more than one.
+#[derive(Clone, Copy, PartialEq, Eq)]
+enum Given {
+    Never,
+    Once(usize),
+    Often,
 }
 
-// Both pads' codes, whose lines they go by, and the arguments' places; they stand from `from` on.
-#[derive(Clone, Copy)]
-pub struct Request {
-    pub first: Lists,
-    pub second: Lists,
-    pub caller: Caller,
-    pub named: Named,
-    pub from: usize,
-}
+impl Given {
+    fn and(self, n: usize) -> Given {
+        match self {
+            Given::Never => Given::Once(n),
+            _ => Given::Often,
+        }
+    }
 
-fn nothing_named() -> Named {
-    Named {
-        stream: 0,
-        streams: 0,
-        beside: 0,
-        besides: 0,
-        uuid: 0,
-        uuids: 0,
-        has_buttons: false,
-        has_axes: false,
-        limit: NEVER,
-        limits: 0,
-        second: 0,
-        bad: false,
+    // Where it is not given more than once.
+    fn once(self, console: &Console) -> Result<Option<usize>, Failure> {
+        match self {
+            Given::Never => Ok(None),
+            Given::Once(n) => Ok(Some(n)),
+            Given::Often => Err(wrong_use(console, b"test")),
+        }
     }
 }
 
-fn with_unknown(console: &Console, named: Named, arg: &[u8]) -> Named {
+// Which arguments name the recordings and the second pad's UUID; which give the second pad lists of its own; after how
+// many records it ends; one that is about a second pad; and whether all were understood.
+#[derive(Clone, Copy)]
+struct Named {
+    stream: Given,
+    beside: Given,
+    uuid: Given,
+    buttons: Given,
+    axes: Given,
+    limit: Given,
+    second: Option<usize>,
+    understood: Result<(), Failure>,
+}
+
+// What the arguments from `from` on say, as far as they were understood.
+#[derive(Clone, Copy)]
+pub struct Seen {
+    buttons: Option<Codes>,
+    axes: Option<Codes>,
+    other_buttons: Option<Codes>,
+    other_axes: Option<Codes>,
+    caller: Caller,
+    named: Named,
+    from: usize,
+}
+
+// What they ask for: the first pad's codes, and the lists that the second has of its own; whose lines they go by; which
+// arguments name the recordings and the second pad's UUID; and after how many records it ends. They stand from `from` on.
+#[derive(Clone, Copy)]
+pub struct Request {
+    first: Lists,
+    buttons: Option<Codes>,
+    axes: Option<Codes>,
+    party: Party,
+    pub stream: usize,
+    pub beside: Option<usize>,
+    pub uuid: Option<usize>,
+    pub limit: Option<usize>,
+    pub from: usize,
+}
+
+// What is asked for, and the store whose lines it goes by.
+#[derive(Clone, Copy)]
+pub struct Test<'a> {
+    pub store: View<'a>,
+    pub asked: &'a Request,
+}
+
+impl Test<'_> {
+    // The line of its party under a UUID.
+    pub fn key(self, id: Uuid) -> LineKey {
+        LineKey {
+            party: self.asked.party,
+            id,
+        }
+    }
+}
+
+fn unknown(console: &Console, arg: &[u8]) -> Failure {
     complain_shown(console, arg);
     complain(
         console,
@@ -72,239 +111,181 @@ fn with_unknown(console: &Console, named: Named, arg: &[u8]) -> Named {
         console,
         b"second pad with=FILE, uuid2=UUID, buttons2=.., axes2=.. and after2=N:UUID\n",
     );
-    let mut next = named;
-    next.bad = true;
-    next
+    Failure::Trouble
 }
 
 // `after=2:UUID`
-fn with_change(console: &Console, named: Named, arg: &[u8]) -> Named {
+fn change_given(console: &Console, arg: &[u8]) -> Result<(), Failure> {
     if is_change(arg) {
-        return named;
+        return Ok(());
     }
-    complain_shown(console, arg);
-    complain(
+    Err(wrong(
         console,
+        arg,
         b": a change of map is N:UUID, a number of records with one to nine digits, and a UUID\n",
-    );
-    let mut next = named;
-    next.bad = true;
-    next
+    ))
 }
 
 // `events=20`
-fn with_limit(console: &Console, named: Named, arg: &[u8]) -> Named {
-    let mut next = named;
-    next.limit = parse_count(after(arg, b'='));
-    next.limits = more(named.limits);
-    if 0 < next.limit {
-        if next.limit != NEVER {
-            return next;
+fn limit_given(console: &Console, arg: &[u8]) -> Result<usize, Failure> {
+    match parse_count(after(arg, b'=')) {
+        Some(n) if 0 < n => Ok(n),
+        _ => Err(wrong(
+            console,
+            arg,
+            b": a number of events has one to nine digits, and is not 0\n",
+        )),
+    }
+}
+
+impl Named {
+    // What the arguments from `from` on name.
+    fn from_args(console: &Console, from: usize) -> Named {
+        let mut named = Named {
+            stream: Given::Never,
+            beside: Given::Never,
+            uuid: Given::Never,
+            buttons: Given::Never,
+            axes: Given::Never,
+            limit: Given::Never,
+            second: None,
+            understood: Ok(()),
+        };
+        for i in from..argument_count(console) {
+            let mut space = arg_space();
+            let arg = argument(console, i, &mut space);
+            if let Err(failure) = named.take(console, i, arg) {
+                named.understood = Err(failure);
+            }
         }
+        named
     }
-    complain_shown(console, arg);
-    complain(
-        console,
-        b": a number of events has one to nine digits, and is not 0\n",
-    );
-    next.bad = true;
-    next
-}
 
-// An argument about the second pad.
-fn with_second(console: &Console, named: Named, i: usize, key: &[u8], arg: &[u8]) -> Named {
-    let mut next = named;
-    next.second = i;
-    if same_bytes(key, b"uuid2") {
-        next.uuid = i;
-        next.uuids = more(named.uuids);
-        return next;
+    // Takes argument `i`; what is not understood is said.
+    fn take(&mut self, console: &Console, i: usize, arg: &[u8]) -> Result<(), Failure> {
+        match before(arg, b'=') {
+            b"from" => self.stream = self.stream.and(i),
+            b"with" => self.beside = self.beside.and(i),
+            b"events" => self.limit = self.limit.and(limit_given(console, arg)?),
+            b"buttons" | b"axes" => {}
+            b"after" => change_given(console, arg)?,
+            _ if is_party(arg) => {}
+            key => return self.take_second(console, i, key, arg),
+        }
+        Ok(())
     }
-    if same_bytes(key, b"buttons2") {
-        next.has_buttons = true;
-        return next;
-    }
-    if same_bytes(key, b"axes2") {
-        next.has_axes = true;
-        return next;
-    }
-    if same_bytes(key, b"after2") {
-        return with_change(console, next, arg);
-    }
-    with_unknown(console, named, arg)
-}
 
-fn with_key(console: &Console, named: Named, i: usize, key: &[u8], arg: &[u8]) -> Named {
-    let mut next = named;
-    if same_bytes(key, b"from") {
-        next.stream = i;
-        next.streams = more(named.streams);
-        return next;
-    }
-    if same_bytes(key, b"with") {
-        next.beside = i;
-        next.besides = more(named.besides);
-        return next;
-    }
-    if same_bytes(key, b"events") {
-        return with_limit(console, named, arg);
-    }
-    if same_bytes(key, b"buttons") {
-        return named;
-    }
-    if same_bytes(key, b"axes") {
-        return named;
-    }
-    if is_party(arg) {
-        return named;
-    }
-    if same_bytes(key, b"after") {
-        return with_change(console, named, arg);
-    }
-    with_second(console, named, i, key, arg)
-}
-
-fn with_arg(console: &Console, named: Named, i: usize) -> Named {
-    let mut space = arg_space();
-    let n = argument(console, i, &mut space);
-    let arg = &space[..n];
-    with_key(console, named, i, before(arg, b'='), arg)
-}
-
-// What the arguments from `from` on name.
-fn named_from(console: &Console, from: usize) -> Named {
-    let mut named = nothing_named();
-    let count = argument_count(console);
-    let mut i = from;
-    while i < count {
-        named = with_arg(console, named, i);
-        i += 1;
-    }
-    named
-}
-
-// The second pad's list, where it has one of its own: else the first one's.
-fn list_of(own: bool, list: Codes, first: Codes) -> Codes {
-    if own {
-        return list;
-    }
-    first
-}
-
-// What the arguments from `from` on ask for.
-pub fn request_from(console: &Console, from: usize) -> Request {
-    let buttons = codes_named(console, b"buttons", KEY, from);
-    let axes = codes_named(console, b"axes", ABS, from);
-    let other_buttons = codes_named(console, b"buttons2", KEY, from);
-    let other_axes = codes_named(console, b"axes2", ABS, from);
-    let named = named_from(console, from);
-    let first = Lists { buttons, axes };
-    let second = Lists {
-        buttons: list_of(named.has_buttons, other_buttons, buttons),
-        axes: list_of(named.has_axes, other_axes, axes),
-    };
-    Request {
-        first,
-        second,
-        caller: caller_named(console, from),
-        named,
-        from,
+    // An argument about the second pad.
+    fn take_second(
+        &mut self,
+        console: &Console,
+        i: usize,
+        key: &[u8],
+        arg: &[u8],
+    ) -> Result<(), Failure> {
+        match key {
+            b"uuid2" => self.uuid = self.uuid.and(i),
+            b"buttons2" => self.buttons = self.buttons.and(i),
+            b"axes2" => self.axes = self.axes.and(i),
+            b"after2" => {
+                self.second = Some(i);
+                return change_given(console, arg);
+            }
+            _ => return Err(unknown(console, arg)),
+        }
+        self.second = Some(i);
+        Ok(())
     }
 }
 
-// A list of the arguments, or a pad's own where they give none.
-fn own_list(list: Codes, own: Codes) -> Codes {
-    if list.len == 0 {
-        return own;
+// A list that was understood, where it is given.
+fn own_list(given: Given, list: Option<Codes>) -> Result<Option<Codes>, Failure> {
+    let codes = list.ok_or(Failure::Trouble)?;
+    if given == Given::Never {
+        return Ok(None);
     }
-    list
-}
-
-// A request with a pad's lists, where it has none of its own; the second pad has the first one's, as ever.
-pub fn with_lists(asked: Request, pad: Plugged) -> Request {
-    let named = asked.named;
-    let given = asked.first;
-    let beside = asked.second;
-    let buttons = own_list(given.buttons, pad.buttons);
-    let axes = own_list(given.axes, pad.axes);
-    let first = Lists { buttons, axes };
-    let second = Lists {
-        buttons: list_of(named.has_buttons, beside.buttons, buttons),
-        axes: list_of(named.has_axes, beside.axes, axes),
-    };
-    let mut next = asked;
-    next.first = first;
-    next.second = second;
-    next
-}
-
-// A pad's codes.
-pub fn lists_of(asked: Request, which: Which) -> Lists {
-    let first = asked.first;
-    let second = asked.second;
-    match which {
-        Which::First => first,
-        Which::Second => second,
-    }
-}
-
-fn is_bad(lists: Lists) -> bool {
-    if lists.buttons.bad {
-        return true;
-    }
-    lists.axes.bad
+    Ok(Some(codes))
 }
 
 // An argument about a second pad, where none plays.
-fn complain_second(console: &Console, i: usize) -> u8 {
+fn no_second(console: &Console, i: usize) -> Failure {
     let mut space = arg_space();
-    let n = argument(console, i, &mut space);
-    complain_shown(console, &space[..n]);
-    complain(
+    wrong(
         console,
+        argument(console, i, &mut space),
         b": there is no second pad; with=FILE names its recording\n",
-    );
-    TROUBLE
+    )
 }
 
-// Whether there are two recordings.
-pub fn is_two(named: Named) -> bool {
-    0 < named.besides
-}
-
-// Whether the arguments are as they should be.
-pub fn request_status(console: &Console, asked: Request) -> u8 {
-    let named = asked.named;
-    let first = asked.first;
-    let second = asked.second;
-    if is_bad(first) {
-        return TROUBLE;
-    }
-    if is_bad(second) {
-        return TROUBLE;
-    }
-    if asked.caller.bad {
-        return TROUBLE;
-    }
-    if named.bad {
-        return TROUBLE;
-    }
-    if named.streams != 1 {
-        return wrong_use(console, b"test");
-    }
-    if 1 < named.besides {
-        return wrong_use(console, b"test");
-    }
-    if 1 < named.uuids {
-        return wrong_use(console, b"test");
-    }
-    if 1 < named.limits {
-        return wrong_use(console, b"test");
-    }
-    if named.besides == 0 {
-        if 0 < named.second {
-            return complain_second(console, named.second);
+impl Seen {
+    pub fn from_args(console: &Console, from: usize) -> Seen {
+        Seen {
+            buttons: codes_named(console, b"buttons", Kind::Button, from),
+            axes: codes_named(console, b"axes", Kind::Axis, from),
+            other_buttons: codes_named(console, b"buttons2", Kind::Button, from),
+            other_axes: codes_named(console, b"axes2", Kind::Axis, from),
+            named: Named::from_args(console, from),
+            caller: Caller::named(console, from),
+            from,
         }
     }
-    DONE
+
+    // Whether no recording is named.
+    pub fn has_no_stream(&self) -> bool {
+        self.named.stream == Given::Never
+    }
+
+    // What is asked for, where the arguments are as they should be.
+    pub fn request(&self, console: &Console) -> Result<Request, Failure> {
+        let named = self.named;
+        let first = Lists {
+            buttons: self.buttons.ok_or(Failure::Trouble)?,
+            axes: self.axes.ok_or(Failure::Trouble)?,
+        };
+        let buttons = own_list(named.buttons, self.other_buttons)?;
+        let axes = own_list(named.axes, self.other_axes)?;
+        let party = self.caller.party()?;
+        named.understood?;
+        let Some(stream) = named.stream.once(console)? else {
+            return Err(wrong_use(console, b"test"));
+        };
+        let beside = named.beside.once(console)?;
+        let uuid = named.uuid.once(console)?;
+        let limit = named.limit.once(console)?;
+        if let (None, Some(i)) = (beside, named.second) {
+            return Err(no_second(console, i));
+        }
+        Ok(Request {
+            first,
+            buttons,
+            axes,
+            party,
+            stream,
+            beside,
+            uuid,
+            limit,
+            from: self.from,
+        })
+    }
+}
+
+impl Request {
+    // With a pad's lists, where the first pad is given none.
+    pub fn or_of(self, pad: Plugged) -> Request {
+        Request {
+            first: self.first.or_of(pad),
+            ..self
+        }
+    }
+
+    // A pad's codes. The second one has the first one's lists, where it has none of its own.
+    pub fn lists(&self, which: Which) -> Lists {
+        match which {
+            Which::First => self.first,
+            Which::Second => Lists {
+                buttons: self.buttons.unwrap_or(self.first.buttons),
+                axes: self.axes.unwrap_or(self.first.axes),
+            },
+        }
+    }
 }

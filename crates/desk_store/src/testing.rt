@@ -1,354 +1,228 @@
 // The command test: lines that are held are read, and what the events of recordings give by them is told.
-use crate::held_maps::{held_status, read_with, reading_status};
-use crate::holding::no_uuid;
-use crate::map_changes::{changes_status, due_from, never_status, with_changes};
-use crate::test_args::{Request, is_two, lists_of, request_from, request_status, with_lists};
+use crate::held_maps::map_of;
+use crate::holding::{near_line, say_shown_line};
+use crate::map_changes::{all_came, due_from};
+use crate::records::View;
+use crate::test_args::{Request, Seen, Test};
+use crate::wrong::{id_named, wrong};
 use desk::console::{Console, argument};
 use desk::fields::after;
-use desk::files::{arg_space, half, load};
-use desk::say::{DONE, TROUBLE, complain, say};
-use desk::shown::{complain_shown, say_shown};
-use desk::streams::{Stream, Turn, end_status, is_open, moved, no_stream, open_stream, turn_of};
+use desk::files::{arg_space, load};
+use desk::input_events::Input;
+use desk::say::{Failure, say};
+use desk::streams::{Stream, Turn, no_stream, open_stream, turn_of};
 use desk::tally::{say_tally, tally_status};
-use desk_pads::playing::{NEVER, Play, Seat, new_play, new_seat, say_end};
+use desk_pads::playing::{Play, Seat, say_end};
 use desk_pads::plugged::{is_pad_name, pad_named};
-use desk_pads::telling::with_input;
+use desk_pads::telling::tell_input;
 use line::mapping::Mapping;
 use pad::two::Which;
-use std::num::wrapping_add_usize;
-use store::near::get_near;
-use text::uuid::{Uuid, UuidParse};
+use text::uuid::Uuid;
 
 // The most records of a recording: more than a pad sends in years.
 const RECORDS_MAX: usize = 1099511627776;
 
-// A pad before its recording: the status, and where that is DONE its map.
-#[derive(Clone, Copy)]
-struct Start {
-    status: u8,
-    seat: Seat,
-}
-
-// The greater status.
-fn worse(a: u8, b: u8) -> u8 {
-    if a < b {
-        return b;
-    }
-    a
-}
-
-// What became of the records, and the status.
-fn ended(
-    console: &Console,
-    play: Play,
-    first: &Stream,
-    second: &Stream,
-    from_arg: &[u8],
-    with_arg: &[u8],
-) -> u8 {
-    let tally = play.tally;
-    say_tally(console, tally);
-    say_end(console, play);
-    let read = worse(
-        end_status(console, first, from_arg),
-        end_status(console, second, with_arg),
-    );
-    let never = never_status(console, play, Which::First);
-    let came = worse(never, never_status(console, play, Which::Second));
-    worse(worse(read, came), tally_status(tally))
-}
-
-// Whether so many records of buttons and axes were told as were asked for.
-fn is_enough(play: Play, limit: usize) -> bool {
-    let first = play.first;
-    let second = play.second;
-    limit <= wrapping_add_usize(first.records, second.records)
-}
-
-// Whose record comes next; it is over where enough were told.
-fn turn_until(enough: bool, first: &Stream, second: &Stream) -> Turn {
-    if enough {
-        return Turn::Over;
-    }
-    turn_of(first, second)
-}
-
-// A recording at its next record; where enough were told it stays, since a device may have no next one.
-fn moved_unless(enough: bool, stream: Stream) -> Stream {
-    if enough {
-        return stream;
-    }
-    moved(stream)
-}
-
-// Tells the records of both recordings, in the order of their times, up to as many as were asked for.
-fn tell(
-    console: &Console,
-    index: &[u8],
-    text: &[u8],
-    asked: Request,
-    start: Play,
-    one: Stream,
-    other: Stream,
-    from_arg: &[u8],
-    with_arg: &[u8],
-) -> u8 {
-    let limit = asked.named.limit;
-    let mut play = start;
-    let mut first = one;
-    let mut second = other;
-    let mut i: usize = 0;
-    while i < RECORDS_MAX {
-        if console.is_closed() {
-            return TROUBLE;
-        }
-        let turn = turn_until(is_enough(play, limit), &first, &second);
-        match turn {
-            Turn::First(input) => {
-                play = with_input(console, play, Which::First, input);
-                play = with_changes(console, index, text, asked, play, Which::First);
-                first = moved_unless(is_enough(play, limit), first);
-            }
-            Turn::Second(input) => {
-                play = with_input(console, play, Which::Second, input);
-                play = with_changes(console, index, text, asked, play, Which::Second);
-                second = moved_unless(is_enough(play, limit), second);
-            }
-            Turn::Over => {
-                return ended(console, play, &first, &second, from_arg, with_arg);
-            }
-        }
-        i += 1;
-    }
-    ended(console, play, &first, &second, from_arg, with_arg)
-}
-
-// Two recordings, the first of them open.
-fn test_both(
-    console: &Console,
-    index: &[u8],
-    text: &[u8],
-    asked: Request,
-    play: Play,
+// Two recordings, and the arguments that name them; where there is one, the second has no records.
+#[derive(Drop)]
+struct Recordings<'a> {
     first: Stream,
-    from_arg: &[u8],
-    with_arg: &[u8],
-) -> u8 {
-    let second = open_stream(console, with_arg);
-    if !is_open(&second) {
-        return TROUBLE;
-    }
-    tell(
-        console,
-        index,
-        text,
-        asked,
-        play,
-        moved(first),
-        moved(second),
-        from_arg,
-        with_arg,
-    )
+    second: Stream,
+    from_arg: &'a [u8],
+    with_arg: &'a [u8],
 }
 
-// The recordings that two arguments name.
-fn test_streams(
-    console: &Console,
-    index: &[u8],
-    text: &[u8],
-    asked: Request,
-    play: Play,
-    from_arg: &[u8],
-    with_arg: &[u8],
-) -> u8 {
-    let first = open_stream(console, from_arg);
-    if !is_open(&first) {
-        return TROUBLE;
+impl<'a> Recordings<'a> {
+    // Opens them, each at its first record. What can't be opened is said.
+    fn open(
+        console: &Console,
+        two: bool,
+        from_arg: &'a [u8],
+        with_arg: &'a [u8],
+    ) -> Result<Recordings<'a>, Failure> {
+        let mut first = open_stream(console, from_arg)?;
+        let mut second = no_stream();
+        if two {
+            second = open_stream(console, with_arg)?;
+        }
+        first.move_on();
+        second.move_on();
+        Ok(Recordings {
+            first,
+            second,
+            from_arg,
+            with_arg,
+        })
     }
-    if play.two {
-        return test_both(console, index, text, asked, play, first, from_arg, with_arg);
+
+    fn move_on(&mut self, which: Which) {
+        match which {
+            Which::First => self.first.move_on(),
+            Which::Second => self.second.move_on(),
+        }
     }
-    tell(
-        console,
-        index,
-        text,
-        asked,
-        play,
-        moved(first),
-        no_stream(),
-        from_arg,
-        with_arg,
-    )
-}
 
-// The recordings of pads that have their maps.
-fn test_play(console: &Console, index: &[u8], text: &[u8], asked: Request, start: Play) -> u8 {
-    let named = asked.named;
-    let mut stream = arg_space();
-    let n = argument(console, named.stream, &mut stream);
-    let mut beside = arg_space();
-    let m = argument(console, named.beside, &mut beside);
-    let one = with_changes(console, index, text, asked, start, Which::First);
-    let play = with_changes(console, index, text, asked, one, Which::Second);
-    test_streams(
-        console,
-        index,
-        text,
-        asked,
-        play,
-        &stream[..n],
-        &beside[..m],
-    )
-}
-
-fn no_start(status: u8) -> Start {
-    Start {
-        status,
-        seat: new_seat(Mapping::new(), NEVER),
+    // Says where they end inside a record, or can't be read on.
+    fn end(&self, console: &Console) -> Result<(), Failure> {
+        let first = self.first.end(console, self.from_arg);
+        first.max(self.second.end(console, self.with_arg))
     }
 }
 
-// A pad with the map of its line, which is shown. `label` is the pad, where there are two.
-fn start_of(
-    console: &Console,
-    index: &[u8],
-    text: &[u8],
-    id: Uuid,
-    asked: Request,
-    which: Which,
-    label: &[u8],
-) -> Start {
-    let caller = asked.caller;
-    let party = caller.party;
-    let held = held_status(console, index, text, party, id, label);
-    if held != DONE {
-        return no_start(held);
-    }
-    let line = get_near(index, text, party, id);
-    let lists = lists_of(asked, which);
-    say_labelled(console, label, line);
-    let read = reading_status(console, line, lists, label);
-    if read != DONE {
-        return no_start(read);
-    }
-    let status = changes_status(console, index, text, asked, which);
-    let reading = read_with(line, lists);
-    let map = reading.map;
-    let seat = new_seat(map, due_from(console, which, asked.from, 0));
-    Start { status, seat }
+// What became of the records, and the worst that came of them.
+fn ended(console: &Console, play: &Play, recordings: &Recordings) -> Result<(), Failure> {
+    say_tally(console, play.tally);
+    say_end(console, play);
+    let read = recordings.end(console);
+    let first = all_came(console, play, Which::First);
+    let second = all_came(console, play, Which::Second);
+    read.max(first).max(second).max(tally_status(play.tally))
 }
 
-// `pad 1: ` and the line
-fn say_labelled(console: &Console, label: &[u8], line: &[u8]) {
-    if 0 < label.len() {
-        say(console, label);
-        say(console, b": ");
+impl Test<'_> {
+    // Whether so many records of buttons and axes were told as were asked for.
+    fn is_enough(self, play: &Play) -> bool {
+        let told = play.first.records.wrapping_add(play.second.records);
+        self.asked.limit.is_some_and(|limit| limit <= told)
     }
-    say_shown(console, line);
-    say(console, b"\n");
-}
 
-fn test_first(console: &Console, index: &[u8], text: &[u8], id: Uuid, asked: Request) -> u8 {
-    let one = start_of(console, index, text, id, asked, Which::First, b"");
-    if one.status != DONE {
-        return one.status;
+    // Whose record comes next; it is over where enough were told.
+    fn turn(self, play: &Play, recordings: &Recordings) -> Option<Turn> {
+        if self.is_enough(play) {
+            return None;
+        }
+        turn_of(&recordings.first, &recordings.second)
     }
-    let first = one.seat;
-    let none = no_start(DONE);
-    let second = none.seat;
-    test_play(console, index, text, asked, new_play(false, first, second))
-}
 
-fn test_two(
-    console: &Console,
-    index: &[u8],
-    text: &[u8],
-    id: Uuid,
-    other: Uuid,
-    asked: Request,
-) -> u8 {
-    let one = start_of(console, index, text, id, asked, Which::First, b"pad 1");
-    if one.status != DONE {
-        return one.status;
+    // Tells a record, and goes to the next one; where enough were told it stays, since a device may have no next one.
+    fn tell_record(
+        self,
+        console: &Console,
+        play: &mut Play,
+        recordings: &mut Recordings,
+        which: Which,
+        input: Input,
+    ) {
+        tell_input(console, play, which, input);
+        self.change_all(console, play, which);
+        if !self.is_enough(play) {
+            recordings.move_on(which);
+        }
     }
-    let two = start_of(console, index, text, other, asked, Which::Second, b"pad 2");
-    if two.status != DONE {
-        return two.status;
-    }
-    let first = one.seat;
-    let second = two.seat;
-    test_play(console, index, text, asked, new_play(true, first, second))
-}
 
-fn test_held(console: &Console, store: &[u8], id: Uuid, other: Uuid, asked: Request) -> u8 {
-    let named = asked.named;
-    let mut index = half();
-    let mut text = half();
-    let status = load(console, store, &mut index, &mut text);
-    if status != DONE {
-        return status;
+    // Tells the records of both recordings, in the order of their times, up to as many as were asked for.
+    fn tell(
+        self,
+        console: &Console,
+        play: &mut Play,
+        recordings: &mut Recordings,
+    ) -> Result<(), Failure> {
+        for _ in 0..RECORDS_MAX {
+            if console.is_closed() {
+                return Err(Failure::Trouble);
+            }
+            match self.turn(play, recordings) {
+                Some(Turn::First(input)) => {
+                    self.tell_record(console, play, recordings, Which::First, input);
+                }
+                Some(Turn::Second(input)) => {
+                    self.tell_record(console, play, recordings, Which::Second, input);
+                }
+                None => break,
+            }
+        }
+        ended(console, play, recordings)
     }
-    if is_two(named) {
-        return test_two(console, &index, &text, id, other, asked);
+
+    // The recordings of pads that have their maps.
+    fn run(self, console: &Console, start: Play) -> Result<(), Failure> {
+        let mut play = start;
+        self.change_all(console, &mut play, Which::First);
+        self.change_all(console, &mut play, Which::Second);
+        let mut stream = arg_space();
+        let from_arg = argument(console, self.asked.stream, &mut stream);
+        let mut beside = arg_space();
+        let with_arg = argument(console, self.asked.beside.unwrap_or(0), &mut beside);
+        let mut recordings = Recordings::open(console, play.two, from_arg, with_arg)?;
+        self.tell(console, &mut play, &mut recordings)
     }
-    test_first(console, &index, &text, id, asked)
+
+    // A pad with the map of its line, which is shown. `label` is the pad, where there are two.
+    fn seat(
+        self,
+        console: &Console,
+        id: Uuid,
+        which: Which,
+        label: &[u8],
+    ) -> Result<Seat, Failure> {
+        let line = near_line(console, self.store, self.key(id), label)?;
+        if !label.is_empty() {
+            say(console, label);
+            say(console, b": ");
+        }
+        say_shown_line(console, line);
+        let map = map_of(console, line, &self.asked.lists(which), label)?;
+        self.has_changes(console, which)?;
+        let due = due_from(console, which, self.asked.from, 0);
+        Ok(Seat::new(map, due))
+    }
+
+    fn run_one(self, console: &Console, id: Uuid) -> Result<(), Failure> {
+        let first = self.seat(console, id, Which::First, b"")?;
+        let second = Seat::new(Mapping::new(), None);
+        self.run(console, Play::new(false, first, second))
+    }
+
+    fn run_two(self, console: &Console, id: Uuid, other: Uuid) -> Result<(), Failure> {
+        let first = self.seat(console, id, Which::First, b"pad 1")?;
+        let second = self.seat(console, other, Which::Second, b"pad 2")?;
+        self.run(console, Play::new(true, first, second))
+    }
 }
 
 // The second pad's UUID is the first one's, where it has none of its own.
-fn test_ids(console: &Console, store: &[u8], id: Uuid, asked: Request) -> u8 {
-    let named = asked.named;
-    if named.uuids == 0 {
-        return test_held(console, store, id, id, asked);
-    }
+fn other_id(console: &Console, id: Uuid, asked: &Request) -> Result<Uuid, Failure> {
+    let Some(i) = asked.uuid else {
+        return Ok(id);
+    };
     let mut space = arg_space();
-    let n = argument(console, named.uuid, &mut space);
-    let key = after(&space[..n], b'=');
-    let parsed = Uuid::parse_str(key);
-    match parsed {
-        UuidParse::Parsed(spelled) => test_held(console, store, id, spelled.id, asked),
-        UuidParse::Invalid => no_uuid(console, key),
-    }
+    id_named(console, after(argument(console, i, &mut space), b'='))
 }
 
-fn no_device(console: &Console, key: &[u8]) -> u8 {
-    complain_shown(console, key);
-    complain(
-        console,
-        b": no device of this pad is listed; from=FILE names a recording\n",
-    );
-    TROUBLE
+fn test_held(console: &Console, path: &[u8], id: Uuid, asked: Request) -> Result<(), Failure> {
+    let other = other_id(console, id, &asked)?;
+    let file = load(console, path)?;
+    let store = View::of(&file);
+    let test = Test {
+        store,
+        asked: &asked,
+    };
+    if asked.beside.is_some() {
+        return test.run_two(console, id, other);
+    }
+    test.run_one(console, id)
 }
 
-// The same for a pad that is plugged in. The script `hub` gives its device as from=.
-fn test_pad(console: &Console, store: &[u8], key: &[u8], asked: Request) -> u8 {
-    let named = asked.named;
-    let pad = pad_named(console, key);
-    if pad.status != DONE {
-        return pad.status;
-    }
-    if named.streams == 0 {
-        return no_device(console, key);
-    }
-    let status = request_status(console, asked);
-    if status != DONE {
-        return status;
-    }
-    test_ids(console, store, pad.id, with_lists(asked, pad))
-}
-
-// `hub test STORE UUID ..`; the other arguments stand from `from` on.
-pub fn test_mapping(console: &Console, store: &[u8], key: &[u8], from: usize) -> u8 {
-    let asked = request_from(console, from);
+// `hub test STORE UUID ..`; the other arguments stand from `from` on. Of a pad that is plugged in the script `hub` gives
+// the device as from=.
+pub fn test_mapping(
+    console: &Console,
+    path: &[u8],
+    key: &[u8],
+    from: usize,
+) -> Result<(), Failure> {
+    let seen = Seen::from_args(console, from);
     if is_pad_name(key) {
-        return test_pad(console, store, key, asked);
+        let pad = pad_named(console, key)?;
+        if seen.has_no_stream() {
+            return Err(wrong(
+                console,
+                key,
+                b": no device of this pad is listed; from=FILE names a recording\n",
+            ));
+        }
+        let asked = seen.request(console)?;
+        return test_held(console, path, pad.id, asked.or_of(pad));
     }
-    let status = request_status(console, asked);
-    if status != DONE {
-        return status;
-    }
-    let parsed = Uuid::parse_str(key);
-    match parsed {
-        UuidParse::Parsed(spelled) => test_ids(console, store, spelled.id, asked),
-        UuidParse::Invalid => no_uuid(console, key),
-    }
+    let asked = seen.request(console)?;
+    test_held(console, path, id_named(console, key)?, asked)
 }

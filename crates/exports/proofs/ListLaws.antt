@@ -1,13 +1,15 @@
 -- The look-up in two lists goes by the first place of the code. Assumes nothing.
-use Prim.Native.Nat.{ℕ, suc, ◌<◌, ◌≤◌}
+use Prim.Native.Nat.{ℕ, suc, ◌+◌, ◌<◌, ◌≤◌}
 use mathlib.Core.Path.{◌≡◌, refl, ap, sym, ◌∙◌}
 use mathlib.Core.Bool.{Bool, true, false}
 use mathlib.Core.List.{List, [], ◌∷◌}
 use native.Mathlib.Omega.{arith}
-use lib.Dec.{eqb}
+use lib.Dec.{eqb, ltb}
+use borrow.Author.Tests.{ltb-true, ltb-false}
+use Rattle.std.proofs.Common.{not, cond, Some, None}
+use Rattle.std.specs.List.{position, position_or_len}
 use lib.ListN.{length, get_or}
 use Rattle.text.specs.Bytes.{pick, first_of}
-use Rattle.line.specs.declared.mapping.Mapped.TheVariants.{To, Nothing}
 use Rattle.line.specs.Elements.{code_of}
 use Rattle.line.specs.Maps.{map_of}
 use Rattle.exports.specs.declared.flat.FlatElement.{FlatElement}
@@ -17,41 +19,41 @@ use Rattle.exports.specs.FlatLists.{listed_element, listed_entries}
 use Rattle.exports.specs.FlatMaps.{flat_mapped, no_element}
 
 pub listed_found : (cs xs : List ℕ) (c : ℕ) → first_of c cs < length cs → first_of c cs < length xs
-    → map_of (listed_entries cs xs) (code_of c) ≡ To (element_of (listed_element (get_or xs (first_of c cs) 0)))
+    → map_of (listed_entries cs xs) (code_of c) ≡ Some (element_of (listed_element (get_or xs (first_of c cs) 0)))
 unfolding map_of listed_entries first_of
 listed_found [] xs c h l = absurd (omega arith)
 listed_found (d ∷ cs) [] c h l = absurd (omega arith)
 listed_found (d ∷ cs) (x ∷ xs) c h l = go (eqb d c) (listed_found cs xs c) h l
   where
     go : (t : Bool) → (first_of c cs < length cs → first_of c cs < length xs
-        → map_of (listed_entries cs xs) (code_of c) ≡ To (element_of (listed_element (get_or xs (first_of c cs) 0))))
+        → map_of (listed_entries cs xs) (code_of c) ≡ Some (element_of (listed_element (get_or xs (first_of c cs) 0))))
         → pick t 0 (suc (first_of c cs)) < suc (length cs) → pick t 0 (suc (first_of c cs)) < suc (length xs)
-        → pick t (To (element_of (listed_element x))) (map_of (listed_entries cs xs) (code_of c))
-        ≡ To (element_of (listed_element (get_or (x ∷ xs) (pick t 0 (suc (first_of c cs))) 0)))
+        → pick t (Some (element_of (listed_element x))) (map_of (listed_entries cs xs) (code_of c))
+        ≡ Some (element_of (listed_element (get_or (x ∷ xs) (pick t 0 (suc (first_of c cs))) 0)))
     go true f h l = refl
     go false f h l = f (omega (arith, h)) (omega (arith, l))
 
-pub listed-none : (cs xs : List ℕ) (c : ℕ) → length cs ≤ first_of c cs → map_of (listed_entries cs xs) (code_of c) ≡ Nothing
+pub listed-none : (cs xs : List ℕ) (c : ℕ) → length cs ≤ first_of c cs → map_of (listed_entries cs xs) (code_of c) ≡ None
 unfolding map_of listed_entries first_of
 listed-none [] xs c h = refl
 listed-none (d ∷ cs) [] c h = refl
 listed-none (d ∷ cs) (x ∷ xs) c h = go (eqb d c) (listed-none cs xs c) h
   where
-    go : (t : Bool) → (length cs ≤ first_of c cs → map_of (listed_entries cs xs) (code_of c) ≡ Nothing)
+    go : (t : Bool) → (length cs ≤ first_of c cs → map_of (listed_entries cs xs) (code_of c) ≡ None)
         → suc (length cs) ≤ pick t 0 (suc (first_of c cs))
-        → pick t (To (element_of (listed_element x))) (map_of (listed_entries cs xs) (code_of c)) ≡ Nothing
+        → pick t (Some (element_of (listed_element x))) (map_of (listed_entries cs xs) (code_of c)) ≡ None
     go true f h = absurd (omega (arith, h))
     go false f h = f (omega (arith, h))
 
-pub listed_past : (cs xs : List ℕ) (c : ℕ) → length xs ≤ first_of c cs → map_of (listed_entries cs xs) (code_of c) ≡ Nothing
+pub listed_past : (cs xs : List ℕ) (c : ℕ) → length xs ≤ first_of c cs → map_of (listed_entries cs xs) (code_of c) ≡ None
 unfolding map_of listed_entries first_of
 listed_past [] xs c h = refl
 listed_past (d ∷ cs) [] c h = refl
 listed_past (d ∷ cs) (x ∷ xs) c h = go (eqb d c) (listed_past cs xs c) h
   where
-    go : (t : Bool) → (length xs ≤ first_of c cs → map_of (listed_entries cs xs) (code_of c) ≡ Nothing)
+    go : (t : Bool) → (length xs ≤ first_of c cs → map_of (listed_entries cs xs) (code_of c) ≡ None)
         → suc (length xs) ≤ pick t 0 (suc (first_of c cs))
-        → pick t (To (element_of (listed_element x))) (map_of (listed_entries cs xs) (code_of c)) ≡ Nothing
+        → pick t (Some (element_of (listed_element x))) (map_of (listed_entries cs xs) (code_of c)) ≡ None
     go true f h = absurd (omega (arith, h))
     go false f h = f (omega (arith, h))
 
@@ -63,6 +65,36 @@ flat_again e = go e.is_axis e.number
         ≡ record { is_axis = t; number = n }
     go true n = refl
     go false n = refl
+
+-- ---- the first place as `position` gives it
+first_is : (c : ℕ) (cs : List ℕ) → position_or_len (λ x. eqb x c) cs ≡ first_of c cs
+unfolding first_of
+first_is c [] = refl
+first_is c (d ∷ cs) = go (eqb d c) (first_is c cs)
+  where
+    go : (t : Bool) → position_or_len (λ x. eqb x c) cs ≡ first_of c cs
+        → cond (not t) (1 + position_or_len (λ x. eqb x c) cs) 0 ≡ pick t 0 (suc (first_of c cs))
+    go true e = refl
+    go false e = omega (arith, e)
+
+module _ (c : ℕ) (cs : List ℕ) where
+  pub place-found : (i : ℕ) → position (λ x. eqb x c) cs ≡ Some i → (i ≡ first_of c cs) × (i < length cs)
+  place-found i e = go (ltb (first_of c cs) (length cs)) refl (rw (first_is c cs) at e)
+    where
+      go : (t : Bool) → ltb (first_of c cs) (length cs) ≡ t → cond t (Some (first_of c cs)) None ≡ Some i
+          → (i ≡ first_of c cs) × (i < length cs)
+      go true l e =
+          let same : i ≡ first_of c cs = cc in
+          (same, omega (arith, same, ltb-true (first_of c cs) (length cs) l))
+      go false l e = absurd (cc)
+
+  pub place-none : position (λ x. eqb x c) cs ≡ None → length cs ≤ first_of c cs
+  place-none e = go (ltb (first_of c cs) (length cs)) refl (rw (first_is c cs) at e)
+    where
+      go : (t : Bool) → ltb (first_of c cs) (length cs) ≡ t → cond t (Some (first_of c cs)) None ≡ None
+          → length cs ≤ first_of c cs
+      go true l e = absurd (cc)
+      go false l e = ltb-false (first_of c cs) (length cs) l
 
 -- ---- what the call returns, i being the first place of the code
 abbrev pub found_flat : FlatElement → FlatMapped

@@ -1,4 +1,5 @@
 -- A map that was read has nothing after its entries: every step of a reading keeps it so. Assumes nothing.
+use Rattle.std.specs.Prelude.{Option, Some, None, Result, Ok, Err, ⊤}
 use Prim.Native.Nat.{ℕ, ◌+◌, ◌-◌, ◌≤◌}
 use mathlib.Core.Path.{◌≡◌, refl, sym, ap, ◌∙◌}
 use mathlib.Core.Bool.{Bool, true, false}
@@ -10,29 +11,25 @@ use lib.ListN.{length, drop, replicate, length-append, length-drop, length-repli
 use lib.Seq.{drop-drop, drop-append_seam, length-take-le}
 use Rattle.text.specs.Bytes.{pick, byte, first_of}
 use Rattle.text.specs.Utf8.{valid_run, is_utf8}
-use Rattle.text.specs.declared.uuid.UuidParse.{UuidParse}
-use Rattle.text.specs.declared.uuid.UuidParse.TheVariants as Up
 use Rattle.line.specs.declared.mapping.Entry.{Entry}
 use Rattle.line.specs.declared.mapping.Mapping.{Mapping}
-use Rattle.line.specs.declared.mapping.PutAnswer.{PutAnswer}
-use Rattle.line.specs.declared.mapping.PutResult.{PutResult}
-use Rattle.line.specs.declared.mapping.PutResult.TheVariants.{Stored, Full}
-use Rattle.line.specs.declared.parser.Answer.{Answer}
-use Rattle.line.specs.declared.parser.Answer.TheVariants as An
+use Rattle.line.specs.declared.mapping.MapFull.{MapFull}
+use Rattle.line.specs.declared.parser.Error.{Error}
+use Rattle.line.specs.declared.parser.Token.{Token}
+use Rattle.line.specs.declared.reading.ParseSdlMappingError.{ParseSdlMappingError}
+use Rattle.text.specs.declared.uuid.Spelled.{Spelled}
 use Rattle.line.specs.declared.reading.puts.Puts.{Puts}
 use Rattle.line.specs.declared.reading.puts.Puts.TheVariants.{Nothing, Name, One, Two, UnknownHatDirection}
 use Rattle.line.specs.declared.reading.ParseSdlMappingError.TheVariants as Pe
-use Rattle.line.specs.declared.reading.SdlAnswer.{SdlAnswer}
-use Rattle.line.specs.declared.reading.SdlAnswer.TheVariants.{Accepted, Refused}
 use Rattle.line.specs.declared.reading.SdlMapping.{SdlMapping}
 use Rattle.line.specs.Fields.{fields_of, first_field}
-use Rattle.line.specs.Maps.{codes_max, unused_entry, to_map, empty_view, empty_map, held, put_entry, with_entries, put_of}
+use Rattle.line.specs.Maps.{PutAnswer, codes_max, unused_entry, to_map, empty_view, empty_map, held, put_entry, with_entries, put_of}
 use Rattle.line.specs.Pairs.{pair_of}
 use Rattle.line.specs.Puts.{puts_of}
 use Rattle.line.specs.Reading.{accepted_of, refused_of, refuses, follow, with_name, with_hat, stored_at, put_one, then_put}
 use Rattle.line.specs.Reading.{flagged, put_all, skips, taken, pairs_from, named_from, headed, line_from, read_line}
 use Rattle.line.specs.Reading.{lists_fit, reading_of}
-use Rattle.line.specs.Refusals.{refusal, refusal_at}
+use Rattle.line.specs.Refusals.{refusal, refusal_at, put_result_of}
 use Rattle.line.specs.Walker.{guid_of}
 use Rattle.line.proofs.ViewLaws.{drop-replicate, put_grows}
 use Rattle.exports.specs.FlatMaps.{Unused}
@@ -68,8 +65,8 @@ unfolding put_of
 tidy_put m e t = by (leb (length (put_entry e (held m))) codes_max) refl
   where
     by : (b : Bool) → leb (length (put_entry e (held m))) codes_max ≡ b
-        → Tidy (pick {A = PutAnswer} b (record { answer = Stored; map = with_entries m (put_entry e (held m)) })
-        (record { answer = Full; map = m })).map
+        → Tidy (pick {A = PutAnswer} b (record { answer = Ok tt; map = with_entries m (put_entry e (held m)) })
+        (record { answer = put_result_of (Err (refusal 11)); map = m })).map
     by true q =
         tidy_with m (put_entry e (held m)) t
         (omega (
@@ -81,10 +78,10 @@ tidy_put m e t = by (leb (length (put_entry e (held m))) codes_max) refl
     by false q = t
 
 -- ---- a field
-tidy_follow : (a : SdlAnswer) (part rest : SdlMapping) → Tidy part.map → Tidy rest.map
+tidy_follow : (a : Result ⊤ ParseSdlMappingError) (part rest : SdlMapping) → Tidy part.map → Tidy rest.map
     → Tidy (follow a part rest).map
-tidy_follow Accepted part rest p r = r
-tidy_follow (Refused e) part rest p r = p
+tidy_follow (Ok tt) part rest p r = r
+tidy_follow (Err e) part rest p r = p
 
 tidy_name : (m : Mapping) (start len : ℕ) → Tidy m → Tidy (with_name m start len)
 tidy_name m start len t = record { unused = t.unused; long = t.long }
@@ -92,9 +89,9 @@ tidy_name m start len t = record { unused = t.unused; long = t.long }
 tidy_hat : (m : Mapping) (d : ℕ) → Tidy m → Tidy (with_hat m d)
 tidy_hat m d t = record { unused = t.unused; long = t.long }
 
-tidy_stored : (r : PutResult) (m : Mapping) (p : ℕ) → Tidy m → Tidy (stored_at r m p).map
-tidy_stored Stored m p t = t
-tidy_stored Full m p t = tidy_empty
+tidy_stored : (r : Result ⊤ MapFull) (m : Mapping) (p : ℕ) → Tidy m → Tidy (stored_at r m p).map
+tidy_stored (Ok tt) m p t = t
+tidy_stored (Err f) m p t = tidy_empty
 
 tidy_one : (m : Mapping) (e : Entry) (p : ℕ) → Tidy m → Tidy (put_one m e p).map
 unfolding put_one
@@ -120,12 +117,12 @@ tidy_pick true x y t u = t
 tidy_pick false x y t u = u
 
 module _ (buttons axes : List ℕ) where
-  tidy_taken : (m : Mapping) (a : Answer) (p q : ℕ) → Tidy m → Tidy (taken m a p q buttons axes).map
+  tidy_taken : (m : Mapping) (a : Option (Result Token Error)) (p q : ℕ) → Tidy m → Tidy (taken m a p q buttons axes).map
   unfolding taken
-  tidy_taken m (An.Found x) p q t = tidy_all m (puts_of x q buttons axes) p t
-  tidy_taken m (An.Refused e) p q t =
+  tidy_taken m (Some (Ok x)) p q t = tidy_all m (puts_of x q buttons axes) p t
+  tidy_taken m (Some (Err e)) p q t =
       tidy_pick (skips e.kind) (accepted_of m) (refused_of (Pe.ParseError e)) t tidy_empty
-  tidy_taken m An.End p q t = t
+  tidy_taken m None p q t = t
 
   -- ---- a line
   tidy_pairs : (fs : List (List ℕ)) (p : ℕ) (m : Mapping) → Tidy m → Tidy (pairs_from p fs m buttons axes).map
@@ -143,10 +140,10 @@ module _ (buttons axes : List ℕ) where
   tidy_named (f ∷ fs) p m t =
       tidy_pairs fs (p + length f + 1) (with_name m p (length f)) (tidy_name m p (length f) t)
 
-  tidy_headed : (g : UuidParse) (p k : ℕ) (s : List ℕ) (m : Mapping) → Tidy m
+  tidy_headed : (g : Option Spelled) (p k : ℕ) (s : List ℕ) (m : Mapping) → Tidy m
       → Tidy (headed g p k s m buttons axes).map
-  tidy_headed Up.Invalid p k s m t = tidy_empty
-  tidy_headed (Up.Parsed u) p k s m t =
+  tidy_headed None p k s m t = tidy_empty
+  tidy_headed (Some u) p k s m t =
       tidy_pick (eqb k (length s)) (refuses (refusal_at 2 0))
       (named_from (p + k + 1) (fields_of (drop (k + 1) s)) (with_name m (p + k + 1) 0) buttons axes)
       tidy_empty

@@ -1,32 +1,18 @@
 -- How values of the layers are laid out as numbers at the C boundary.
 -- The contracts of the exports rest on these definitions; they assume nothing.
-use Rattle.std.specs.Prelude.{ℕ, Bool, true, false}
+use Rattle.std.specs.Prelude.{ℕ, Bool, true, false, Option, Some, None, Result, Ok, Err, ⊤}
 use Rattle.text.specs.Bytes.{pick}
-use Rattle.text.specs.declared.bytes.Written.{Written}
-use Rattle.text.specs.declared.bytes.Written.TheVariants as Wr
 use Rattle.text.specs.declared.uuid.Uuid.{Uuid}
 use Rattle.text.specs.declared.uuid.Form.{Form}
 use Rattle.text.specs.declared.uuid.Form.TheVariants as Fm
-use Rattle.text.specs.declared.uuid.UuidParse.{UuidParse}
-use Rattle.text.specs.declared.uuid.UuidParse.TheVariants as Up
-use Rattle.text.specs.declared.decimal.IndexParse.{IndexParse}
-use Rattle.text.specs.declared.decimal.IndexParse.TheVariants as Ip
-use Rattle.line.specs.declared.parser.FirstForm.{FirstForm}
-use Rattle.line.specs.declared.parser.FirstForm.TheVariants as Ff
 use Rattle.line.specs.declared.ev.Button.{Button}
 use Rattle.line.specs.declared.ev.Axis.{Axis}
 use Rattle.line.specs.declared.ev.AxisOrBtn.{AxisOrBtn}
 use Rattle.line.specs.declared.ev.AxisOrBtn.TheVariants as El
-use Rattle.line.specs.declared.ev.ToNec.{ToNec}
-use Rattle.line.specs.declared.ev.ToNec.TheVariants as Tn
-use Rattle.line.specs.declared.ev.SecondAxis.{SecondAxis}
-use Rattle.line.specs.declared.ev.SecondAxis.TheVariants as Sa
-use Rattle.line.specs.declared.refusal.Place.{Place}
-use Rattle.line.specs.declared.refusal.Place.TheVariants as Pl
-use Rattle.line.specs.declared.refusal.Carried.{Carried}
-use Rattle.line.specs.declared.refusal.Carried.TheVariants as Cr
-use Rattle.line.specs.declared.refusal.Outcome.{Outcome}
-use Rattle.line.specs.declared.refusal.Outcome.TheVariants as Oc
+use Rattle.line.specs.Elements.{code_of}
+use Rattle.line.specs.declared.ev.Code.{Code}
+use Rattle.line.specs.declared.refusal.Refusal.{Refusal}
+use Rattle.text.specs.declared.uuid.Spelled.{Spelled}
 use Rattle.exports.specs.declared.flat.FlatRefusal.{FlatRefusal}
 use Rattle.exports.specs.declared.flat.FlatWritten.{FlatWritten}
 use Rattle.exports.specs.declared.flat.FlatUuid.{FlatUuid}
@@ -37,9 +23,9 @@ use Rattle.exports.specs.declared.line_calls.FlatCode.{FlatCode}
 use Rattle.exports.specs.declared.line_calls.FlatAxis.{FlatAxis}
 
 -- ---- text
-abbrev pub flat_written : Written → FlatWritten
-flat_written (Wr.Upto n) = record { fits = true; next = n }
-flat_written Wr.TooShort = record { fits = false; next = 0 }
+abbrev pub flat_written : Option ℕ → FlatWritten
+flat_written (Some n) = record { fits = true; next = n }
+flat_written None = record { fits = false; next = 0 }
 
 abbrev pub flat_uuid : Uuid → FlatUuid
 flat_uuid u = record { high = u.high; low = u.low }
@@ -55,17 +41,17 @@ form_number Fm.Braced = 3
 form_number Fm.Urn = 4
 form_number Fm.Xinput = 5
 
-abbrev pub first_form_number : FirstForm → ℕ
-first_form_number (Ff.Is f) = form_number f
-first_form_number Ff.NoUuid = 0
+abbrev pub first_form_number : Option Form → ℕ
+first_form_number (Some f) = form_number f
+first_form_number None = 0
 
-abbrev pub flat_uuid_parse : UuidParse → FlatUuidParse
-flat_uuid_parse (Up.Parsed g) = record { valid = true; id = flat_uuid g.id; form = form_number g.form }
-flat_uuid_parse Up.Invalid = record { valid = false; id = record { high = 0; low = 0 }; form = 0 }
+abbrev pub flat_uuid_parse : Option Spelled → FlatUuidParse
+flat_uuid_parse (Some g) = record { valid = true; id = flat_uuid g.id; form = form_number g.form }
+flat_uuid_parse None = record { valid = false; id = record { high = 0; low = 0 }; form = 0 }
 
-abbrev pub flat_index_parse : IndexParse → FlatIndexParse
-flat_index_parse (Ip.Parsed n) = record { valid = true; number = n }
-flat_index_parse Ip.Invalid = record { valid = false; number = 0 }
+abbrev pub flat_index_parse : Option ℕ → FlatIndexParse
+flat_index_parse (Some n) = record { valid = true; number = n }
+flat_index_parse None = record { valid = false; number = 0 }
 
 -- ---- elements
 abbrev pub button_in : ℕ → Button
@@ -81,37 +67,41 @@ flat_element (El.Btn b) = record { is_axis = false; number = b.0 }
 abbrev pub element_of : FlatElement → AxisOrBtn
 element_of e = pick e.is_axis (El.Axis (axis_in e.number)) (El.Btn (button_in e.number))
 
-abbrev pub flat_to_nec : ToNec → FlatCode
-flat_to_nec (Tn.Is c) = record { found = true; code = c.0 }
-flat_to_nec Tn.Nothing = record { found = false; code = 0 }
+-- a code or an axis, if there is one; else the number is 0
+abbrev pub flat_code : Option Code → FlatCode
+flat_code (Some c) = record { found = true; code = c.0 }
+flat_code None = record { found = false; code = 0 }
 
-abbrev pub flat_second_axis : SecondAxis → FlatAxis
-flat_second_axis (Sa.Is a) = record { found = true; number = a.0 }
-flat_second_axis Sa.Nothing = record { found = false; number = 0 }
+abbrev pub flat_code_in : FlatCode → Option Code
+flat_code_in f = pick f.found (Some (code_of f.code)) None
+
+abbrev pub flat_axis : Option Axis → FlatAxis
+flat_axis (Some a) = record { found = true; number = a.0 }
+flat_axis None = record { found = false; number = 0 }
 
 -- ---- refusals: number 0 where nothing is refused; a place and a code that a refusal lacks are 0
-abbrev pub has_place_in : Place → Bool
-has_place_in (Pl.At p) = true
-has_place_in Pl.NoPlace = false
+abbrev pub has_place_in : Option ℕ → Bool
+has_place_in (Some p) = true
+has_place_in None = false
 
-abbrev pub place_number : Place → ℕ
-place_number (Pl.At p) = p
-place_number Pl.NoPlace = 0
+abbrev pub place_number : Option ℕ → ℕ
+place_number (Some p) = p
+place_number None = 0
 
-abbrev pub has_code_in : Carried → Bool
-has_code_in (Cr.Carries c) = true
-has_code_in Cr.NoCode = false
+abbrev pub has_code_in : Option Code → Bool
+has_code_in (Some c) = true
+has_code_in None = false
 
-abbrev pub code_number : Carried → ℕ
-code_number (Cr.Carries c) = c.0
-code_number Cr.NoCode = 0
+abbrev pub code_number : Option Code → ℕ
+code_number (Some c) = c.0
+code_number None = 0
 
 abbrev pub no_refusal : FlatRefusal
 no_refusal = record { number = 0; has_place = false; place = 0; has_code = false; code = 0 }
 
-abbrev pub flat_outcome : Outcome → FlatRefusal
-flat_outcome Oc.Passes = no_refusal
-flat_outcome (Oc.Refuses r) =
+abbrev pub flat_outcome : Result ⊤ Refusal → FlatRefusal
+flat_outcome (Ok tt) = no_refusal
+flat_outcome (Err r) =
     record {
       number = r.number;
       has_place = has_place_in r.place;

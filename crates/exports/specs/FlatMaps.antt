@@ -1,22 +1,14 @@
 -- Maps as numbers at the C boundary, and back.
 -- The contracts of the exports rest on these definitions; they assume nothing.
-use Rattle.std.specs.Prelude.{ℕ, ◌-◌, ◌≤◌, ◌≡◌, Bool, true, false, List, map, drop, replicate}
+use Rattle.std.specs.Prelude.{ℕ, ◌-◌, ◌≤◌, ◌≡◌, Bool, true, false, List, ◌++◌, length, map, drop, replicate, Option, Some, None}
+use Rattle.line.specs.declared.ev.AxisOrBtn.{AxisOrBtn}
 use Rattle.line.specs.declared.mapping.Entry.{Entry}
 use Rattle.line.specs.declared.mapping.Mapping.{Mapping}
-use Rattle.line.specs.declared.mapping.PutAnswer.{PutAnswer}
-use Rattle.line.specs.declared.mapping.Mapped.{Mapped}
-use Rattle.line.specs.declared.mapping.Mapped.TheVariants as Mp
-use Rattle.line.specs.declared.mapping.Entered.{Entered}
-use Rattle.line.specs.declared.mapping.Entered.TheVariants as En
-use Rattle.line.specs.declared.mapping.Source.{Source}
-use Rattle.line.specs.declared.mapping.Source.TheVariants as Sr
 use Rattle.line.specs.declared.parser.Ranges.{Ranges}
-use Rattle.line.specs.declared.tables.KeyElement.{KeyElement}
-use Rattle.line.specs.declared.tables.KeyElement.TheVariants as Ke
-use Rattle.line.specs.declared.tables.Ident.{Ident}
 use Rattle.line.specs.declared.reading.SdlMapping.{SdlMapping}
 use Rattle.line.specs.Elements.{code_of}
-use Rattle.line.specs.Maps.{codes_max, ranged_entry, unused_entry}
+use Rattle.line.specs.Tables.{ident_max}
+use Rattle.line.specs.Maps.{PutAnswer, codes_max, ranged_entry, unused_entry}
 use Rattle.line.specs.Refusals.{put_outcome, reading_outcome}
 use Rattle.exports.specs.declared.flat_mapping.FlatEntry.{FlatEntry}
 use Rattle.exports.specs.declared.flat_mapping.FlatMapping.{FlatMapping}
@@ -24,7 +16,6 @@ use Rattle.exports.specs.declared.mapping_calls.FlatPut.{FlatPut}
 use Rattle.exports.specs.declared.mapping_calls.FlatMapped.{FlatMapped}
 use Rattle.exports.specs.declared.mapping_calls.FlatEntered.{FlatEntered}
 use Rattle.exports.specs.declared.mapping_calls.FlatIdent.{FlatIdent}
-use Rattle.exports.specs.declared.line_calls.FlatCode.{FlatCode}
 use Rattle.exports.specs.declared.parser_calls.FlatReading.{FlatReading}
 use Rattle.exports.specs.Flat.{flat_element, element_of, flat_outcome}
 use Rattle.exports.specs.FlatTokens.{range_number, range_in}
@@ -83,22 +74,15 @@ flat_reading a = record { refusal = flat_outcome (reading_outcome a.answer); map
 abbrev pub no_element : FlatMapped
 no_element = record { found = false; element = record { is_axis = false; number = 0 } }
 
-abbrev pub flat_mapped : Mapped → FlatMapped
-flat_mapped (Mp.To e) = record { found = true; element = flat_element e }
-flat_mapped Mp.Nothing = no_element
+abbrev pub flat_mapped : Option AxisOrBtn → FlatMapped
+flat_mapped (Some e) = record { found = true; element = flat_element e }
+flat_mapped None = no_element
 
 -- where there is none, the entry is an unused one
-abbrev pub flat_entered : Entered → FlatEntered
-flat_entered (En.Is e) = record { found = true; entry = flat_entry e }
-flat_entered En.Absent = record { found = false; entry = flat_entry unused_entry }
+abbrev pub flat_entered : Option Entry → FlatEntered
+flat_entered (Some e) = record { found = true; entry = flat_entry e }
+flat_entered None = record { found = false; entry = flat_entry unused_entry }
 
-abbrev pub flat_key_element : KeyElement → FlatMapped
-flat_key_element (Ke.Is e) = record { found = true; element = flat_element e }
-flat_key_element Ke.Missing = no_element
-
-abbrev pub flat_source : Source → FlatCode
-flat_source (Sr.From c) = record { found = true; code = c.0 }
-flat_source Sr.Nowhere = record { found = false; code = 0 }
-
-abbrev pub flat_ident : Ident → FlatIdent
-flat_ident i = record { name = i.name; len = i.len }
+-- the name of an element: its bytes, and 0 after them
+abbrev pub flat_ident : List ℕ → FlatIdent
+flat_ident name = record { name = name ++ replicate (ident_max - length name) 0; len = length name }

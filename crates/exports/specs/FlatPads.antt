@@ -1,13 +1,9 @@
 -- Raw values, events and pads as numbers at the C boundary.
 -- The contracts of the exports rest on these definitions; they assume nothing.
-use Rattle.std.specs.Prelude.{ℕ, true, false, map, eqb, ℤ, pos}
+use Rattle.std.specs.Prelude.{ℕ, true, false, map, eqb, ℤ, pos, Option, Some, None}
 use Rattle.text.specs.Bytes.{pick}
 use Rattle.pad.specs.declared.events.Raw.{Raw}
 use Rattle.pad.specs.declared.events.Raw.TheVariants as Rw
-use Rattle.pad.specs.declared.value.ElementValue.{ElementValue}
-use Rattle.pad.specs.declared.value.ElementValue.TheVariants as Ev
-use Rattle.pad.specs.declared.value.Emitted.{Emitted}
-use Rattle.pad.specs.declared.value.Emitted.TheVariants as Em
 use Rattle.pad.specs.declared.events.Event.{Event}
 use Rattle.pad.specs.declared.state.Pad.{Pad}
 use Rattle.pad.specs.declared.state.Told.{Told}
@@ -23,13 +19,13 @@ use Rattle.exports.specs.Flat.{flat_element, flat_outcome}
 unfoldable pub raw_of : ℕ → ℤ → Raw
 raw_of raw v = pick (eqb raw 1) Rw.ButtonPressed (pick (eqb raw 2) (Rw.AxisValueChanged v) Rw.ButtonReleased)
 
-abbrev pub flat_value : ElementValue → FlatValue
-flat_value (Ev.Is v) = record { found = true; value = v }
-flat_value Ev.Nothing = record { found = false; value = pos 0 }
+abbrev pub flat_value : Option ℤ → FlatValue
+flat_value (Some v) = record { found = true; value = v }
+flat_value None = record { found = false; value = pos 0 }
 
-abbrev pub flat_emitted : Emitted → FlatEmitted
-flat_emitted (Em.Is e) = record { found = true; element = flat_element e.element; value = e.value }
-flat_emitted Em.Nothing =
+abbrev pub flat_emitted : Option Event → FlatEmitted
+flat_emitted (Some e) = record { found = true; element = flat_element e.element; value = e.value }
+flat_emitted None =
     record { found = false; element = record { is_axis = false; number = 0 }; value = pos 0 }
 
 -- ---- a pad's state: its numbers as they are

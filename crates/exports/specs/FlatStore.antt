@@ -1,18 +1,16 @@
 -- Who calls the store, and its answers, as numbers at the C boundary.
 -- The contracts of the exports rest on these definitions; they assume nothing.
-use Rattle.std.specs.Prelude.{true, false}
+use Rattle.std.specs.Prelude.{Bool, false, Result, Ok, Err, ⊤}
 use Rattle.text.specs.Bytes.{pick}
 use Rattle.store.specs.declared.parties.Party.{Party}
 use Rattle.store.specs.declared.parties.Party.TheVariants as Pa
-use Rattle.store.specs.declared.calls.Answer.{Answer}
+use Rattle.line.specs.declared.refusal.Refusal.{Refusal}
+use Rattle.store.specs.declared.calls.StoreError.{StoreError}
+use Rattle.store.specs.declared.calls.SaveError.{SaveError}
+use Rattle.store.specs.declared.calls.LookError.{LookError}
 use Rattle.store.specs.declared.calls.Inserted.{Inserted}
-use Rattle.store.specs.declared.calls.Look.{Look}
-use Rattle.store.specs.declared.calls.SaveAnswer.{SaveAnswer}
 use Rattle.store.specs.declared.calls.Saved.{Saved}
-use Rattle.line.specs.declared.refusal.Outcome.TheVariants.{Refuses}
 use Rattle.store.specs.Refusals.{store_outcome, save_outcome, look_outcome}
-use Rattle.store.specs.declared.refusal.LookOutcome.{LookOutcome}
-use Rattle.store.specs.declared.refusal.LookOutcome.TheVariants as Lo
 use Rattle.exports.specs.declared.flat.FlatRefusal.{FlatRefusal}
 use Rattle.exports.specs.declared.flat_party.FlatParty.{FlatParty}
 use Rattle.exports.specs.declared.store_calls.FlatInserted.{FlatInserted}
@@ -25,7 +23,7 @@ use Rattle.exports.specs.FlatMaps.{flat_mapping}
 abbrev pub party_in : FlatParty → Party
 party_in p = pick p.organiser (Pa.Organiser p.owner) Pa.Hall
 
-abbrev pub flat_store_answer : Answer → FlatRefusal
+abbrev pub flat_store_answer : Result ⊤ StoreError → FlatRefusal
 flat_store_answer a = flat_outcome (store_outcome a)
 
 abbrev pub flat_inserted : Inserted → FlatInserted
@@ -33,15 +31,14 @@ flat_inserted i =
     record { refusal = flat_store_answer i.answer; count = i.count; not_simple = i.not_simple }
 
 -- found, none, or the refusal
-abbrev pub flat_looked : LookOutcome → FlatLook
-flat_looked Lo.Finds = record { refusal = no_refusal; found = true }
-flat_looked Lo.FindsNone = record { refusal = no_refusal; found = false }
-flat_looked (Lo.CannotLook r) = record { refusal = flat_outcome (Refuses r); found = false }
+abbrev pub flat_looked : Result Bool Refusal → FlatLook
+flat_looked (Ok held) = record { refusal = no_refusal; found = held }
+flat_looked (Err r) = record { refusal = flat_outcome (Err r); found = false }
 
-abbrev pub flat_look : Look → FlatLook
+abbrev pub flat_look : Result Bool LookError → FlatLook
 flat_look l = flat_looked (look_outcome l)
 
-abbrev pub flat_save_answer : SaveAnswer → FlatRefusal
+abbrev pub flat_save_answer : Result ⊤ SaveError → FlatRefusal
 flat_save_answer a = flat_outcome (save_outcome a)
 
 abbrev pub flat_saved : Saved → FlatSaved

@@ -1,6 +1,6 @@
 -- Answers of the walker as numbers at the C boundary.
 -- The contracts of the exports rest on these definitions; they assume nothing.
-use Rattle.std.specs.Prelude.{ℕ, false, eqb}
+use Rattle.std.specs.Prelude.{ℕ, false, eqb, Option, Some, None, Result, Ok, Err, ⊤}
 use Rattle.text.specs.Bytes.{pick}
 use Rattle.line.specs.declared.ev.AxisOrBtn.{AxisOrBtn}
 use Rattle.line.specs.declared.parser.AxisRange.{AxisRange}
@@ -10,13 +10,11 @@ use Rattle.line.specs.declared.parser.State.{State}
 use Rattle.line.specs.declared.parser.State.TheVariants as St
 use Rattle.line.specs.declared.parser.Token.{Token}
 use Rattle.line.specs.declared.parser.Token.TheVariants as Tk
-use Rattle.line.specs.declared.parser.Answer.{Answer}
-use Rattle.line.specs.declared.parser.Answer.TheVariants as An
+use Rattle.line.specs.declared.parser.Error.{Error}
 use Rattle.line.specs.declared.parser.Stepped.{Stepped}
-use Rattle.line.specs.declared.refusal.Outcome.TheVariants as Oc
+use Rattle.line.specs.declared.refusal.Refusal.{Refusal}
 use Rattle.line.specs.declared.parser.tokens.Tokens.{Tokens}
 use Rattle.line.specs.Refusals.{error_refusal, last_outcome}
-use Rattle.line.specs.declared.refusal.Outcome.{Outcome}
 use Rattle.exports.specs.declared.flat.FlatUuid.{FlatUuid}
 use Rattle.exports.specs.declared.flat_token.FlatPair.{FlatPair}
 use Rattle.exports.specs.declared.flat_token.FlatToken.{FlatToken}
@@ -67,7 +65,7 @@ no_pair =
       inverted = false;
     }
 
-abbrev pub token_of : ℕ → Outcome → FlatUuid → ℕ → ℕ → FlatPair → FlatToken
+abbrev pub token_of : ℕ → Result ⊤ Refusal → FlatUuid → ℕ → ℕ → FlatPair → FlatToken
 token_of kind o id start len pair =
     record { kind = kind; refusal = flat_outcome o; id = id; start = start; len = len; pair = pair }
 
@@ -75,27 +73,27 @@ abbrev pub no_uuid_of : FlatUuid
 no_uuid_of = record { high = 0; low = 0 }
 
 abbrev pub bare_token : ℕ → FlatToken
-bare_token kind = token_of kind Oc.Passes no_uuid_of 0 0 no_pair
+bare_token kind = token_of kind (Ok tt) no_uuid_of 0 0 no_pair
 
 abbrev pub text_token : ℕ → ℕ → ℕ → FlatToken
-text_token kind start len = token_of kind Oc.Passes no_uuid_of start len no_pair
+text_token kind start len = token_of kind (Ok tt) no_uuid_of start len no_pair
 
 abbrev pub pair_token : ℕ → FlatPair → FlatToken
-pair_token kind pair = token_of kind Oc.Passes no_uuid_of 0 0 pair
+pair_token kind pair = token_of kind (Ok tt) no_uuid_of 0 0 pair
 
 -- the kinds: 0 end, 1 refused, 2 UUID, 3 platform, 4 name, 5 axis, 6 button, 7 hat
 abbrev pub flat_token : Token → FlatToken
-flat_token (Tk.Uuid u) = token_of 2 Oc.Passes (flat_uuid u) 0 0 no_pair
+flat_token (Tk.Uuid u) = token_of 2 (Ok tt) (flat_uuid u) 0 0 no_pair
 flat_token (Tk.Platform start len) = text_token 3 start len
 flat_token (Tk.Name start len) = text_token 4 start len
 flat_token (Tk.AxisMapping from to r) = pair_token 5 (flat_pair from 0 to r)
 flat_token (Tk.ButtonMapping from to r) = pair_token 6 (flat_pair from 0 to r)
 flat_token (Tk.HatMapping hat direction to r) = pair_token 7 (flat_pair hat direction to r)
 
-abbrev pub flat_answer : Answer → FlatToken
-flat_answer (An.Found t) = flat_token t
-flat_answer (An.Refused e) = token_of 1 (Oc.Refuses (error_refusal e)) no_uuid_of 0 0 no_pair
-flat_answer An.End = bare_token 0
+abbrev pub flat_answer : Option (Result Token Error) → FlatToken
+flat_answer (Some (Ok t)) = flat_token t
+flat_answer (Some (Err e)) = token_of 1 (Err (error_refusal e)) no_uuid_of 0 0 no_pair
+flat_answer None = bare_token 0
 
 abbrev pub flat_step : Stepped → FlatStep
 flat_step s = record { token = flat_answer s.answer; pos = s.pos; state = state_number s.state }

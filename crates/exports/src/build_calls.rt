@@ -8,12 +8,13 @@ ghost use Rattle.exports.specs.Flat.{uuid_in};
 ghost use Rattle.exports.specs.FlatMaps.{Unused};
 ghost use Rattle.exports.specs.FlatSlots.{data_in, flat_default, flat_built, flat_keys};
 
-use crate::flat::{FlatRefusal, FlatUuid, flat_outcome, uuid_of};
-use crate::flat_data::{FlatData, data_of};
-use crate::flat_mapping::{FlatMapping, flat_made, flat_mapping};
+use crate::flat::{FlatRefusal, FlatUuid};
+use crate::flat_data::FlatData;
+use crate::flat_mapping::{FlatMapping, flat_made};
 use line::ev::Code;
+use map::error::mapping_outcome;
 use map::from_data::Built;
-use map::keys::{KEYS, key_button, key_table};
+use map::keys::{KEYS, KeyTable, key_button, key_table};
 
 // A refused one has the empty map.
 #[repr(C)]
@@ -50,8 +51,7 @@ pub extern "C" fn raspteal_key_button(code: u32) -> u16
 pub extern "C" fn raspteal_key_table() -> FlatKeys
     ensures { result ≡ flat_keys key_table }
 {
-    let t = key_table();
-    let buttons = t.buttons;
+    let KeyTable { buttons } = key_table();
     FlatKeys { buttons }
 }
 
@@ -60,11 +60,9 @@ pub extern "C" fn raspteal_default(buttons: &[u32], axes: &[u32]) -> FlatDefault
     ensures { result ≡ flat_default (default_of buttons.now axes.now) }
 {
     let d = map::default::default(buttons, axes);
-    let answer = d.answer;
-    let map = d.map;
     FlatDefault {
-        refusal: flat_outcome(answer.outcome()),
-        map: flat_mapping(map),
+        refusal: mapping_outcome(d.answer).into(),
+        map: d.map.into(),
     }
 }
 
@@ -72,11 +70,9 @@ fn flat_built(b: Built) -> FlatBuilt
     requires { Unused b.map.count b.map.entries }
     ensures { result ≡ flat_built b }
 {
-    let answer = b.answer;
-    let map = b.map;
     FlatBuilt {
-        refusal: flat_outcome(answer.outcome()),
-        map: flat_made(map),
+        refusal: mapping_outcome(b.answer).into(),
+        map: flat_made(b.map),
         len: b.len,
     }
 }
@@ -93,6 +89,5 @@ pub extern "C" fn raspteal_from_data(
     ensures value { result ≡ flat_built (build_of (data_in «data») buttons.now axes.now name.now (uuid_in id) (length out.old)) }
     ensures out_after { out.new ≡ output_of (data_in «data») buttons.now axes.now name.now (uuid_in id) out.old }
 {
-    let d = data_of(data);
-    flat_built(map::from_data::from_data(d, buttons, axes, name, uuid_of(id), out))
+    flat_built(map::from_data::from_data(data.into(), buttons, axes, name, id.into(), out))
 }

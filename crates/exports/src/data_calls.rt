@@ -1,14 +1,15 @@
 // The calls of the map layer on slots.
-ghost use Rattle.std.specs.Prelude.{◌≡◌};
+ghost use Rattle.std.specs.Prelude.{◌≡◌, length};
 ghost use Rattle.line.specs.Elements.{code_of};
-ghost use Rattle.map.specs.Slots.{filled_with, code_in, has_code_in, no_slots, button_of, axis_of, insert_btn_of, insert_axis_of, remove_button_of, remove_axis_of};
-ghost use Rattle.exports.specs.Flat.{button_in, axis_in};
-ghost use Rattle.exports.specs.FlatSlots.{flat_slot, slot_in, flat_data, data_in, flat_slot_code, slot_code_in, flat_changed};
+ghost use Rattle.map.specs.Slots.{filled_with, has_code_in, no_slots, button_of, axis_of, insert_btn_of, insert_axis_of, remove_button_of, remove_axis_of};
+ghost use Rattle.exports.specs.Flat.{button_in, axis_in, flat_code, flat_code_in};
+ghost use Rattle.exports.specs.FlatSlots.{flat_slot, slot_in, flat_data, data_in, flat_slots_with};
+ghost use Rattle.exports.specs.FlatSlots.{flat_button_changed, flat_axis_changed};
 
-use crate::flat_data::{FlatData, FlatSlot, data_of, flat_data, flat_slot, slot_of};
+use crate::flat_data::{FlatData, FlatSlot};
 use crate::line_calls::FlatCode;
 use line::ev::{Axis, Button, Code};
-use map::mapping_data::{Changed, MappingData, Slot, SlotCode};
+use map::mapping_data::MappingData;
 
 // What an insert or a remove hands back: the former code, and the changed slots.
 #[repr(C)]
@@ -18,38 +19,53 @@ pub struct FlatChanged {
     pub slots: FlatData,
 }
 
-fn flat_slot_code(c: SlotCode) -> FlatCode
-    ensures { result ≡ flat_slot_code c }
-{
-    match c {
-        SlotCode::Is(c) => FlatCode {
-            found: true,
-            code: c.0,
-        },
-        SlotCode::Nothing => FlatCode {
-            found: false,
-            code: 0,
-        },
+impl From<FlatCode> for Option<Code> {
+    ghost from_gives = { λ f c. c ≡ flat_code_in f };
+
+    // The number of an answer that has none is not read.
+    fn from(f: FlatCode) -> Option<Code> {
+        if f.found { Some(Code(f.code)) } else { None }
     }
 }
 
-fn slot_code_of(c: FlatCode) -> SlotCode
-    ensures { result ≡ slot_code_in c }
+// A slot put into those that are lent. A number past the last changes nothing.
+fn put_slot(slots: &mut [FlatSlot], number: u16, slot: FlatSlot)
+    ensures { slots.new ≡ flat_slots_with (length slots.old) slots.old number slot }
 {
-    if c.found {
-        return SlotCode::Is(Code(c.code));
+    let i = number as usize;
+    if i < slots.len() {
+        slots[i] = slot;
     }
-    SlotCode::Nothing
 }
 
-fn flat_changed(c: Changed) -> FlatChanged
-    ensures { result ≡ flat_changed c }
+// The former code, and the lent slots with the one of that button as it is after the call. Each other comes back as it
+// was lent, also one that is not filled.
+fn button_changed(
+    lent: FlatData,
+    button: Button,
+    changed: (Option<Code>, MappingData),
+) -> FlatChanged
+    ensures { result ≡ flat_button_changed lent button changed }
 {
-    let former = c.former;
-    let slots = c.slots;
+    let (former, after) = changed;
+    let mut slots = lent;
+    put_slot(&mut slots.buttons, button.0, after.button(button).into());
     FlatChanged {
-        former: flat_slot_code(former),
-        slots: flat_data(slots),
+        former: former.into(),
+        slots,
+    }
+}
+
+// The same for the slot of an axis.
+fn axis_changed(lent: FlatData, axis: Axis, changed: (Option<Code>, MappingData)) -> FlatChanged
+    ensures { result ≡ flat_axis_changed lent axis changed }
+{
+    let (former, after) = changed;
+    let mut slots = lent;
+    put_slot(&mut slots.axes, axis.0, after.axis(axis).into());
+    FlatChanged {
+        former: former.into(),
+        slots,
     }
 }
 
@@ -57,68 +73,80 @@ fn flat_changed(c: Changed) -> FlatChanged
 pub extern "C" fn raspteal_slot_new(code: u32) -> FlatSlot
     ensures { result ≡ flat_slot (filled_with (code_of code)) }
 {
-    flat_slot(Slot::new(Code(code)))
+    Some(Code(code)).into()
 }
 
 #[unsafe(no_mangle)]
 pub extern "C" fn raspteal_slot_code(slot: FlatSlot) -> FlatCode
-    ensures { result ≡ flat_slot_code (code_in (slot_in slot)) }
+    ensures { result ≡ flat_code (slot_in slot) }
 {
-    flat_slot_code(slot_of(slot).code())
+    Option::<Code>::from(slot).into()
 }
 
 #[unsafe(no_mangle)]
 pub extern "C" fn raspteal_slot_code_is_some(c: FlatCode) -> bool
-    ensures { result ≡ has_code_in (slot_code_in c) }
+    ensures { result ≡ has_code_in (flat_code_in c) }
 {
-    slot_code_of(c).is_some()
+    Option::<Code>::from(c).is_some()
 }
 
 #[unsafe(no_mangle)]
 pub extern "C" fn raspteal_data_new() -> FlatData
     ensures { result ≡ flat_data no_slots }
 {
-    flat_data(MappingData::new())
+    MappingData::new().into()
 }
 
 #[unsafe(no_mangle)]
 pub extern "C" fn raspteal_data_button(data: FlatData, button: u16) -> FlatCode
-    ensures { result ≡ flat_slot_code (button_of (data_in «data») (button_in button)) }
+    ensures { result ≡ flat_code (button_of (data_in «data») (button_in button)) }
 {
-    flat_slot_code(data_of(data).button(Button(button)))
+    MappingData::from(data).button(Button(button)).into()
 }
 
 #[unsafe(no_mangle)]
 pub extern "C" fn raspteal_data_axis(data: FlatData, axis: u16) -> FlatCode
-    ensures { result ≡ flat_slot_code (axis_of (data_in «data») (axis_in axis)) }
+    ensures { result ≡ flat_code (axis_of (data_in «data») (axis_in axis)) }
 {
-    flat_slot_code(data_of(data).axis(Axis(axis)))
+    MappingData::from(data).axis(Axis(axis)).into()
 }
 
 #[unsafe(no_mangle)]
 pub extern "C" fn raspteal_data_insert_btn(data: FlatData, code: u32, button: u16) -> FlatChanged
-    ensures { result ≡ flat_changed (insert_btn_of (data_in «data») (code_of code) (button_in button)) }
+    ensures { result ≡ flat_button_changed «data» (button_in button)
+        (insert_btn_of (data_in «data») (code_of code) (button_in button)) }
 {
-    flat_changed(data_of(data).insert_btn(Code(code), Button(button)))
+    let mut slots = MappingData::from(data);
+    let former = slots.insert_btn(Code(code), Button(button));
+    button_changed(data, Button(button), (former, slots))
 }
 
 #[unsafe(no_mangle)]
 pub extern "C" fn raspteal_data_insert_axis(data: FlatData, code: u32, axis: u16) -> FlatChanged
-    ensures { result ≡ flat_changed (insert_axis_of (data_in «data») (code_of code) (axis_in axis)) }
+    ensures { result ≡ flat_axis_changed «data» (axis_in axis)
+        (insert_axis_of (data_in «data») (code_of code) (axis_in axis)) }
 {
-    flat_changed(data_of(data).insert_axis(Code(code), Axis(axis)))
+    let mut slots = MappingData::from(data);
+    let former = slots.insert_axis(Code(code), Axis(axis));
+    axis_changed(data, Axis(axis), (former, slots))
 }
 
 #[unsafe(no_mangle)]
 pub extern "C" fn raspteal_data_remove_button(data: FlatData, button: u16) -> FlatChanged
-    ensures { result ≡ flat_changed (remove_button_of (data_in «data») (button_in button)) }
+    ensures { result ≡ flat_button_changed «data» (button_in button)
+        (remove_button_of (data_in «data») (button_in button)) }
 {
-    flat_changed(data_of(data).remove_button(Button(button)))
+    let mut slots = MappingData::from(data);
+    let former = slots.remove_button(Button(button));
+    button_changed(data, Button(button), (former, slots))
 }
 
 #[unsafe(no_mangle)]
 pub extern "C" fn raspteal_data_remove_axis(data: FlatData, axis: u16) -> FlatChanged
-    ensures { result ≡ flat_changed (remove_axis_of (data_in «data») (axis_in axis)) }
+    ensures { result ≡ flat_axis_changed «data» (axis_in axis)
+        (remove_axis_of (data_in «data») (axis_in axis)) }
 {
-    flat_changed(data_of(data).remove_axis(Axis(axis)))
+    let mut slots = MappingData::from(data);
+    let former = slots.remove_axis(Axis(axis));
+    axis_changed(data, Axis(axis), (former, slots))
 }

@@ -1,12 +1,10 @@
-// What crosses the boundary, and how the answers of the layers are laid out as numbers.
-ghost use Rattle.std.specs.Prelude.{◌≡◌};
-ghost use Rattle.exports.specs.Flat.{flat_written, flat_uuid, form_number, uuid_in, flat_element, element_of};
-ghost use Rattle.exports.specs.Flat.{has_place_in, place_number, has_code_in, code_number, flat_outcome};
-ghost use Rattle.line.specs.declared.refusal.Outcome.TheVariants.{Passes, Refuses};
+// What crosses the boundary, and how the answers of the layers are laid out as numbers. C has no Option and no enum with
+// values: a flag stands beside each value that may be missing.
+ghost use Rattle.std.specs.Prelude.{◌≡◌, Err};
+ghost use Rattle.exports.specs.Flat.{flat_written, flat_uuid, form_number, uuid_in, flat_element, element_of, place_number, code_number, flat_outcome};
 
-use line::ev::{Axis, AxisOrBtn, Button};
-use line::refusal::{Carried, Outcome, Place, Refusal};
-use text::bytes::Written;
+use line::ev::{Axis, AxisOrBtn, Button, Code};
+use line::refusal::Refusal;
 use text::uuid::{Form, Uuid};
 
 // Where a writer stopped; 0 where the text did not fit.
@@ -43,27 +41,63 @@ pub struct FlatRefusal {
     pub code: u32,
 }
 
-pub fn flat_written(w: Written) -> FlatWritten
-    ensures { result ≡ flat_written w }
-{
-    match w {
-        Written::Upto(next) => FlatWritten { fits: true, next },
-        Written::TooShort => FlatWritten {
-            fits: false,
-            next: 0,
-        },
+impl FlatUuid {
+    // What stands where there is no UUID.
+    pub const NIL: FlatUuid = FlatUuid { high: 0, low: 0 };
+}
+
+impl FlatElement {
+    // What stands where there is no element.
+    pub const NONE: FlatElement = FlatElement {
+        is_axis: false,
+        number: 0,
+    };
+}
+
+impl FlatRefusal {
+    pub const NONE: FlatRefusal = FlatRefusal {
+        number: 0,
+        has_place: false,
+        place: 0,
+        has_code: false,
+        code: 0,
+    };
+}
+
+impl From<Option<usize>> for FlatWritten {
+    ghost from_gives = { λ w f. f ≡ flat_written w };
+
+    fn from(end: Option<usize>) -> FlatWritten {
+        FlatWritten {
+            fits: end.is_some(),
+            next: end.unwrap_or(0),
+        }
     }
 }
 
-pub fn flat_uuid(id: Uuid) -> FlatUuid
-    ensures { result ≡ flat_uuid id }
-{
-    FlatUuid {
-        high: id.high,
-        low: id.low,
+impl From<Uuid> for FlatUuid {
+    ghost from_gives = { λ id f. f ≡ flat_uuid id };
+
+    fn from(id: Uuid) -> FlatUuid {
+        FlatUuid {
+            high: id.high,
+            low: id.low,
+        }
     }
 }
 
+impl From<FlatUuid> for Uuid {
+    ghost from_gives = { λ f id. id ≡ uuid_in f };
+
+    fn from(f: FlatUuid) -> Uuid {
+        Uuid {
+            high: f.high,
+            low: f.low,
+        }
+    }
+}
+
+// The number that C knows a form by. The layers know nothing of C, so that no From of theirs tells it.
 pub fn form_number(f: Form) -> u8
     ensures { result ≡ form_number f }
 {
@@ -76,106 +110,70 @@ pub fn form_number(f: Form) -> u8
     }
 }
 
-pub fn uuid_of(id: FlatUuid) -> Uuid
-    ensures { result ≡ uuid_in id }
-{
-    Uuid {
-        high: id.high,
-        low: id.low,
+impl From<AxisOrBtn> for FlatElement {
+    ghost from_gives = { λ e f. f ≡ flat_element e };
+
+    fn from(e: AxisOrBtn) -> FlatElement {
+        match e {
+            AxisOrBtn::Axis(a) => FlatElement {
+                is_axis: true,
+                number: a.0,
+            },
+            AxisOrBtn::Btn(b) => FlatElement {
+                is_axis: false,
+                number: b.0,
+            },
+        }
     }
 }
 
-pub fn flat_element(e: AxisOrBtn) -> FlatElement
-    ensures { result ≡ flat_element e }
-{
-    match e {
-        AxisOrBtn::Axis(a) => FlatElement {
-            is_axis: true,
-            number: a.0,
-        },
-        AxisOrBtn::Btn(b) => FlatElement {
-            is_axis: false,
-            number: b.0,
-        },
+impl From<FlatElement> for AxisOrBtn {
+    ghost from_gives = { λ f e. e ≡ element_of f };
+
+    fn from(f: FlatElement) -> AxisOrBtn {
+        if f.is_axis {
+            AxisOrBtn::Axis(Axis(f.number))
+        } else {
+            AxisOrBtn::Btn(Button(f.number))
+        }
     }
 }
 
-pub fn element_of(e: FlatElement) -> AxisOrBtn
-    ensures { result ≡ element_of e }
-{
-    if e.is_axis {
-        return AxisOrBtn::Axis(Axis(e.number));
-    }
-    AxisOrBtn::Btn(Button(e.number))
-}
-
-pub fn flat_no_refusal() -> FlatRefusal
-    ensures { result ≡ flat_outcome Passes }
-{
-    FlatRefusal {
-        number: 0,
-        has_place: false,
-        place: 0,
-        has_code: false,
-        code: 0,
-    }
-}
-
-fn has_place(place: Place) -> bool
-    ensures { result ≡ has_place_in place }
-{
-    match place {
-        Place::At(_) => true,
-        Place::NoPlace => false,
-    }
-}
-
-fn place_number(place: Place) -> usize
+// The place of a refusal, 0 where it has none.
+fn place_number(place: Option<usize>) -> usize
     ensures { result ≡ place_number place }
 {
-    match place {
-        Place::At(p) => p,
-        Place::NoPlace => 0,
-    }
+    place.unwrap_or(0)
 }
 
-fn has_code(code: Carried) -> bool
-    ensures { result ≡ has_code_in code }
-{
-    match code {
-        Carried::Carries(_) => true,
-        Carried::NoCode => false,
-    }
-}
-
-fn code_number(code: Carried) -> u32
+// The number of a code, 0 where there is none.
+pub fn code_number(code: Option<Code>) -> u32
     ensures { result ≡ code_number code }
 {
-    match code {
-        Carried::Carries(c) => c.0,
-        Carried::NoCode => 0,
+    code.map_or(0, |c| c.0)
+}
+
+impl From<Refusal> for FlatRefusal {
+    ghost from_gives = { λ r f. f ≡ flat_outcome (Err r) };
+
+    fn from(refusal: Refusal) -> FlatRefusal {
+        FlatRefusal {
+            number: refusal.number,
+            has_place: refusal.place.is_some(),
+            place: place_number(refusal.place),
+            has_code: refusal.code.is_some(),
+            code: code_number(refusal.code),
+        }
     }
 }
 
-pub fn flat_refusal(refusal: Refusal) -> FlatRefusal
-    ensures { result ≡ flat_outcome (Refuses refusal) }
-{
-    let place = refusal.place;
-    let code = refusal.code;
-    FlatRefusal {
-        number: refusal.number,
-        has_place: has_place(place),
-        place: place_number(place),
-        has_code: has_code(code),
-        code: code_number(code),
-    }
-}
+impl From<Result<(), Refusal>> for FlatRefusal {
+    ghost from_gives = { λ o f. f ≡ flat_outcome o };
 
-pub fn flat_outcome(outcome: Outcome) -> FlatRefusal
-    ensures { result ≡ flat_outcome outcome }
-{
-    match outcome {
-        Outcome::Passes => flat_no_refusal(),
-        Outcome::Refuses(refusal) => flat_refusal(refusal),
+    fn from(outcome: Result<(), Refusal>) -> FlatRefusal {
+        match outcome {
+            Ok(()) => FlatRefusal::NONE,
+            Err(refusal) => refusal.into(),
+        }
     }
 }

@@ -1,9 +1,11 @@
 // Slots as numbers, both ways.
-ghost use Rattle.std.specs.Prelude.{◌≡◌, map};
+ghost use Rattle.std.specs.Prelude.{◌≡◌};
 ghost use Rattle.exports.specs.FlatSlots.{flat_slot, slot_in, flat_data, data_in};
 
+use crate::flat::code_number;
 use line::ev::Code;
-use map::mapping_data::{AXES, BUTTONS, MappingData, Slot};
+use map::mapping_data::{AXES, BUTTONS, MappingData};
+use std::array;
 
 #[repr(C)]
 #[derive(Clone, Copy)]
@@ -19,97 +21,44 @@ pub struct FlatData {
     pub axes: [FlatSlot; AXES],
 }
 
-impl FlatSlot {
-    const EMPTY: FlatSlot = FlatSlot {
-        filled: false,
-        code: 0,
-    };
-}
+impl From<Option<Code>> for FlatSlot {
+    ghost from_gives = { λ s f. f ≡ flat_slot s };
 
-pub fn flat_slot(s: Slot) -> FlatSlot
-    ensures { result ≡ flat_slot s }
-{
-    FlatSlot {
-        filled: s.filled,
-        code: s.code.0,
+    fn from(slot: Option<Code>) -> FlatSlot {
+        FlatSlot {
+            filled: slot.is_some(),
+            code: code_number(slot),
+        }
     }
 }
 
-pub fn slot_of(s: FlatSlot) -> Slot
-    ensures { result ≡ slot_in s }
-{
-    Slot {
-        filled: s.filled,
-        code: Code(s.code),
+impl From<FlatSlot> for Option<Code> {
+    ghost from_gives = { λ f s. s ≡ slot_in f };
+
+    // The code of a slot that is not filled is not read.
+    fn from(f: FlatSlot) -> Option<Code> {
+        if f.filled { Some(Code(f.code)) } else { None }
     }
 }
 
-fn flat_buttons(slots: [Slot; BUTTONS]) -> [FlatSlot; BUTTONS]
-    ensures { result ≡ map flat_slot slots }
-{
-    let mut out = [FlatSlot::EMPTY; BUTTONS];
-    let mut i: usize = 0;
-    while i < BUTTONS {
-        out[i] = flat_slot(slots[i]);
-        i += 1;
-    }
-    out
-}
+impl From<MappingData> for FlatData {
+    ghost from_gives = { λ d f. f ≡ flat_data d };
 
-fn flat_axes(slots: [Slot; AXES]) -> [FlatSlot; AXES]
-    ensures { result ≡ map flat_slot slots }
-{
-    let mut out = [FlatSlot::EMPTY; AXES];
-    let mut i: usize = 0;
-    while i < AXES {
-        out[i] = flat_slot(slots[i]);
-        i += 1;
-    }
-    out
-}
-
-pub fn flat_data(d: MappingData) -> FlatData
-    ensures { result ≡ flat_data d }
-{
-    let buttons = d.buttons;
-    let axes = d.axes;
-    FlatData {
-        buttons: flat_buttons(buttons),
-        axes: flat_axes(axes),
+    fn from(d: MappingData) -> FlatData {
+        FlatData {
+            buttons: array::from_fn(|i| d.buttons[i].into()),
+            axes: array::from_fn(|i| d.axes[i].into()),
+        }
     }
 }
 
-fn buttons_of(slots: [FlatSlot; BUTTONS]) -> [Slot; BUTTONS]
-    ensures { result ≡ map slot_in slots }
-{
-    let mut out = [Slot::EMPTY; BUTTONS];
-    let mut i: usize = 0;
-    while i < BUTTONS {
-        out[i] = slot_of(slots[i]);
-        i += 1;
-    }
-    out
-}
+impl From<FlatData> for MappingData {
+    ghost from_gives = { λ f d. d ≡ data_in f };
 
-fn axes_of(slots: [FlatSlot; AXES]) -> [Slot; AXES]
-    ensures { result ≡ map slot_in slots }
-{
-    let mut out = [Slot::EMPTY; AXES];
-    let mut i: usize = 0;
-    while i < AXES {
-        out[i] = slot_of(slots[i]);
-        i += 1;
-    }
-    out
-}
-
-pub fn data_of(d: FlatData) -> MappingData
-    ensures { result ≡ data_in d }
-{
-    let buttons = d.buttons;
-    let axes = d.axes;
-    MappingData {
-        buttons: buttons_of(buttons),
-        axes: axes_of(axes),
+    fn from(f: FlatData) -> MappingData {
+        MappingData {
+            buttons: array::from_fn(|i| f.buttons[i].into()),
+            axes: array::from_fn(|i| f.axes[i].into()),
+        }
     }
 }

@@ -2,11 +2,12 @@
 ghost use Rattle.std.specs.Prelude.{◌≡◌, map};
 ghost use Rattle.exports.specs.FlatMaps.{flat_entry, flat_ranges, entry_in, flat_mapping, mapping_in, Unused};
 
-use crate::flat::{FlatElement, element_of, flat_element};
+use crate::flat::FlatElement;
 use crate::flat_token::{range_number, range_of};
 use line::ev::Code;
 use line::mapping::{CODES_MAX, Entry, Mapping};
 use line::parser::Ranges;
+use std::array;
 
 #[repr(C)]
 #[derive(Clone, Copy)]
@@ -32,51 +33,36 @@ pub struct FlatMapping {
 impl FlatEntry {
     pub const UNUSED: FlatEntry = FlatEntry {
         code: 0,
-        element: FlatElement {
-            is_axis: false,
-            number: 0,
-        },
+        element: FlatElement::NONE,
         input: 2,
         output: 2,
         inverted: false,
     };
 }
 
-pub fn flat_entry(e: Entry) -> FlatEntry
-    ensures { result ≡ flat_entry e }
-{
-    let element = e.element;
-    let ranges = e.ranges;
-    let input = ranges.input;
-    let output = ranges.output;
-    FlatEntry {
-        code: e.code.0,
-        element: flat_element(element),
-        input: range_number(input),
-        output: range_number(output),
-        inverted: ranges.inverted,
+impl From<Entry> for FlatEntry {
+    ghost from_gives = { λ e f. f ≡ flat_entry e };
+
+    fn from(e: Entry) -> FlatEntry {
+        FlatEntry {
+            code: e.code.0,
+            element: e.element.into(),
+            input: range_number(e.ranges.input),
+            output: range_number(e.ranges.output),
+            inverted: e.ranges.inverted,
+        }
     }
 }
 
-fn flat_entries(entries: [Entry; CODES_MAX]) -> [FlatEntry; CODES_MAX]
-    ensures { result ≡ map flat_entry entries }
-{
-    let mut out = [FlatEntry::UNUSED; CODES_MAX];
-    let mut i: usize = 0;
-    while i < CODES_MAX {
-        out[i] = flat_entry(entries[i]);
-        i += 1;
-    }
-    out
-}
-
-pub fn flat_mapping(m: Mapping) -> FlatMapping
+// A map, its entries as they were laid out.
+#[tactic(auto, unfolding(crate::specs::FlatMaps::flat_mapping))]
+fn with_entries(m: Mapping, entries: [FlatEntry; CODES_MAX]) -> FlatMapping
+    requires { entries ≡ map flat_entry m.entries }
     ensures { result ≡ flat_mapping m }
 {
-    let entries = m.entries;
     FlatMapping {
         count: m.count,
-        entries: flat_entries(entries),
+        entries,
         name_start: m.name_start,
         name_len: m.name_len,
         is_default: m.is_default,
@@ -84,34 +70,33 @@ pub fn flat_mapping(m: Mapping) -> FlatMapping
     }
 }
 
-// The entries of a map of which those from n on are unused.
+impl From<Mapping> for FlatMapping {
+    ghost from_gives = { λ m f. f ≡ flat_mapping m };
+
+    fn from(m: Mapping) -> FlatMapping {
+        with_entries(m, array::from_fn(|i| m.entries[i].into()))
+    }
+}
+
+// The entries of a map of which those from n on are unused: only those before n are laid out one by one, which spares a
+// reading a tenth of its time.
 fn flat_first(entries: [Entry; CODES_MAX], n: usize) -> [FlatEntry; CODES_MAX]
     requires { Unused n entries }
     ensures { result ≡ map flat_entry entries }
 {
     let mut out = [FlatEntry::UNUSED; CODES_MAX];
-    let mut i: usize = 0;
-    while i < n {
-        out[i] = flat_entry(entries[i]);
-        i += 1;
+    for i in 0..n {
+        out[i] = entries[i].into();
     }
     out
 }
 
-// A map that has nothing after its entries, as one that was built.
+// A map that has nothing after its entries, as one that was built: only those in use are laid out one by one.
 pub fn flat_made(m: Mapping) -> FlatMapping
     requires { Unused m.count m.entries }
     ensures { result ≡ flat_mapping m }
 {
-    let entries = m.entries;
-    FlatMapping {
-        count: m.count,
-        entries: flat_first(entries, m.count),
-        name_start: m.name_start,
-        name_len: m.name_len,
-        is_default: m.is_default,
-        hats_mapped: m.hats_mapped,
-    }
+    with_entries(m, flat_first(m.entries, m.count))
 }
 
 pub fn ranges_of(input: u8, output: u8, inverted: bool) -> Ranges
@@ -124,39 +109,29 @@ pub fn ranges_of(input: u8, output: u8, inverted: bool) -> Ranges
     }
 }
 
-pub fn entry_of(e: FlatEntry) -> Entry
-    ensures { result ≡ entry_in e }
-{
-    let element = e.element;
-    Entry {
-        code: Code(e.code),
-        element: element_of(element),
-        ranges: ranges_of(e.input, e.output, e.inverted),
+impl From<FlatEntry> for Entry {
+    ghost from_gives = { λ f e. e ≡ entry_in f };
+
+    fn from(f: FlatEntry) -> Entry {
+        Entry {
+            code: Code(f.code),
+            element: f.element.into(),
+            ranges: ranges_of(f.input, f.output, f.inverted),
+        }
     }
 }
 
-fn entries_of(entries: [FlatEntry; CODES_MAX]) -> [Entry; CODES_MAX]
-    ensures { result ≡ map entry_in entries }
-{
-    let mut out = [Entry::UNUSED; CODES_MAX];
-    let mut i: usize = 0;
-    while i < CODES_MAX {
-        out[i] = entry_of(entries[i]);
-        i += 1;
-    }
-    out
-}
+impl From<FlatMapping> for Mapping {
+    ghost from_gives = { λ f m. m ≡ mapping_in f };
 
-pub fn mapping_of(m: FlatMapping) -> Mapping
-    ensures { result ≡ mapping_in m }
-{
-    let entries = m.entries;
-    Mapping {
-        count: m.count,
-        entries: entries_of(entries),
-        name_start: m.name_start,
-        name_len: m.name_len,
-        is_default: m.is_default,
-        hats_mapped: m.hats_mapped,
+    fn from(f: FlatMapping) -> Mapping {
+        Mapping {
+            count: f.count,
+            entries: array::from_fn(|i| f.entries[i].into()),
+            name_start: f.name_start,
+            name_len: f.name_len,
+            is_default: f.is_default,
+            hats_mapped: f.hats_mapped,
+        }
     }
 }

@@ -12,11 +12,14 @@ pub struct FlatParty {
     pub owner: u8,
 }
 
-pub fn party_of(p: FlatParty) -> Party
-    ensures { result ≡ party_in p }
-{
-    if p.organiser {
-        return Party::Organiser(p.owner);
+impl From<FlatParty> for Party {
+    ghost from_gives = { λ f p. p ≡ party_in f };
+
+    fn from(f: FlatParty) -> Party {
+        if f.organiser {
+            Party::Organiser(f.owner)
+        } else {
+            Party::Hall
+        }
     }
-    Party::Hall
 }

@@ -2,11 +2,9 @@
 ghost use Rattle.std.specs.Prelude.{◌≡◌};
 ghost use Rattle.exports.specs.FlatTokens.{range_number, range_in, state_number, state_in, flat_pair, text_token, pair_token, flat_token, flat_answer, bare_token};
 
-use crate::flat::{
-    FlatElement, FlatRefusal, FlatUuid, flat_element, flat_no_refusal, flat_refusal, flat_uuid,
-};
+use crate::flat::{FlatElement, FlatRefusal, FlatUuid};
 use line::ev::AxisOrBtn;
-use line::parser::{Answer, AxisRange, Ranges, State, Token};
+use line::parser::{AxisRange, Error, Ranges, State, Token};
 
 // What a pair says. `from` is the index, or the hat's number.
 #[repr(C)]
@@ -49,6 +47,7 @@ const BUTTON: u8 = 6;
 
 const HAT: u8 = 7;
 
+// The number that C knows a range by.
 pub fn range_number(r: AxisRange) -> u8
     ensures { result ≡ range_number r }
 {
@@ -60,18 +59,18 @@ pub fn range_number(r: AxisRange) -> u8
 }
 
 // A number over 2 is read as full.
+#[tactic(auto, unfolding(crate::specs::FlatTokens::range_in))]
 pub fn range_of(n: u8) -> AxisRange
     ensures { result ≡ range_in n }
 {
-    if n == 0 {
-        return AxisRange::LowerHalf;
+    match n {
+        0 => AxisRange::LowerHalf,
+        1 => AxisRange::UpperHalf,
+        _ => AxisRange::Full,
     }
-    if n == 1 {
-        return AxisRange::UpperHalf;
-    }
-    AxisRange::Full
 }
 
+// The number that C knows a state by.
 pub fn state_number(s: State) -> u8
     ensures { result ≡ state_number s }
 {
@@ -85,53 +84,42 @@ pub fn state_number(s: State) -> u8
 }
 
 // A number that no state has is read as the state after a 1 or 2.
+#[tactic(auto, unfolding(crate::specs::FlatTokens::state_in))]
 pub fn state_of(n: u8) -> State
     ensures { result ≡ state_in n }
 {
-    if n == 0 {
-        return State::Uuid;
+    match n {
+        0 => State::Uuid,
+        1 => State::Name,
+        2 => State::KeyVal,
+        4 => State::NotUtf8,
+        _ => State::Invalid,
     }
-    if n == 1 {
-        return State::Name;
-    }
-    if n == 2 {
-        return State::KeyVal;
-    }
-    if n == 4 {
-        return State::NotUtf8;
-    }
-    State::Invalid
 }
 
 fn flat_pair(from: u16, direction: u16, to: AxisOrBtn, ranges: Ranges) -> FlatPair
     ensures { result ≡ flat_pair from direction to ranges }
 {
-    let input = ranges.input;
-    let output = ranges.output;
     FlatPair {
         from,
         direction,
-        to: flat_element(to),
-        input: range_number(input),
-        output: range_number(output),
+        to: to.into(),
+        input: range_number(ranges.input),
+        output: range_number(ranges.output),
         inverted: ranges.inverted,
     }
 }
 
-fn no_pair() -> FlatPair
-    ensures { result ≡ (bare_token 0).pair }
-{
-    FlatPair {
+impl FlatPair {
+    // What stands where there is no pair.
+    const NONE: FlatPair = FlatPair {
         from: 0,
         direction: 0,
-        to: FlatElement {
-            is_axis: false,
-            number: 0,
-        },
+        to: FlatElement::NONE,
         input: 0,
         output: 0,
         inverted: false,
-    }
+    };
 }
 
 // An answer that says nothing but its kind.
@@ -140,66 +128,71 @@ fn bare_token(kind: u8) -> FlatToken
 {
     FlatToken {
         kind,
-        refusal: flat_no_refusal(),
-        id: FlatUuid { high: 0, low: 0 },
+        refusal: FlatRefusal::NONE,
+        id: FlatUuid::NIL,
         start: 0,
         len: 0,
-        pair: no_pair(),
+        pair: FlatPair::NONE,
     }
 }
 
 fn text_token(kind: u8, start: usize, len: usize) -> FlatToken
     ensures { result ≡ text_token kind start len }
 {
-    let mut t = bare_token(kind);
-    t.start = start;
-    t.len = len;
-    t
+    FlatToken {
+        start,
+        len,
+        ..bare_token(kind)
+    }
 }
 
 fn pair_token(kind: u8, pair: FlatPair) -> FlatToken
     ensures { result ≡ pair_token kind pair }
 {
-    let mut t = bare_token(kind);
-    t.pair = pair;
-    t
-}
-
-fn flat_token(t: Token) -> FlatToken
-    ensures { result ≡ flat_token t }
-{
-    match t {
-        Token::Uuid(u) => {
-            let mut t = bare_token(UUID);
-            t.id = flat_uuid(u);
-            t
-        }
-        Token::Platform { start, len } => text_token(PLATFORM, start, len),
-        Token::Name { start, len } => text_token(NAME, start, len),
-        Token::AxisMapping { from, to, ranges } => pair_token(AXIS, flat_pair(from, 0, to, ranges)),
-        Token::ButtonMapping { from, to, ranges } => pair_token(
-            BUTTON,
-            flat_pair(from, 0, to, ranges),
-        ),
-        Token::HatMapping {
-            hat,
-            direction,
-            to,
-            ranges,
-        } => pair_token(HAT, flat_pair(hat, direction, to, ranges)),
+    FlatToken {
+        pair,
+        ..bare_token(kind)
     }
 }
 
-pub fn flat_answer(a: Answer) -> FlatToken
-    ensures { result ≡ flat_answer a }
-{
-    match a {
-        Answer::Found(t) => flat_token(t),
-        Answer::Refused(e) => {
-            let mut t = bare_token(REFUSED);
-            t.refusal = flat_refusal(e.refusal());
-            t
+impl From<Token> for FlatToken {
+    ghost from_gives = { λ t f. f ≡ flat_token t };
+
+    fn from(t: Token) -> FlatToken {
+        match t {
+            Token::Uuid(u) => FlatToken {
+                id: u.into(),
+                ..bare_token(UUID)
+            },
+            Token::Platform { start, len } => text_token(PLATFORM, start, len),
+            Token::Name { start, len } => text_token(NAME, start, len),
+            Token::AxisMapping { from, to, ranges } => {
+                pair_token(AXIS, flat_pair(from, 0, to, ranges))
+            }
+            Token::ButtonMapping { from, to, ranges } => {
+                pair_token(BUTTON, flat_pair(from, 0, to, ranges))
+            }
+            Token::HatMapping {
+                hat,
+                direction,
+                to,
+                ranges,
+            } => pair_token(HAT, flat_pair(hat, direction, to, ranges)),
         }
-        Answer::End => bare_token(END),
+    }
+}
+
+impl From<Option<Result<Token, Error>>> for FlatToken {
+    ghost from_gives = { λ a f. f ≡ flat_answer a };
+
+    fn from(answer: Option<Result<Token, Error>>) -> FlatToken {
+        match answer {
+            Some(Ok(t)) => t.into(),
+            Some(Err(e)) => FlatToken {
+                refusal: e.refusal().into(),
+                ..bare_token(REFUSED)
+            },
+            None => bare_token(END),
+        }
     }
 }

@@ -1,10 +1,10 @@
 // The calls of the line layer.
 ghost use Rattle.std.specs.Prelude.{◌≡◌};
 ghost use Rattle.line.specs.Elements.{to_nec_of, is_dpad_of, is_stick_of, is_stick_axis_of, second_axis_of, is_button_of, same_element};
-ghost use Rattle.exports.specs.Flat.{element_of, button_in, axis_in, flat_to_nec, flat_second_axis};
+ghost use Rattle.exports.specs.Flat.{element_of, button_in, axis_in, flat_code, flat_axis};
 
-use crate::flat::{FlatElement, element_of, flat_element};
-use line::ev::{Axis, Button, SecondAxis, ToNec};
+use crate::flat::{FlatElement, code_number};
+use line::ev::{Axis, AxisOrBtn, Button, Code};
 
 // A code, if there is one.
 #[repr(C)]
@@ -22,26 +22,33 @@ pub struct FlatAxis {
     pub number: u16,
 }
 
-#[unsafe(no_mangle)]
-pub extern "C" fn raspteal_button_to_nec(button: u16) -> FlatCode
-    ensures { result ≡ flat_to_nec (to_nec_of (button_in button)) }
-{
-    flat_to_nec(Button(button).to_nec())
+impl From<Option<Code>> for FlatCode {
+    ghost from_gives = { λ c f. f ≡ flat_code c };
+
+    fn from(code: Option<Code>) -> FlatCode {
+        FlatCode {
+            found: code.is_some(),
+            code: code_number(code),
+        }
+    }
 }
 
-fn flat_to_nec(n: ToNec) -> FlatCode
-    ensures { result ≡ flat_to_nec n }
-{
-    match n {
-        ToNec::Is(c) => FlatCode {
-            found: true,
-            code: c.0,
-        },
-        ToNec::Nothing => FlatCode {
-            found: false,
-            code: 0,
-        },
+impl From<Option<Axis>> for FlatAxis {
+    ghost from_gives = { λ a f. f ≡ flat_axis a };
+
+    fn from(axis: Option<Axis>) -> FlatAxis {
+        FlatAxis {
+            found: axis.is_some(),
+            number: axis.map_or(0, |a| a.0),
+        }
     }
+}
+
+#[unsafe(no_mangle)]
+pub extern "C" fn raspteal_button_to_nec(button: u16) -> FlatCode
+    ensures { result ≡ flat_code (to_nec_of (button_in button)) }
+{
+    Button(button).to_nec().into()
 }
 
 #[unsafe(no_mangle)]
@@ -67,36 +74,21 @@ pub extern "C" fn raspteal_axis_is_stick(axis: u16) -> bool
 
 #[unsafe(no_mangle)]
 pub extern "C" fn raspteal_axis_second_axis(axis: u16) -> FlatAxis
-    ensures { result ≡ flat_second_axis (second_axis_of (axis_in axis)) }
+    ensures { result ≡ flat_axis (second_axis_of (axis_in axis)) }
 {
-    flat_second_axis(Axis(axis).second_axis())
-}
-
-fn flat_second_axis(a: SecondAxis) -> FlatAxis
-    ensures { result ≡ flat_second_axis a }
-{
-    match a {
-        SecondAxis::Is(axis) => FlatAxis {
-            found: true,
-            number: axis.0,
-        },
-        SecondAxis::Nothing => FlatAxis {
-            found: false,
-            number: 0,
-        },
-    }
+    Axis(axis).second_axis().into()
 }
 
 #[unsafe(no_mangle)]
 pub extern "C" fn raspteal_element_is_button(e: FlatElement) -> bool
     ensures { result ≡ is_button_of (element_of e) }
 {
-    element_of(e).is_button()
+    AxisOrBtn::from(e).is_button()
 }
 
 #[unsafe(no_mangle)]
 pub extern "C" fn raspteal_element_eq(a: FlatElement, b: FlatElement) -> bool
     ensures { result ≡ same_element (element_of a) (element_of b) }
 {
-    element_of(a).eq(element_of(b))
+    AxisOrBtn::from(a) == AxisOrBtn::from(b)
 }

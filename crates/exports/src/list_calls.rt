@@ -1,6 +1,5 @@
 // Look-ups in a map that the caller keeps as two lists of numbers: no map crosses the boundary.
-ghost use Rattle.std.specs.Prelude.{◌≡◌};
-ghost use Rattle.text.specs.Bytes.{first_of};
+ghost use Rattle.std.specs.Prelude.{◌≡◌, ◌==◌, position};
 ghost use Rattle.line.specs.Elements.{code_of};
 ghost use Rattle.line.specs.Maps.{map_of};
 ghost use Rattle.exports.specs.FlatMaps.{flat_mapped};
@@ -17,49 +16,35 @@ const AXES_FROM: u32 = 65536;
 pub extern "C" fn raspteal_lists_map(codes: &[u32], elements: &[u32], code: u32) -> FlatMapped
     ensures { result ≡ flat_mapped (map_of (listed_entries codes.now elements.now) (code_of code)) }
 {
-    let i = code_place(codes, code);
-    if i < codes.len() {
-        if i < elements.len() {
-            return FlatMapped {
-                found: true,
-                element: listed_element(elements[i]),
-            };
-        }
-    }
-    FlatMapped {
-        found: false,
-        element: FlatElement {
-            is_axis: false,
-            number: 0,
+    match code_place(codes, code) {
+        Some(i) if i < elements.len() => FlatMapped {
+            found: true,
+            element: listed_element(elements[i]),
         },
+        _ => FlatMapped::NONE,
     }
 }
 
-// The first place of a code, or the list's length where it has none.
-fn code_place(codes: &[u32], code: u32) -> usize
-    ensures { result ≡ first_of code codes.now }
+// The first place of a code.
+fn code_place(codes: &[u32], code: u32) -> Option<usize>
+    ensures { result ≡ position (λ c. c == code) codes.now }
 {
-    let mut i = 0;
-    while i < codes.len() {
-        if codes[i] == code {
-            return i;
-        }
-        i += 1;
-    }
-    i
+    codes.iter().position(|c| *c == code)
 }
 
+#[tactic(auto, unfolding(crate::specs::FlatLists::listed_element))]
 fn listed_element(x: u32) -> FlatElement
     ensures { result ≡ listed_element x }
 {
     if x < AXES_FROM {
-        return FlatElement {
+        FlatElement {
             is_axis: false,
             number: x as u16,
-        };
-    }
-    FlatElement {
-        is_axis: true,
-        number: (x % AXES_FROM) as u16,
+        }
+    } else {
+        FlatElement {
+            is_axis: true,
+            number: (x % AXES_FROM) as u16,
+        }
     }
 }

@@ -6,9 +6,11 @@ ghost use Rattle.exports.specs.Flat.{uuid_in, flat_written};
 ghost use Rattle.exports.specs.FlatNear.{near_how, flat_near_look};
 ghost use Rattle.exports.specs.FlatStore.{party_in};
 
-use crate::flat::{FlatRefusal, FlatUuid, FlatWritten, flat_outcome, flat_written, uuid_of};
-use crate::flat_party::{FlatParty, party_of};
-use store::near::NearLook;
+use crate::flat::{FlatRefusal, FlatUuid, FlatWritten};
+use crate::flat_party::FlatParty;
+use store::calls::LookError;
+use store::near::Nearness;
+use store::refusal::near_outcome;
 use text::bytes::write_bytes;
 
 // What is held, or 19 or 24: 0 nothing, 1 a line under the whole UUID, 2 one under that without its checksum alone.
@@ -19,24 +21,24 @@ pub struct FlatNearLook {
     pub how: u8,
 }
 
-fn near_how(l: NearLook) -> u8
-    ensures { result ≡ near_how l }
+fn near_how(looked: Result<Option<Nearness>, LookError>) -> u8
+    ensures { result ≡ near_how looked }
 {
-    match l {
-        NearLook::Exact => 1,
-        NearLook::Near => 2,
-        NearLook::Missing => 0,
-        NearLook::Unsound => 0,
-        NearLook::NoOwner => 0,
+    match looked {
+        Ok(Some(Nearness::Exact)) => 1,
+        Ok(Some(Nearness::Near)) => 2,
+        Ok(None) | Err(_) => 0,
     }
 }
 
-fn flat_near_look(l: NearLook) -> FlatNearLook
-    ensures { result ≡ flat_near_look l }
-{
-    FlatNearLook {
-        refusal: flat_outcome(l.outcome()),
-        how: near_how(l),
+impl From<Result<Option<Nearness>, LookError>> for FlatNearLook {
+    ghost from_gives = { λ l f. f ≡ flat_near_look l };
+
+    fn from(looked: Result<Option<Nearness>, LookError>) -> FlatNearLook {
+        FlatNearLook {
+            refusal: near_outcome(looked).into(),
+            how: near_how(looked),
+        }
     }
 }
 
@@ -49,7 +51,7 @@ pub extern "C" fn raspteal_store_found_near(
 ) -> FlatNearLook
     ensures { result ≡ flat_near_look (near_says (near_up (party_in party) (uuid_in id) index.now text.now)) }
 {
-    flat_near_look(store::near::found_near(index, text, party_of(party), uuid_of(id)))
+    store::near::found_near(index, text, party.into(), id.into()).into()
 }
 
 // A reference can't be returned to C: the line is copied to the start of `out`.
@@ -64,6 +66,6 @@ pub extern "C" fn raspteal_store_get_near(
     ensures value { result ≡ flat_written (write_answer out.old 0 (near_line (near_up (party_in party) (uuid_in id) index.now text.now))) }
     ensures out_after { out.new ≡ write_buffer out.old 0 (near_line (near_up (party_in party) (uuid_in id) index.now text.now)) }
 {
-    let line = store::near::get_near(index, text, party_of(party), uuid_of(id));
-    flat_written(write_bytes(out, 0, line))
+    let line = store::near::get_near(index, text, party.into(), id.into());
+    write_bytes(out, 0, line).into()
 }

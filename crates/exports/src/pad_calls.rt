@@ -6,11 +6,11 @@ ghost use Rattle.pad.specs.Values.{entry_value, event_of};
 ghost use Rattle.exports.specs.FlatMaps.{mapping_in, entry_in};
 ghost use Rattle.exports.specs.FlatPads.{raw_of, flat_value, flat_emitted};
 
-use crate::flat::{FlatElement, flat_element};
-use crate::flat_mapping::{FlatEntry, FlatMapping, entry_of, mapping_of};
+use crate::flat::FlatElement;
+use crate::flat_mapping::{FlatEntry, FlatMapping};
 use line::ev::Code;
-use pad::events::Raw;
-use pad::value::{ElementValue, Emitted, entry_value, event};
+use pad::events::{Event, Raw};
+use pad::value::{entry_value, event};
 
 // The value of an element, if there is one.
 #[repr(C)]
@@ -30,27 +30,44 @@ pub struct FlatEmitted {
 }
 
 // What a pad reports: 1 is a button pressed, 2 the axis value v, another number a button released.
+#[tactic(auto, unfolding(crate::specs::FlatPads::raw_of))]
 pub fn raw_of(raw: u8, v: i16) -> Raw
     ensures { result ≡ raw_of raw v }
 {
-    if raw == 1 {
-        return Raw::ButtonPressed;
+    match raw {
+        1 => Raw::ButtonPressed,
+        2 => Raw::AxisValueChanged(v),
+        _ => Raw::ButtonReleased,
     }
-    if raw == 2 {
-        return Raw::AxisValueChanged(v);
-    }
-    Raw::ButtonReleased
 }
 
-fn flat_value(x: ElementValue) -> FlatValue
-    ensures { result ≡ flat_value x }
-{
-    match x {
-        ElementValue::Is(value) => FlatValue { found: true, value },
-        ElementValue::Nothing => FlatValue {
-            found: false,
-            value: 0,
-        },
+impl From<Option<i16>> for FlatValue {
+    ghost from_gives = { λ v f. f ≡ flat_value v };
+
+    fn from(value: Option<i16>) -> FlatValue {
+        FlatValue {
+            found: value.is_some(),
+            value: value.unwrap_or(0),
+        }
+    }
+}
+
+impl From<Option<Event>> for FlatEmitted {
+    ghost from_gives = { λ e f. f ≡ flat_emitted e };
+
+    fn from(emitted: Option<Event>) -> FlatEmitted {
+        match emitted {
+            Some(e) => FlatEmitted {
+                found: true,
+                element: e.element.into(),
+                value: e.value,
+            },
+            None => FlatEmitted {
+                found: false,
+                element: FlatElement::NONE,
+                value: 0,
+            },
+        }
     }
 }
 
@@ -58,30 +75,7 @@ fn flat_value(x: ElementValue) -> FlatValue
 pub extern "C" fn raspteal_entry_value(e: FlatEntry, raw: u8, v: i16) -> FlatValue
     ensures { result ≡ flat_value (entry_value (entry_in e) (raw_of raw v)) }
 {
-    flat_value(entry_value(entry_of(e), raw_of(raw, v)))
-}
-
-fn flat_emitted(x: Emitted) -> FlatEmitted
-    ensures { result ≡ flat_emitted x }
-{
-    match x {
-        Emitted::Is(e) => {
-            let element = e.element;
-            FlatEmitted {
-                found: true,
-                element: flat_element(element),
-                value: e.value,
-            }
-        }
-        Emitted::Nothing => FlatEmitted {
-            found: false,
-            element: FlatElement {
-                is_axis: false,
-                number: 0,
-            },
-            value: 0,
-        },
-    }
+    entry_value(e.into(), raw_of(raw, v)).into()
 }
 
 #[unsafe(no_mangle)]
@@ -93,5 +87,5 @@ pub extern "C" fn raspteal_mapping_event(
 ) -> FlatEmitted
     ensures { result ≡ flat_emitted (event_of (held (mapping_in map)) (code_of code) (raw_of raw v)) }
 {
-    flat_emitted(event(mapping_of(map), Code(code), raw_of(raw, v)))
+    event(map.into(), Code(code), raw_of(raw, v)).into()
 }

@@ -3,16 +3,14 @@ ghost use Rattle.std.specs.Prelude.{◌≡◌};
 ghost use Rattle.line.specs.Walker.{start_of, step_of, first_form};
 ghost use Rattle.line.specs.Parser.{parser_of, step_from, tokens_of};
 ghost use Rattle.line.specs.Reading.{reading_of};
-ghost use Rattle.line.specs.Refusals.{last_outcome};
-ghost use Rattle.exports.specs.Flat.{flat_outcome, first_form_number};
+ghost use Rattle.exports.specs.Flat.{first_form_number};
 ghost use Rattle.exports.specs.FlatTokens.{state_number, state_in, flat_answer, flat_step, flat_tokens};
 ghost use Rattle.exports.specs.FlatMaps.{flat_reading};
 
-use crate::flat::{FlatRefusal, flat_no_refusal, flat_outcome, flat_refusal, form_number};
+use crate::flat::{FlatRefusal, form_number};
 use crate::flat_mapping::{FlatMapping, flat_made};
-use crate::flat_token::{FlatToken, flat_answer, state_number, state_of};
-use line::parser::FirstForm;
-use line::parser::tokens::LastRefusal;
+use crate::flat_token::{FlatToken, state_number, state_of};
+use line::refusal::reading_outcome;
 
 // A step of the walker: its answer, and where it goes on.
 #[repr(C)]
@@ -46,20 +44,11 @@ pub extern "C" fn raspteal_parser_start(line: &[u8]) -> u8
     state_number(line::parser::start_state(line))
 }
 
-fn first_form_number(f: FirstForm) -> u8
-    ensures { result ≡ first_form_number f }
-{
-    match f {
-        FirstForm::Is(form) => form_number(form),
-        FirstForm::NoUuid => 0,
-    }
-}
-
 #[unsafe(no_mangle)]
 pub extern "C" fn raspteal_first_form(line: &[u8]) -> u8
     ensures { result ≡ first_form_number (first_form line.now) }
 {
-    first_form_number(line::parser::first_form(line))
+    line::parser::first_form(line).map_or(0, form_number)
 }
 
 #[unsafe(no_mangle)]
@@ -67,12 +56,10 @@ pub extern "C" fn raspteal_parser_step(line: &[u8], pos: usize, state: u8) -> Fl
     ensures { result ≡ flat_step (step_of line.now pos (state_in state)) }
 {
     let next = line::parser::tokens::token_at(line, pos, state_of(state));
-    let answer = next.answer;
-    let after = next.state;
     FlatStep {
-        token: flat_answer(answer),
+        token: next.answer.into(),
         pos: next.pos,
-        state: state_number(after),
+        state: state_number(next.state),
     }
 }
 
@@ -80,7 +67,7 @@ pub extern "C" fn raspteal_parser_step(line: &[u8], pos: usize, state: u8) -> Fl
 pub extern "C" fn raspteal_first_token(line: &[u8]) -> FlatToken
     ensures { result ≡ flat_answer (step_from (parser_of line.entry)).answer }
 {
-    flat_answer(line::parser::first_token(line))
+    line::parser::first_token(line).into()
 }
 
 #[unsafe(no_mangle)]
@@ -88,10 +75,11 @@ pub extern "C" fn raspteal_count_tokens(line: &[u8]) -> FlatTokens
     ensures { result ≡ flat_tokens (tokens_of line.now) }
 {
     let tokens = line::parser::tokens::count_tokens(line);
-    let last = tokens.last;
     FlatTokens {
         count: tokens.count,
-        last: flat_last(last),
+        last: tokens
+            .last
+            .map_or(FlatRefusal::NONE, |e| e.refusal().into()),
     }
 }
 
@@ -104,19 +92,8 @@ pub extern "C" fn raspteal_parse_sdl_mapping(
     ensures { result ≡ flat_reading (reading_of line.now buttons.now axes.now) }
 {
     let read = line::reading::parse_sdl_mapping(line, buttons, axes);
-    let answer = read.answer;
-    let map = read.map;
     FlatReading {
-        refusal: flat_outcome(answer.outcome()),
-        map: flat_made(map),
-    }
-}
-
-fn flat_last(l: LastRefusal) -> FlatRefusal
-    ensures { result ≡ flat_outcome (last_outcome l) }
-{
-    match l {
-        LastRefusal::Is(e) => flat_refusal(e.refusal()),
-        LastRefusal::Nothing => flat_no_refusal(),
+        refusal: reading_outcome(read.answer).into(),
+        map: flat_made(read.map),
     }
 }

@@ -2,10 +2,11 @@
 ghost use Rattle.std.specs.Prelude.{◌≡◌};
 ghost use Rattle.store.specs.Store.{store_share, store_told};
 ghost use Rattle.exports.specs.FlatStore.{flat_store_answer};
-ghost use Rattle.exports.specs.FlatShares.{use_told, flat_share};
+ghost use Rattle.exports.specs.FlatShares.{flat_share};
 
-use crate::flat::{FlatRefusal, flat_outcome};
-use store::sharing::{ShareTold, ShareUse};
+use crate::flat::FlatRefusal;
+use store::refusal::{store_outcome, told_outcome};
+use store::sharing::{ShareUse, Unsound};
 
 // A party's share and the bytes of its lines, or 19.
 #[repr(C)]
@@ -16,23 +17,17 @@ pub struct FlatShare {
     pub used: usize,
 }
 
-fn use_told(t: ShareTold) -> ShareUse
-    ensures { result ≡ use_told t }
-{
-    match t {
-        ShareTold::Told(u) => u,
-        ShareTold::Unsound => ShareUse { share: 0, used: 0 },
-    }
-}
+impl From<Result<ShareUse, Unsound>> for FlatShare {
+    ghost from_gives = { λ t f. f ≡ flat_share t };
 
-fn flat_share(t: ShareTold) -> FlatShare
-    ensures { result ≡ flat_share t }
-{
-    let told = use_told(t);
-    FlatShare {
-        refusal: flat_outcome(t.outcome()),
-        share: told.share,
-        used: told.used,
+    fn from(told: Result<ShareUse, Unsound>) -> FlatShare {
+        let nothing = ShareUse { share: 0, used: 0 };
+        let shown = told.unwrap_or(nothing);
+        FlatShare {
+            refusal: told_outcome(told).into(),
+            share: shown.share,
+            used: shown.used,
+        }
     }
 }
 
@@ -46,12 +41,12 @@ pub extern "C" fn raspteal_store_set_share(
     ensures value { result ≡ flat_store_answer (store_share index.old text.now owner bytes).answer }
     ensures index_after { index.new ≡ (store_share index.old text.now owner bytes).index }
 {
-    flat_outcome(store::sharing::set_share(index, text, owner, bytes).outcome())
+    store_outcome(store::sharing::set_share(index, text, owner, bytes)).into()
 }
 
 #[unsafe(no_mangle)]
 pub extern "C" fn raspteal_store_share(index: &[u8], text: &[u8], owner: u8) -> FlatShare
     ensures { result ≡ flat_share (store_told index.now text.now owner) }
 {
-    flat_share(store::sharing::share_of(index, text, owner))
+    store::sharing::share_of(index, text, owner).into()
 }

@@ -1,5 +1,5 @@
 // The calls of a pad while a game runs.
-ghost use Rattle.std.specs.Prelude.{◌≡◌, map};
+ghost use Rattle.std.specs.Prelude.{◌≡◌};
 ghost use Rattle.line.specs.Elements.{code_of};
 ghost use Rattle.line.specs.Maps.{held};
 ghost use Rattle.pad.specs.ValueClaims.{RawWithin};
@@ -9,13 +9,14 @@ ghost use Rattle.exports.specs.Flat.{element_of};
 ghost use Rattle.exports.specs.FlatMaps.{mapping_in};
 ghost use Rattle.exports.specs.FlatPads.{raw_of, flat_pad, pad_in, flat_event, flat_told};
 
-use crate::flat::{FlatElement, FlatRefusal, element_of, flat_element, flat_outcome};
-use crate::flat_mapping::{FlatMapping, mapping_of};
+use crate::flat::{FlatElement, FlatRefusal};
+use crate::flat_mapping::FlatMapping;
 use crate::pad_calls::raw_of;
 use line::ev::Code;
 use line::mapping::CODES_MAX;
 use pad::events::{ELEMENTS, Event};
-use pad::state::{HELD_MAX, Pad, Told};
+use pad::state::{HELD_MAX, Pad, Told, pad_outcome};
+use std::array;
 
 // A pad's state: its numbers as they are.
 #[repr(C)]
@@ -44,76 +45,65 @@ pub struct FlatTold {
     pub events: [FlatEvent; ELEMENTS],
 }
 
-impl FlatEvent {
-    const UNUSED: FlatEvent = FlatEvent {
-        element: FlatElement {
-            is_axis: false,
-            number: 0,
-        },
-        value: 0,
-    };
-}
+impl From<Pad> for FlatPad {
+    ghost from_gives = { λ p f. f ≡ flat_pad p };
 
-pub fn flat_pad(p: Pad) -> FlatPad
-    ensures { result ≡ flat_pad p }
-{
-    let held = p.held;
-    let entries = p.entries;
-    FlatPad {
-        count: p.count,
-        held,
-        entry_count: p.entry_count,
-        entries,
+    fn from(p: Pad) -> FlatPad {
+        let Pad {
+            count,
+            held,
+            entry_count,
+            entries,
+        } = p;
+        FlatPad {
+            count,
+            held,
+            entry_count,
+            entries,
+        }
     }
 }
 
-pub fn pad_of(f: FlatPad) -> Pad
-    ensures { result ≡ pad_in f }
-{
-    let held = f.held;
-    let entries = f.entries;
-    Pad {
-        count: f.count,
-        held,
-        entry_count: f.entry_count,
-        entries,
+impl From<FlatPad> for Pad {
+    ghost from_gives = { λ f p. p ≡ pad_in f };
+
+    fn from(f: FlatPad) -> Pad {
+        let FlatPad {
+            count,
+            held,
+            entry_count,
+            entries,
+        } = f;
+        Pad {
+            count,
+            held,
+            entry_count,
+            entries,
+        }
     }
 }
 
-fn flat_event(e: Event) -> FlatEvent
-    ensures { result ≡ flat_event e }
-{
-    let element = e.element;
-    FlatEvent {
-        element: flat_element(element),
-        value: e.value,
+impl From<Event> for FlatEvent {
+    ghost from_gives = { λ e f. f ≡ flat_event e };
+
+    fn from(e: Event) -> FlatEvent {
+        FlatEvent {
+            element: e.element.into(),
+            value: e.value,
+        }
     }
 }
 
-pub fn flat_events(list: [Event; ELEMENTS]) -> [FlatEvent; ELEMENTS]
-    ensures { result ≡ map flat_event list }
-{
-    let mut out = [FlatEvent::UNUSED; ELEMENTS];
-    let mut i: usize = 0;
-    while i < ELEMENTS {
-        out[i] = flat_event(list[i]);
-        i += 1;
-    }
-    out
-}
+impl From<Told> for FlatTold {
+    ghost from_gives = { λ t f. f ≡ flat_told t };
 
-fn flat_told(t: Told) -> FlatTold
-    ensures { result ≡ flat_told t }
-{
-    let answer = t.answer;
-    let next = t.pad;
-    let told = t.events;
-    let list = told.list;
-    FlatTold {
-        refusal: flat_outcome(answer.outcome()),
-        pad: flat_pad(next),
-        count: told.count,
-        events: flat_events(list),
+    fn from(t: Told) -> FlatTold {
+        FlatTold {
+            refusal: pad_outcome(t.answer).into(),
+            pad: t.pad.into(),
+            count: t.events.count,
+            events: array::from_fn(|i| t.events.list[i].into()),
+        }
     }
 }
 
@@ -121,26 +111,26 @@ fn flat_told(t: Told) -> FlatTold
 pub extern "C" fn raspteal_pad_new() -> FlatPad
     ensures { result ≡ flat_pad new_pad }
 {
-    flat_pad(Pad::new())
+    Pad::new().into()
 }
 
 #[unsafe(no_mangle)]
 pub extern "C" fn raspteal_pad_raw_event(pad: FlatPad, code: u32, raw: u8, v: i16) -> FlatTold
     ensures { (result ≡ flat_told (raw_event_of (pad_in pad) (code_of code) (raw_of raw v))) × RawWithin (raw_of raw v) }
 {
-    flat_told(pad_of(pad).raw_event(Code(code), raw_of(raw, v)))
+    Pad::from(pad).raw_event(Code(code), raw_of(raw, v)).into()
 }
 
 #[unsafe(no_mangle)]
 pub extern "C" fn raspteal_pad_change_map(pad: FlatPad, map: FlatMapping) -> FlatTold
     ensures { (result ≡ flat_told (change_map_of (pad_in pad) (mapping_in map))) × ShortAll (held (mapping_in map)) }
 {
-    flat_told(pad_of(pad).change_map(mapping_of(map)))
+    Pad::from(pad).change_map(map.into()).into()
 }
 
 #[unsafe(no_mangle)]
 pub extern "C" fn raspteal_pad_value(pad: FlatPad, e: FlatElement) -> i16
     ensures { result ≡ pad_value (pad_in pad) (element_of e) }
 {
-    pad_of(pad).value(element_of(e))
+    Pad::from(pad).value(e.into())
 }

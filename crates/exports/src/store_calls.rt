@@ -7,15 +7,12 @@ ghost use Rattle.exports.specs.Flat.{uuid_in, flat_written};
 ghost use Rattle.exports.specs.FlatSlots.{data_in};
 ghost use Rattle.exports.specs.FlatStore.{party_in, flat_store_answer, flat_inserted, flat_look, flat_saved};
 
-use crate::flat::{
-    FlatRefusal, FlatUuid, FlatWritten, flat_no_refusal, flat_outcome, flat_refusal, flat_written,
-    uuid_of,
-};
-use crate::flat_data::{FlatData, data_of};
-use crate::flat_mapping::{FlatMapping, flat_mapping};
-use crate::flat_party::{FlatParty, party_of};
-use store::calls::{Inserted, Look, Saved};
-use store::refusal::LookOutcome;
+use crate::flat::{FlatRefusal, FlatUuid, FlatWritten};
+use crate::flat_data::FlatData;
+use crate::flat_mapping::FlatMapping;
+use crate::flat_party::FlatParty;
+use store::calls::{Inserted, LookError, Saved};
+use store::refusal::{save_outcome, store_outcome};
 use text::bytes::write_bytes;
 
 // An insert's refusal, the lines walked, and how many of them were filed in another form than 32 digits.
@@ -43,34 +40,43 @@ pub struct FlatLook {
     pub found: bool,
 }
 
-fn flat_inserted(i: Inserted) -> FlatInserted
-    ensures { result ≡ flat_inserted i }
-{
-    let answer = i.answer;
-    FlatInserted {
-        refusal: flat_outcome(answer.outcome()),
-        count: i.count,
-        not_simple: i.not_simple,
+impl From<Inserted> for FlatInserted {
+    ghost from_gives = { λ i f. f ≡ flat_inserted i };
+
+    fn from(i: Inserted) -> FlatInserted {
+        FlatInserted {
+            refusal: store_outcome(i.answer).into(),
+            count: i.count,
+            not_simple: i.not_simple,
+        }
     }
 }
 
-fn flat_look(l: Look) -> FlatLook
-    ensures { result ≡ flat_look l }
-{
-    let outcome = l.outcome();
-    match outcome {
-        LookOutcome::Finds => FlatLook {
-            refusal: flat_no_refusal(),
-            found: true,
-        },
-        LookOutcome::FindsNone => FlatLook {
-            refusal: flat_no_refusal(),
-            found: false,
-        },
-        LookOutcome::CannotLook(refusal) => FlatLook {
-            refusal: flat_refusal(refusal),
-            found: false,
-        },
+impl From<Result<bool, LookError>> for FlatLook {
+    ghost from_gives = { λ l f. f ≡ flat_look l };
+
+    fn from(looked: Result<bool, LookError>) -> FlatLook {
+        match looked {
+            Ok(found) => FlatLook {
+                refusal: FlatRefusal::NONE,
+                found,
+            },
+            Err(e) => FlatLook {
+                refusal: e.refusal().into(),
+                found: false,
+            },
+        }
+    }
+}
+
+impl From<Saved> for FlatSaved {
+    ghost from_gives = { λ s f. f ≡ flat_saved s };
+
+    fn from(s: Saved) -> FlatSaved {
+        FlatSaved {
+            refusal: save_outcome(s.answer).into(),
+            map: s.map.into(),
+        }
     }
 }
 
@@ -80,7 +86,7 @@ pub extern "C" fn raspteal_store_clear(index: &mut [u8], text: &mut [u8]) -> Fla
     ensures index_after { index.new ≡ (store_clear index.old text.old).index }
     ensures text_after { text.new ≡ (store_clear index.old text.old).text }
 {
-    flat_outcome(store::calls::clear(index, text).outcome())
+    store_outcome(store::calls::clear(index, text)).into()
 }
 
 #[unsafe(no_mangle)]
@@ -94,18 +100,7 @@ pub extern "C" fn raspteal_store_insert(
     ensures index_after { index.new ≡ (store_insert index.old text.old (party_in party) lines.now).index }
     ensures text_after { text.new ≡ (store_insert index.old text.old (party_in party) lines.now).text }
 {
-    flat_inserted(store::calls::insert(index, text, party_of(party), lines))
-}
-
-fn flat_saved(s: Saved) -> FlatSaved
-    ensures { result ≡ flat_saved s }
-{
-    let answer = s.answer;
-    let map = s.map;
-    FlatSaved {
-        refusal: flat_outcome(answer.outcome()),
-        map: flat_mapping(map),
-    }
+    store::calls::insert(index, text, party.into(), lines).into()
 }
 
 #[unsafe(no_mangle)]
@@ -123,17 +118,17 @@ pub extern "C" fn raspteal_store_save(
     ensures index_after { index.new ≡ (store_save index.old text.old (party_in party) (save_args (data_in «data») buttons.now axes.now name.now (uuid_in id))).index }
     ensures text_after { text.new ≡ (store_save index.old text.old (party_in party) (save_args (data_in «data») buttons.now axes.now name.now (uuid_in id))).text }
 {
-    let d = data_of(data);
-    flat_saved(store::calls::save(
+    store::calls::save(
         index,
         text,
-        party_of(party),
-        d,
+        party.into(),
+        data.into(),
         buttons,
         axes,
         name,
-        uuid_of(id),
-    ))
+        id.into(),
+    )
+    .into()
 }
 
 #[unsafe(no_mangle)]
@@ -145,7 +140,7 @@ pub extern "C" fn raspteal_store_found(
 ) -> FlatLook
     ensures { result ≡ flat_look (says_of (look_up (party_in party) (uuid_in id) index.now text.now)) }
 {
-    flat_look(store::calls::found(index, text, party_of(party), uuid_of(id)))
+    store::calls::found(index, text, party.into(), id.into()).into()
 }
 
 // A reference can't be returned to C: the line is copied to the start of `out`.
@@ -160,6 +155,6 @@ pub extern "C" fn raspteal_store_get(
     ensures value { result ≡ flat_written (write_answer out.old 0 (line_of (look_up (party_in party) (uuid_in id) index.now text.now))) }
     ensures out_after { out.new ≡ write_buffer out.old 0 (line_of (look_up (party_in party) (uuid_in id) index.now text.now)) }
 {
-    let line = store::calls::get(index, text, party_of(party), uuid_of(id));
-    flat_written(write_bytes(out, 0, line))
+    let line = store::calls::get(index, text, party.into(), id.into());
+    write_bytes(out, 0, line).into()
 }

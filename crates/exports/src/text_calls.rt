@@ -6,9 +6,8 @@ ghost use Rattle.text.specs.Uuid.{uuid_of, uuid_text, without_checksum};
 ghost use Rattle.text.specs.Decimal.{index_number, decimal};
 ghost use Rattle.exports.specs.Flat.{flat_written, flat_uuid, flat_uuid_parse, flat_index_parse, uuid_in};
 
-use crate::flat::{FlatUuid, FlatWritten, flat_uuid, flat_written, form_number};
-use text::decimal::IndexParse;
-use text::uuid::{Uuid, UuidParse};
+use crate::flat::{FlatUuid, FlatWritten, form_number};
+use text::uuid::{Spelled, Uuid};
 
 #[repr(C)]
 #[derive(Clone, Copy)]
@@ -51,7 +50,7 @@ pub extern "C" fn raspteal_write_bytes(out: &mut [u8], at: usize, v: &[u8]) -> F
     ensures value { result ≡ flat_written (write_answer out.old at v.now) }
     ensures out_after { out.new ≡ write_buffer out.old at v.now }
 {
-    flat_written(text::bytes::write_bytes(out, at, v))
+    text::bytes::write_bytes(out, at, v).into()
 }
 
 #[unsafe(no_mangle)]
@@ -72,27 +71,25 @@ pub extern "C" fn raspteal_is_utf8(s: &[u8]) -> bool
 pub extern "C" fn raspteal_uuid_parse_str(s: &[u8]) -> FlatUuidParse
     ensures { result ≡ flat_uuid_parse (uuid_of s.now) }
 {
-    flat_uuid_parse(Uuid::parse_str(s))
+    Uuid::parse_str(s).into()
 }
 
-fn flat_uuid_parse(p: UuidParse) -> FlatUuidParse
-    ensures { result ≡ flat_uuid_parse p }
-{
-    match p {
-        UuidParse::Parsed(spelled) => {
-            let id = spelled.id;
-            let form = spelled.form;
-            FlatUuidParse {
+impl From<Option<Spelled>> for FlatUuidParse {
+    ghost from_gives = { λ p f. f ≡ flat_uuid_parse p };
+
+    fn from(parsed: Option<Spelled>) -> FlatUuidParse {
+        match parsed {
+            Some(spelled) => FlatUuidParse {
                 valid: true,
-                id: flat_uuid(id),
-                form: form_number(form),
-            }
+                id: spelled.id.into(),
+                form: form_number(spelled.form),
+            },
+            None => FlatUuidParse {
+                valid: false,
+                id: FlatUuid::NIL,
+                form: 0,
+            },
         }
-        UuidParse::Invalid => FlatUuidParse {
-            valid: false,
-            id: FlatUuid { high: 0, low: 0 },
-            form: 0,
-        },
     }
 }
 
@@ -101,42 +98,31 @@ pub extern "C" fn raspteal_uuid_write_simple(id: FlatUuid, out: &mut [u8], at: u
     ensures value { result ≡ flat_written (write_answer out.old at (uuid_text (uuid_in id))) }
     ensures out_after { out.new ≡ write_buffer out.old at (uuid_text (uuid_in id)) }
 {
-    let u = Uuid {
-        high: id.high,
-        low: id.low,
-    };
-    flat_written(u.write_simple(out, at))
+    Uuid::from(id).write_simple(out, at).into()
 }
 
 #[unsafe(no_mangle)]
 pub extern "C" fn raspteal_uuid_without_checksum(id: FlatUuid) -> FlatUuid
     ensures { result ≡ flat_uuid (without_checksum (uuid_in id)) }
 {
-    let high = id.high;
-    let low = id.low;
-    let whole = Uuid { high, low };
-    flat_uuid(whole.without_checksum())
+    Uuid::from(id).without_checksum().into()
 }
 
 #[unsafe(no_mangle)]
 pub extern "C" fn raspteal_parse_u16(s: &[u8]) -> FlatIndexParse
     ensures { result ≡ flat_index_parse (index_number s.now) }
 {
-    flat_index_parse(text::decimal::parse_u16(s))
+    text::decimal::parse_u16(s).into()
 }
 
-fn flat_index_parse(p: IndexParse) -> FlatIndexParse
-    ensures { result ≡ flat_index_parse p }
-{
-    match p {
-        IndexParse::Parsed(number) => FlatIndexParse {
-            valid: true,
-            number,
-        },
-        IndexParse::Invalid => FlatIndexParse {
-            valid: false,
-            number: 0,
-        },
+impl From<Option<u16>> for FlatIndexParse {
+    ghost from_gives = { λ p f. f ≡ flat_index_parse p };
+
+    fn from(parsed: Option<u16>) -> FlatIndexParse {
+        FlatIndexParse {
+            valid: parsed.is_some(),
+            number: parsed.unwrap_or(0),
+        }
     }
 }
 
@@ -152,5 +138,5 @@ pub extern "C" fn raspteal_write_index(out: &mut [u8], at: usize, n: usize) -> F
     ensures value { result ≡ flat_written (write_answer out.old at (decimal n)) }
     ensures out_after { out.new ≡ write_buffer out.old at (decimal n) }
 {
-    flat_written(text::decimal::write_index(out, at, n))
+    text::decimal::write_index(out, at, n).into()
 }

@@ -10,13 +10,15 @@ ghost use Rattle.exports.specs.FlatMaps.{mapping_in};
 ghost use Rattle.exports.specs.FlatPads.{raw_of};
 ghost use Rattle.exports.specs.FlatTwo.{which_of, flat_pads, pads_in, flat_pads_told};
 
-use crate::flat::{FlatElement, FlatRefusal, element_of, flat_outcome};
-use crate::flat_mapping::{FlatMapping, mapping_of};
+use crate::flat::{FlatElement, FlatRefusal};
+use crate::flat_mapping::FlatMapping;
 use crate::pad_calls::raw_of;
-use crate::state_calls::{FlatEvent, FlatPad, flat_events, flat_pad, pad_of};
+use crate::state_calls::{FlatEvent, FlatPad};
 use line::ev::Code;
 use pad::events::ELEMENTS;
+use pad::state::pad_outcome;
 use pad::two::{Pads, PadsTold, Which};
+use std::array;
 
 // The pads of one player.
 #[repr(C)]
@@ -26,7 +28,7 @@ pub struct FlatPads {
     pub second: FlatPad,
 }
 
-// The state after a call, and its events: the first `count` of the list.
+// The state after a call, and its events: the first `count` of the list. FlatTold with two pads: C has no generic structs.
 #[repr(C)]
 #[derive(Clone, Copy)]
 pub struct FlatPadsTold {
@@ -40,46 +42,41 @@ pub struct FlatPadsTold {
 fn which_of(second: bool) -> Which
     ensures { result ≡ which_of second }
 {
-    if second {
-        return Which::Second;
-    }
-    Which::First
+    if second { Which::Second } else { Which::First }
 }
 
-fn flat_pads(p: Pads) -> FlatPads
-    ensures { result ≡ flat_pads p }
-{
-    let first = p.first;
-    let second = p.second;
-    FlatPads {
-        first: flat_pad(first),
-        second: flat_pad(second),
+impl From<Pads> for FlatPads {
+    ghost from_gives = { λ p f. f ≡ flat_pads p };
+
+    fn from(p: Pads) -> FlatPads {
+        FlatPads {
+            first: p.first.into(),
+            second: p.second.into(),
+        }
     }
 }
 
-fn pads_of(f: FlatPads) -> Pads
-    ensures { result ≡ pads_in f }
-{
-    let first = f.first;
-    let second = f.second;
-    Pads {
-        first: pad_of(first),
-        second: pad_of(second),
+impl From<FlatPads> for Pads {
+    ghost from_gives = { λ f p. p ≡ pads_in f };
+
+    fn from(f: FlatPads) -> Pads {
+        Pads {
+            first: f.first.into(),
+            second: f.second.into(),
+        }
     }
 }
 
-fn flat_pads_told(t: PadsTold) -> FlatPadsTold
-    ensures { result ≡ flat_pads_told t }
-{
-    let answer = t.answer;
-    let next = t.pads;
-    let told = t.events;
-    let list = told.list;
-    FlatPadsTold {
-        refusal: flat_outcome(answer.outcome()),
-        pads: flat_pads(next),
-        count: told.count,
-        events: flat_events(list),
+impl From<PadsTold> for FlatPadsTold {
+    ghost from_gives = { λ t f. f ≡ flat_pads_told t };
+
+    fn from(t: PadsTold) -> FlatPadsTold {
+        FlatPadsTold {
+            refusal: pad_outcome(t.answer).into(),
+            pads: t.pads.into(),
+            count: t.events.count,
+            events: array::from_fn(|i| t.events.list[i].into()),
+        }
     }
 }
 
@@ -87,7 +84,7 @@ fn flat_pads_told(t: PadsTold) -> FlatPadsTold
 pub extern "C" fn raspteal_pads_new() -> FlatPads
     ensures { result ≡ flat_pads new_pads }
 {
-    flat_pads(Pads::new())
+    Pads::new().into()
 }
 
 #[unsafe(no_mangle)]
@@ -101,7 +98,9 @@ pub extern "C" fn raspteal_pads_raw_event(
     ensures { (result ≡ flat_pads_told (pads_raw_event_of (pads_in pads) (which_of second) (code_of code) (raw_of raw v)))
         × RawWithin (raw_of raw v) }
 {
-    flat_pads_told(pads_of(pads).raw_event(which_of(second), Code(code), raw_of(raw, v)))
+    Pads::from(pads)
+        .raw_event(which_of(second), Code(code), raw_of(raw, v))
+        .into()
 }
 
 #[unsafe(no_mangle)]
@@ -113,12 +112,14 @@ pub extern "C" fn raspteal_pads_change_map(
     ensures { (result ≡ flat_pads_told (pads_change_map_of (pads_in pads) (which_of second) (mapping_in map)))
         × ShortAll (held (mapping_in map)) }
 {
-    flat_pads_told(pads_of(pads).change_map(which_of(second), mapping_of(map)))
+    Pads::from(pads)
+        .change_map(which_of(second), map.into())
+        .into()
 }
 
 #[unsafe(no_mangle)]
 pub extern "C" fn raspteal_pads_value(pads: FlatPads, e: FlatElement) -> i16
     ensures { result ≡ pads_value (pads_in pads) (element_of e) }
 {
-    pads_of(pads).value(element_of(e))
+    Pads::from(pads).value(e.into())
 }

@@ -6,237 +6,166 @@ use desk::console::{Console, argument, argument_count, is_too_long, print};
 use desk::fields::{after, before};
 use desk::files::arg_space;
 use desk::help::wrong_use;
-use desk::say::{STATUS, TROUBLE, complain};
+use desk::say::{Failure, STATUS, complain, exit_status};
 use desk::{advice, help};
 use desk_pads::{elements, layout, plugged, tidying};
+use desk_store::targets::Target;
 use desk_store::{
     demo, editing, exporting, filing, holding, inserting, lint, mappings, removing, saving, shares,
     testing,
 };
 use std::process::ExitCode;
-use text::bytes::same_bytes;
-use text::decimal::{IndexParse, parse_u16};
-
-// More arguments than there are.
-const MANY: usize = 4294967295;
+use text::decimal::parse_u16;
 
 // What a shell says of a program that SIGPIPE ended.
 const READER_GONE: u8 = 141;
 
-fn nth(at: usize, n: usize) -> usize {
-    std::num::wrapping_add_usize(at, n)
+// A command: its name, how many arguments follow it, and the first two of them; the place of its name among all
+// arguments; and what the script `hub` says of the store, which is the first argument where there is one.
+#[derive(Clone, Copy)]
+struct Call<'a> {
+    name: &'a [u8],
+    given: usize,
+    a: &'a [u8],
+    b: &'a [u8],
+    at: usize,
+    held: Held,
 }
 
-// How many arguments stand after the one at `at`.
-fn given_after(console: &Console, at: usize) -> usize {
-    let count = argument_count(console);
-    if at < count {
-        return count - at - 1;
+impl<'a> Call<'a> {
+    // The store that the command changes.
+    fn target(&self) -> Target<'a> {
+        Target {
+            path: self.a,
+            held: self.held,
+        }
     }
-    0
+
+    // The place behind the first `n` arguments.
+    fn behind(&self, n: usize) -> usize {
+        self.at.wrapping_add(n).wrapping_add(1)
+    }
+
+    // Whether one of the three asks for help.
+    fn asks_for_help(&self) -> bool {
+        is_help(self.name) || is_help(self.a) || is_help(self.b)
+    }
 }
 
-// Whether it is that command, with at least and at most so many arguments.
-fn is(command: &[u8], name: &[u8], given: usize, least: usize, most: usize) -> bool {
-    if given < least {
-        return false;
-    }
-    if most < given {
-        return false;
-    }
-    same_bytes(command, name)
-}
-
-// Whether an argument asks for help.
 fn is_help(arg: &[u8]) -> bool {
-    if same_bytes(arg, b"--help") {
-        return true;
-    }
-    same_bytes(arg, b"-h")
+    matches!(arg, b"--help" | b"-h")
 }
 
 // `hub help COMMAND`, `hub help elements`, `hub help NUMBER`
-fn help_about(console: &Console, what: &[u8]) -> u8 {
-    if same_bytes(what, b"elements") {
-        return elements::help_on_elements(console);
+fn help_about(console: &Console, what: &[u8]) -> Result<(), Failure> {
+    if what == b"elements".as_slice() {
+        elements::help_on_elements(console);
+        return Ok(());
     }
-    let number = parse_u16(what);
-    match number {
-        IndexParse::Parsed(n) => advice::help_on_refusal(console, n as usize),
-        IndexParse::Invalid => help::help_on(console, what),
+    match parse_u16(what) {
+        Some(n) => advice::help_on_refusal(console, usize::from(n)),
+        None => help::help_on(console, what),
     }
+}
+
+// `hub --help`, `hub COMMAND --help`
+fn run_help(console: &Console, call: &Call) -> Result<(), Failure> {
+    if is_help(call.name) {
+        help::help(console);
+        return Ok(());
+    }
+    help::help_on(console, call.name)
 }
 
 // `hub pad`, `hub pad from=FILE`
-fn pads_asked(console: &Console, a: &[u8]) -> u8 {
-    if a.len() == 0 {
+fn run_pad(console: &Console, call: &Call) -> Result<(), Failure> {
+    let copy = after(call.a, b'=');
+    if call.a.is_empty() {
         return plugged::list_pads(console, b"");
     }
-    let copy = after(a, b'=');
-    if same_bytes(before(a, b'='), b"from") {
-        if 0 < copy.len() {
-            return plugged::list_pads(console, copy);
-        }
+    if before(call.a, b'=') == b"from".as_slice() && !copy.is_empty() {
+        return plugged::list_pads(console, copy);
     }
-    wrong_use(console, b"pad")
+    Err(wrong_use(console, b"pad"))
 }
 
 // `hub default ..`
-fn run_default(console: &Console, at: usize, given: usize, a: &[u8], b: &[u8]) -> u8 {
-    if plugged::is_pad_name(a) {
-        return mappings::default_pad(console, a, nth(at, 2));
+fn run_default(console: &Console, call: &Call) -> Result<(), Failure> {
+    if plugged::is_pad_name(call.a) {
+        return mappings::default_pad(console, call.a, call.behind(1));
     }
-    if given < 3 {
-        if same_bytes(a, b"layout") {
-            return layout::default_layout(console, b);
+    if call.given < 3 && call.a == b"layout".as_slice() {
+        return layout::default_layout(console, call.b);
+    }
+    mappings::default_mapping(console, call.behind(0))
+}
+
+// The commands on a store.
+fn run_on_store(console: &Console, call: &Call) -> Result<(), Failure> {
+    let (path, key, from) = (call.a, call.b, call.behind(2));
+    match (call.name, call.given) {
+        (b"find", 2..) => holding::find_line(console, path, key, from),
+        (b"list", 1) => holding::list_store(console, path),
+        (b"export", 1..) => exporting::export_store(console, path, call.behind(1)),
+        (b"check", 1) => holding::check_store(console, path),
+        (b"shares", 1) => shares::list_shares(console, path),
+        (b"show", 2..) => mappings::show_mapping(console, path, key, from),
+        (b"test", 2..) => testing::test_mapping(console, path, key, from),
+        (b"new", 1) => filing::new_store(console, call.target()),
+        (b"insert", 2..) => inserting::insert_list(console, call.target(), key, from),
+        (b"save", 3..) => saving::save_mapping(console, call.target(), key, from),
+        (b"share", 3) => shares::give_share(console, call.target(), key, from),
+        (b"edit", 3..) => editing::edit_line(console, call.target(), key, from),
+        (b"remove", 2..) => removing::remove_line(console, call.target(), key, from),
+        (b"clear", 1) => filing::clear_store(console, call.target()),
+        (b"undo", 1) => filing::undo(console, call.target()),
+        _ => Err(wrong_use(console, call.name)),
+    }
+}
+
+// Help, or a command; those that need no store stand here.
+fn run_command(console: &Console, call: &Call) -> Result<(), Failure> {
+    if call.asks_for_help() {
+        return run_help(console, call);
+    }
+    match (call.name, call.given) {
+        (b"--version", _) => {
+            help::version(console);
+            Ok(())
         }
+        (b"help", 1) => help_about(console, call.a),
+        (b"help", 0) => {
+            help::help(console);
+            Ok(())
+        }
+        (b"lint", 1) => lint::lint_list(console, call.a),
+        (b"tidy", 1) => tidying::tidy_list(console, call.a),
+        (b"default", _) => run_default(console, call),
+        (b"pad", 0..=1) => run_pad(console, call),
+        (b"demo", 0) => demo::demo(console),
+        _ => run_on_store(console, call),
     }
-    mappings::default_mapping(console, nth(at, 1))
-}
-
-// The commands that change a store.
-fn run_changing(
-    console: &Console,
-    held: Held,
-    command: &[u8],
-    at: usize,
-    given: usize,
-    a: &[u8],
-    b: &[u8],
-) -> u8 {
-    if is(command, b"new", given, 1, 1) {
-        return filing::new_store(console, held, a);
-    }
-    if is(command, b"insert", given, 2, MANY) {
-        return inserting::insert_list(console, held, a, b, nth(at, 3));
-    }
-    if is(command, b"save", given, 3, MANY) {
-        return saving::save_mapping(console, held, a, b, nth(at, 3));
-    }
-    if is(command, b"share", given, 3, 3) {
-        return shares::give_share(console, held, a, b, nth(at, 3));
-    }
-    if is(command, b"edit", given, 3, MANY) {
-        return editing::edit_line(console, held, a, b, nth(at, 3));
-    }
-    if is(command, b"remove", given, 2, MANY) {
-        return removing::remove_line(console, held, a, b, nth(at, 3));
-    }
-    if is(command, b"clear", given, 1, 1) {
-        return filing::clear_store(console, held, a);
-    }
-    if is(command, b"undo", given, 1, 1) {
-        return filing::undo(console, held, a);
-    }
-    wrong_use(console, command)
-}
-
-// The commands that look into a store.
-fn run_looking(
-    console: &Console,
-    held: Held,
-    command: &[u8],
-    at: usize,
-    given: usize,
-    a: &[u8],
-    b: &[u8],
-) -> u8 {
-    if is(command, b"find", given, 2, MANY) {
-        return holding::find_line(console, a, b, nth(at, 3));
-    }
-    if is(command, b"list", given, 1, 1) {
-        return holding::list_store(console, a, true);
-    }
-    if is(command, b"export", given, 1, MANY) {
-        return exporting::export_store(console, a, nth(at, 2));
-    }
-    if is(command, b"check", given, 1, 1) {
-        return holding::list_store(console, a, false);
-    }
-    if is(command, b"shares", given, 1, 1) {
-        return shares::list_shares(console, a);
-    }
-    if is(command, b"show", given, 2, MANY) {
-        return mappings::show_mapping(console, a, b, nth(at, 3));
-    }
-    if is(command, b"test", given, 2, MANY) {
-        return testing::test_mapping(console, a, b, nth(at, 3));
-    }
-    run_changing(console, held, command, at, given, a, b)
-}
-
-// The commands that need no store.
-fn run_storeless(
-    console: &Console,
-    held: Held,
-    command: &[u8],
-    at: usize,
-    given: usize,
-    a: &[u8],
-    b: &[u8],
-) -> u8 {
-    if is(command, b"lint", given, 1, 1) {
-        return lint::lint_list(console, a);
-    }
-    if is(command, b"tidy", given, 1, 1) {
-        return tidying::tidy_list(console, a);
-    }
-    if is(command, b"default", given, 0, MANY) {
-        return run_default(console, at, given, a, b);
-    }
-    if is(command, b"pad", given, 0, 1) {
-        return pads_asked(console, a);
-    }
-    if is(command, b"demo", given, 0, 0) {
-        return demo::demo(console);
-    }
-    run_looking(console, held, command, at, given, a, b)
-}
-
-// Help, or a command.
-fn run_command(
-    console: &Console,
-    held: Held,
-    command: &[u8],
-    at: usize,
-    given: usize,
-    a: &[u8],
-    b: &[u8],
-) -> u8 {
-    if is_help(command) {
-        return help::help(console);
-    }
-    if is_help(a) {
-        return help::help_on(console, command);
-    }
-    if is_help(b) {
-        return help::help_on(console, command);
-    }
-    if same_bytes(command, b"--version") {
-        return help::version(console);
-    }
-    if is(command, b"help", given, 1, 1) {
-        return help_about(console, a);
-    }
-    if is(command, b"help", given, 0, 0) {
-        return help::help(console);
-    }
-    run_storeless(console, held, command, at, given, a, b)
 }
 
 // Runs the command at argument `at`.
-fn run(console: &Console, held: Held, at: usize) -> u8 {
-    let given = given_after(console, at);
-    let mut command = arg_space();
-    let n = argument(console, at, &mut command);
-    let mut a = arg_space();
-    let an = argument(console, nth(at, 1), &mut a);
-    let mut b = arg_space();
-    let bn = argument(console, nth(at, 2), &mut b);
-    if argument_count(console) <= at {
-        return help::help(console);
+fn run(console: &Console, held: Held, at: usize) -> Result<(), Failure> {
+    let count = argument_count(console);
+    if count <= at {
+        help::help(console);
+        return Ok(());
     }
-    run_command(console, held, &command[..n], at, given, &a[..an], &b[..bn])
+    let mut name = arg_space();
+    let mut a = arg_space();
+    let mut b = arg_space();
+    let call = Call {
+        name: argument(console, at, &mut name),
+        given: count - at - 1,
+        a: argument(console, at.wrapping_add(1), &mut a),
+        b: argument(console, at.wrapping_add(2), &mut b),
+        at,
+        held,
+    };
+    run_command(console, &call)
 }
 
 // Whether an argument is no longer than the most.
@@ -245,25 +174,12 @@ fn has_room(console: &Console, i: usize) -> bool {
     !is_too_long(console, i, &mut space)
 }
 
-// Whether all arguments are.
-fn all_have_room(console: &Console) -> bool {
-    let count = argument_count(console);
-    let mut i: usize = 1;
-    while i < count {
-        if !has_room(console, i) {
-            return false;
-        }
-        i += 1;
-    }
-    true
-}
-
-fn run_all(console: &Console, held: Held, at: usize) -> u8 {
-    if all_have_room(console) {
+fn run_all(console: &Console, held: Held, at: usize) -> Result<(), Failure> {
+    if (1..argument_count(console)).all(|i| has_room(console, i)) {
         return run(console, held, at);
     }
     complain(console, b"an argument may have at most 16384 bytes\n");
-    TROUBLE
+    Err(Failure::Trouble)
 }
 
 // The status with which the program itself ends.
@@ -279,16 +195,12 @@ fn exit_code(console: &Console) -> ExitCode {
 fn main(rt: HostRuntime) -> ExitCode {
     let console = Console::new(rt);
     let mut space = arg_space();
-    let n = argument(&console, 1, &mut space);
-    if same_bytes(&space[..n], b"--script") {
+    if argument(&console, 1, &mut space) == b"--script".as_slice() {
         console.serve_script();
-        print(
-            &console,
-            STATUS,
-            run_all(&console, held_from(&console, 2), 6),
-        );
+        let done = run_all(&console, held_from(&console, 2), 6);
+        print(&console, STATUS, exit_status(done));
     } else {
-        run_all(&console, not_held(), 1);
+        let _ = run_all(&console, not_held(), 1);
     }
     exit_code(&console)
 }

@@ -17,19 +17,11 @@ const LAST: u32 = 0x102ff;
 fn button_by_rule(code: u32) -> u8
     ensures { result ≡ key_number code }
 {
-    if code < 0x10130 {
-        return 0;
+    match code {
+        0x10130..=0x1013e => (code - 0x10130 + 1) as u8,
+        0x10220..=0x10223 => (code - 0x10220 + 16) as u8,
+        _ => 0,
     }
-    if code <= 0x1013e {
-        return (code - 0x10130 + 1) as u8;
-    }
-    if code < 0x10220 {
-        return 0;
-    }
-    if code <= 0x10223 {
-        return (code - 0x10220 + 16) as u8;
-    }
-    0
 }
 
 fn main(rt: HostRuntime) -> io::Result<()> {

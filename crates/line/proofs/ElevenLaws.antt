@@ -1,4 +1,5 @@
 -- A reading answers 11 exactly where a pair of its line puts a 257th unlike code. Assumes nothing.
+use Rattle.std.specs.Prelude.{Option, Some, None, Result, Ok, Err, ⊤}
 use Prim.Native.Nat.{ℕ, ◌+◌}
 use mathlib.Core.Path.{◌≡◌, refl, sym, ap, subst, ◌∙◌}
 use mathlib.Core.Bool.{Bool, true, false}
@@ -6,18 +7,13 @@ use mathlib.Core.List.{List, [], ◌∷◌}
 use native.Mathlib.Omega.{arith}
 use lib.Dec.{eqb}
 use lib.ListN.{length, drop}
+use Rattle.line.specs.declared.reading.ParseSdlMappingError.{ParseSdlMappingError}
 use Rattle.text.specs.Bytes.{pick, byte, first_of}
 use Rattle.text.specs.Utf8.{valid_run, is_utf8}
 use Rattle.text.specs.declared.uuid.Spelled.{Spelled}
-use Rattle.text.specs.declared.uuid.UuidParse.{UuidParse}
-use Rattle.text.specs.declared.uuid.UuidParse.TheVariants as Up
 use Rattle.line.specs.declared.reading.ParseSdlMappingError.TheVariants as Pe
-use Rattle.line.specs.declared.reading.SdlAnswer.{SdlAnswer}
-use Rattle.line.specs.declared.reading.SdlAnswer.TheVariants.{Accepted, Refused}
 use Rattle.line.specs.declared.reading.SdlMapping.{SdlMapping}
 use Rattle.line.specs.declared.refusal.Refusal.{Refusal}
-use Rattle.line.specs.declared.refusal.Outcome.{Outcome}
-use Rattle.line.specs.declared.refusal.Outcome.TheVariants.{Passes, Refuses}
 use Rattle.line.specs.Maps.{to_map, empty_map}
 use Rattle.line.specs.Fields.{fields_of, first_field, later_fields}
 use Rattle.line.specs.Refusals.{refusal, refusal_at, reading_error_of, reading_outcome}
@@ -30,33 +26,33 @@ use Rattle.line.proofs.OverfullLaws.{Eleven, no_11, OverFrom, only_over, over_sa
 use Rattle.line.proofs.ReadBack.{named, shaped, line_shape}
 
 -- ---- 11 is that of one case
-abbrev refusal_in : Outcome → Refusal
-refusal_in Passes = refusal 0
-refusal_in (Refuses r) = r
+abbrev refusal_in : Result ⊤ Refusal → Refusal
+refusal_in (Ok u) = refusal 0
+refusal_in (Err r) = r
 
-answer_11 : (a : SdlAnswer) (p : ℕ) → reading_outcome a ≡ Refuses (refusal_at 11 p) → a ≡ Refused (Pe.TooManyCodes p)
-answer_11 Accepted p e =
-    let z : ◌≡◌ {A = ℕ} 0 11 = ap (λ (o : Outcome). (refusal_in o).number) e in
+answer_11 : (a : Result ⊤ ParseSdlMappingError) (p : ℕ) → reading_outcome a ≡ Err (refusal_at 11 p) → a ≡ Err (Pe.TooManyCodes p)
+answer_11 (Ok tt) p e =
+    let z : ◌≡◌ {A = ℕ} 0 11 = ap (λ (o : Result ⊤ Refusal). (refusal_in o).number) e in
     absurd (omega (arith, z))
-answer_11 (Refused x) p e =
-    ap Refused (sym (reading_one_to_one.case_back x) ∙ ap (λ (o : Outcome). reading_error_of (refusal_in o)) e)
+answer_11 (Err x) p e =
+    ap Err (sym (reading_one_to_one.case_back x) ∙ ap (λ (o : Result ⊤ Refusal). reading_error_of (refusal_in o)) e)
 
 -- a line without pairs
 module _ (buttons axes : List ℕ) (p : ℕ) where
-  head_not : (g : UuidParse) (k : ℕ) (t : List ℕ) → fields_of (drop (k + 1) t) ≡ []
+  head_not : (g : Option Spelled) (k : ℕ) (t : List ℕ) → fields_of (drop (k + 1) t) ≡ []
       → Eleven p (headed g 0 k t empty_map buttons axes) → ⊥
   unfolding named_from
-  head_not Up.Invalid k t e a = no_11 (refuses (refusal_at 1 0)).answer p refl a
-  head_not (Up.Parsed u) k t e a = by (eqb k (length t)) a
+  head_not None k t e a = no_11 (refuses (refusal_at 1 0)).answer p refl a
+  head_not (Some u) k t e a = by (eqb k (length t)) a
     where
       by : (b : Bool) → Eleven p (pick b (refuses (refusal_at 2 0))
           (named_from (0 + k + 1) (fields_of (drop (k + 1) t)) (with_name empty_map (0 + k + 1) 0) buttons axes)) → ⊥
       by true x = no_11 (refuses (refusal_at 2 0)).answer p refl x
-      by false x = no_11 Accepted p refl (rw e at x)
+      by false x = no_11 (Ok tt) p refl (rw e at x)
 
   bare_not : (t : List ℕ) → later_fields t ≡ [] → Eleven p (read_line t buttons axes) → ⊥
   unfolding read_line line_from
-  bare_not [] e a = no_11 Accepted p refl a
+  bare_not [] e a = no_11 (Ok tt) p refl a
   bare_not (b ∷ t) e a = head_not (guid_of (first_field (b ∷ t))) (first_of (byte ",") (b ∷ t)) (b ∷ t) e a
 
 -- a line with them
@@ -86,25 +82,25 @@ module _ (s buttons axes : List ℕ) (p : ℕ) where
         }
 
     -- what the pairs after a UUID and a name read as
-    line_pairs : (id : Spelled) → later_fields s ≡ n ∷ fs → guid_of (first_field s) ≡ Up.Parsed id
+    line_pairs : (id : Spelled) → later_fields s ≡ n ∷ fs → guid_of (first_field s) ≡ Some id
         → read_line s buttons axes ≡ pairs_from start fs (to_map (named comma n)) buttons axes
     line_pairs id e q =
-        line_shape buttons axes s n fs e ∙ ap (λ (g : UuidParse). shaped buttons axes g comma n fs) q
+        line_shape buttons axes s n fs e ∙ ap (λ (g : Option Spelled). shaped buttons axes g comma n fs) q
 
-    line_broken : later_fields s ≡ n ∷ fs → guid_of (first_field s) ≡ Up.Invalid
+    line_broken : later_fields s ≡ n ∷ fs → guid_of (first_field s) ≡ None
         → read_line s buttons axes ≡ refuses (refusal_at 1 0)
-    line_broken e q = line_shape buttons axes s n fs e ∙ ap (λ (g : UuidParse). shaped buttons axes g comma n fs) q
+    line_broken e q = line_shape buttons axes s n fs e ∙ ap (λ (g : Option Spelled). shaped buttons axes g comma n fs) q
 
   line_only : is_utf8 s ≡ true → lists_fit buttons axes ≡ true → Eleven p (read_line s buttons axes)
       → (l : List (List ℕ)) → later_fields s ≡ l → PutsTooMany s buttons axes p
   line_only u f a [] e = absurd (bare_not buttons axes p s e a)
   line_only u f a (n ∷ fs) e = by (guid_of (first_field s)) refl
     where
-      by : (g : UuidParse) → guid_of (first_field s) ≡ g → PutsTooMany s buttons axes p
-      by Up.Invalid q =
+      by : (g : Option Spelled) → guid_of (first_field s) ≡ g → PutsTooMany s buttons axes p
+      by None q =
           absurd (no_11 (refuses (refusal_at 1 0)).answer p refl
           (sym (ap (λ (r : SdlMapping). r.answer) (line_broken n fs e q)) ∙ a))
-      by (Up.Parsed id) q =
+      by (Some id) q =
           record {
             utf8 = u;
             fit = f;
@@ -148,7 +144,7 @@ module _ (s buttons axes : List ℕ) (p : ℕ) where
         axes).answer) o.are
         ∙ over_says buttons axes o.earlier o.pair o.later (start m.name m.pairs)
         (named comma m.name) (omega arith) o.go o.fit o.goes o.over
-        ∙ ap (λ (q : ℕ). Refused (Pe.TooManyCodes q)) place_is
+        ∙ ap (λ (q : ℕ). Err (Pe.TooManyCodes q)) place_is
 
     reading_says : Eleven p (reading_of s buttons axes)
     unfolding reading_of

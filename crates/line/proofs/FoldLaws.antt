@@ -1,4 +1,5 @@
 -- Pairs that go, and whose entries fit, are read: the map of all their puts. Assumes nothing.
+use Rattle.std.specs.Prelude.{Option, Some, None, Result, Ok, Err}
 use Prim.Native.Nat.{ℕ, ◌+◌, ◌≤◌}
 use mathlib.Core.Path.{◌≡◌, refl}
 use mathlib.Core.List.{List, [], ◌∷◌, ◌++◌}
@@ -7,12 +8,12 @@ use native.Mathlib.Omega.{arith}
 use borrow.Author.Tests.{le-leb}
 use lib.Bits.{bit_or}
 use lib.ListN.{length}
+use Rattle.line.specs.declared.parser.Error.{Error}
+use Rattle.line.specs.declared.parser.Token.{Token}
 use Rattle.text.specs.Bytes.{pick}
 use Rattle.text.proofs.ListLaws.{off}
 use Rattle.line.specs.declared.mapping.Entry.{Entry}
 use Rattle.line.specs.declared.parser.Token.TheVariants as Tk
-use Rattle.line.specs.declared.parser.Answer.{Answer}
-use Rattle.line.specs.declared.parser.Answer.TheVariants as An
 use Rattle.line.specs.declared.reading.puts.Puts.{Puts}
 use Rattle.line.specs.declared.reading.puts.Puts.TheVariants.{Nothing, Name, One, Two, UnknownHatDirection}
 use Rattle.line.specs.declared.reading.ParseSdlMappingError.TheVariants as Pe
@@ -71,27 +72,27 @@ unfolding puts_into or_all
 none_after v = refl
 
 module _ (v : MapView) (p q : ℕ) (buttons axes : List ℕ) where
-  abbrev pub Fits : Answer → Type 0
+  abbrev pub Fits : Option (Result Token Error) → Type 0
   Fits a = length (puts_into (answer_effect a buttons axes).puts v.list) ≤ codes_max
 
-  taken_fits : (a : Answer) → PairAnswer a → (answer_effect a buttons axes).goes ≡ true → Fits a
+  taken_fits : (a : Option (Result Token Error)) → PairAnswer a → (answer_effect a buttons axes).goes ≡ true → Fits a
       → taken (to_map v) a p q buttons axes
       ≡ accepted_of (to_map (after v (answer_effect a buttons axes).puts (answer_effect a buttons axes).flags))
   unfolding taken answer_effect puts_of PairAnswer
-  taken_fits (An.Found (Tk.Uuid u)) n g h = absurd n
-  taken_fits (An.Found (Tk.Name start len)) n g h = absurd n
-  taken_fits (An.Found (Tk.Platform start len)) n g h = puts_fit v p Nothing g h
-  taken_fits (An.Found (Tk.AxisMapping k to r)) n g h = puts_fit v p (listed axes k to r) g h
-  taken_fits (An.Found (Tk.ButtonMapping k to r)) n g h = puts_fit v p (listed buttons k to r) g h
-  taken_fits (An.Found (Tk.HatMapping k d to r)) n g h = puts_fit v p (hat_puts k d to r) g h
-  taken_fits (An.Refused e) n g h = passed_fits (skips e.kind) g
+  taken_fits (Some (Ok (Tk.Uuid u))) n g h = absurd n
+  taken_fits (Some (Ok (Tk.Name start len))) n g h = absurd n
+  taken_fits (Some (Ok (Tk.Platform start len))) n g h = puts_fit v p Nothing g h
+  taken_fits (Some (Ok (Tk.AxisMapping k to r))) n g h = puts_fit v p (listed axes k to r) g h
+  taken_fits (Some (Ok (Tk.ButtonMapping k to r))) n g h = puts_fit v p (listed buttons k to r) g h
+  taken_fits (Some (Ok (Tk.HatMapping k d to r))) n g h = puts_fit v p (hat_puts k d to r) g h
+  taken_fits (Some (Err e)) n g h = passed_fits (skips e.kind) g
     where
       passed_fits : (t : Bool) → (pick t (does [] []) stops).goes ≡ true
           → pick t (accepted_of (to_map v)) (refused_of (Pe.ParseError e))
           ≡ accepted_of (to_map (after v (pick t (does [] []) stops).puts (pick t (does [] []) stops).flags))
       passed_fits true g = none_after v
       passed_fits false g = absurd (off g)
-  taken_fits An.End n g h = none_after v
+  taken_fits None n g h = none_after v
 
 -- ---- pairs in line order
 module _ (buttons axes : List ℕ) where

@@ -1,5 +1,6 @@
 -- The form of a line's first token, by its three checks; it is that of what the walker's first call hands on.
 -- Assumes nothing.
+use Rattle.std.specs.Prelude.{Option, Some, None}
 use mathlib.Core.Bool.{Bool, true, false}
 use mathlib.Core.List.{List}
 use mathlib.Core.Path.{◌≡◌, refl, sym, ap, ◌∙◌}
@@ -10,39 +11,37 @@ use lib.Dec.{eqb, ltb}
 use lib.ListN.{length}
 use denote.Ref.{Bor}
 use borrow.Author.Tests.{eq-eqb, ne_eqb, lt-ltb, le-ltb}
+use Rattle.text.specs.declared.uuid.Spelled.{Spelled}
 use Rattle.text.specs.Bytes.{pick, byte, first_of}
 use Rattle.text.specs.Utf8.{is_utf8}
-use Rattle.text.specs.declared.uuid.UuidParse.{UuidParse}
-use Rattle.text.specs.declared.uuid.UuidParse.TheVariants as Up
 use Rattle.text.proofs.BytesLaws.{first_le}
 use Rattle.text.proofs.ListLaws.{lt_or_le}
-use Rattle.line.specs.declared.parser.FirstForm.TheVariants as Ff
 use Rattle.line.specs.Calls.{where_uuid, FormOfFirst}
 use Rattle.line.specs.Fields.{first_field}
 use Rattle.line.specs.Parser.{parser_of, step_from}
 use Rattle.line.specs.Walker.{start_of, guid_of, uuid_step, field_step_of, step_of, form_in, first_form}
 
-pub form_not_utf8 : (s : List ℕ) → is_utf8 s ≡ false → Ff.NoUuid ≡ first_form s
+pub form_not_utf8 : (s : List ℕ) → is_utf8 s ≡ false → None ≡ first_form s
 unfolding first_form
 form_not_utf8 s e = rw e refl
 
-pub form_no_comma : (s : List ℕ) → is_utf8 s ≡ true → first_of (byte ",") s ≡ length s → Ff.NoUuid ≡ first_form s
+pub form_no_comma : (s : List ℕ) → is_utf8 s ≡ true → first_of (byte ",") s ≡ length s → None ≡ first_form s
 unfolding first_form
 form_no_comma s e q = rw (e, eq-eqb (first_of (byte ",") s) (length s) q) refl
 
-pub form_read : (s : List ℕ) → is_utf8 s ≡ true → (first_of (byte ",") s ≡ length s → ⊥) → (g : UuidParse)
+pub form_read : (s : List ℕ) → is_utf8 s ≡ true → (first_of (byte ",") s ≡ length s → ⊥) → (g : Option Spelled)
     → guid_of (first_field s) ≡ g → form_in g ≡ first_form s
 unfolding first_form
 form_read s e q g p = ap form_in (sym p) ∙ rw (e, ne_eqb (first_of (byte ",") s) (length s) q) refl
 
 -- ---- what the first call hands on
 
-handed : (g : UuidParse) (p e n : ℕ) (b : Bool) → eqb e n ≡ b
-    → pick b Ff.NoUuid (form_in g) ≡ where_uuid (uuid_step g p e n).answer (form_in g)
-handed Up.Invalid p e n true q = refl
-handed Up.Invalid p e n false q = refl
-handed (Up.Parsed g) p e n true q = rw q refl
-handed (Up.Parsed g) p e n false q = rw q refl
+handed : (g : Option Spelled) (p e n : ℕ) (b : Bool) → eqb e n ≡ b
+    → pick b None (form_in g) ≡ where_uuid (uuid_step g p e n).answer (form_in g)
+handed None p e n true q = refl
+handed None p e n false q = refl
+handed (Some g) p e n true q = rw q refl
+handed (Some g) p e n false q = rw q refl
 
 module _ (s : Bor (List ℕ)) where
   abbrev Told : Type 0

@@ -1,5 +1,6 @@
 -- The idents of the 25 elements that a built line can name, and what a pair of an ident and an index puts.
 -- Assumes nothing.
+use Rattle.std.specs.Prelude.{Option, Some, None, Ok}
 use Prim.Native.Nat.{ℕ, zero, suc, ◌+◌, ◌-◌, ◌≤◌, ◌<◌}
 use mathlib.Core.Path.{◌≡◌, refl, ap, ◌∙◌}
 use mathlib.Core.List.{List, [], ◌∷◌, ◌++◌}
@@ -16,12 +17,9 @@ use Rattle.text.proofs.ListLaws.{both_parts}
 use Rattle.text.proofs.DecimalLaws.{read_back, decimal_all}
 use Rattle.line.specs.declared.ev.AxisOrBtn.{AxisOrBtn}
 use Rattle.line.specs.declared.ev.AxisOrBtn.TheVariants as El
-use Rattle.line.specs.declared.tables.KeyElement.{KeyElement}
-use Rattle.line.specs.declared.tables.KeyElement.TheVariants as Ke
 use Rattle.line.specs.declared.parser.AxisRange.{AxisRange}
 use Rattle.line.specs.declared.parser.AxisRange.TheVariants as Ar
 use Rattle.line.specs.declared.parser.Token.TheVariants as Tk
-use Rattle.line.specs.declared.parser.Answer.TheVariants as An
 use Rattle.line.specs.Elements.{code_of, same_element}
 use Rattle.line.specs.Maps.{entry_of}
 use Rattle.line.specs.Tables.{axes_sdl, axes_table, row_from, key_row, key_element, element_from, element_row, ident_text}
@@ -41,7 +39,7 @@ pub record Named (key : List ℕ) (e : AxisOrBtn) : Type 0 where
   pub commas : Free (byte ",") key
   pub sign : half_of key ≡ Ar.Full
   pub other : same key (ascii "platform") ≡ false
-  pub element : key_element key ≡ Ke.Is e
+  pub element : key_element key ≡ Some e
 
 -- ---- the one test: the idents of buttons 1 to 19 and axes 1 to 6
 abbrev is_full : AxisRange → Bool
@@ -49,9 +47,9 @@ is_full Ar.Full = true
 is_full Ar.UpperHalf = false
 is_full Ar.LowerHalf = false
 
-abbrev is_element : AxisOrBtn → KeyElement → Bool
-is_element e (Ke.Is x) = same_element x e
-is_element e Ke.Missing = false
+abbrev is_element : AxisOrBtn → Option AxisOrBtn → Bool
+is_element e (Some x) = same_element x e
+is_element e None = false
 
 abbrev is_not : Bool → Bool
 is_not true = false
@@ -104,9 +102,9 @@ same_is (El.Axis a) (El.Btn b) t = absurd t
 same_is (El.Btn a) (El.Axis b) t = absurd t
 same_is (El.Btn a) (El.Btn b) t = ap (λ (n : ℕ). El.Btn (record { 0 = n })) (eqb→eq a.0 b.0 t)
 
-element_is : (k : KeyElement) (e : AxisOrBtn) → T (is_element e k) → k ≡ Ke.Is e
-element_is (Ke.Is x) e t = ap (λ (y : AxisOrBtn). Ke.Is y) (same_is x e t)
-element_is Ke.Missing e t = absurd t
+element_is : (k : Option AxisOrBtn) (e : AxisOrBtn) → T (is_element e k) → k ≡ Some e
+element_is (Some x) e t = ap (λ (y : AxisOrBtn). Some y) (same_is x e t)
+element_is None e t = absurd t
 
 module _ (key : List ℕ) (e : AxisOrBtn) where
   named_by : T (names key e) → Named key e
@@ -173,7 +171,7 @@ module _ (key : List ℕ) (to : AxisOrBtn) (is : Named key to) (i : ℕ) where
 
   module _ (small : i ≤ number_max) where
     button_token_lem : pair_of (pair_text key (byte "b") i) 0
-        ≡ An.Found (Tk.ButtonMapping i to (ranges_of Ar.Full Ar.Full false))
+        ≡ Some (Ok (Tk.ButtonMapping i to (ranges_of Ar.Full Ar.Full false)))
     unfolding pair_of keyed_of value_of
     button_token_lem =
         let v = byte "b" ∷ decimal i in
@@ -191,7 +189,7 @@ module _ (key : List ℕ) (to : AxisOrBtn) (is : Named key to) (i : ℕ) where
           read_back i small,
         )
 
-    axis_token_lem : pair_of (pair_text key (byte "a") i) 0 ≡ An.Found (Tk.AxisMapping i to (ranges_of Ar.Full Ar.Full false))
+    axis_token_lem : pair_of (pair_text key (byte "a") i) 0 ≡ Some (Ok (Tk.AxisMapping i to (ranges_of Ar.Full Ar.Full false)))
     unfolding pair_of keyed_of value_of axis_value_of
     axis_token_lem =
         let v = byte "a" ∷ decimal i in

@@ -1,11 +1,11 @@
 -- The tables between document 01's numbers and the cases of the walker and of a reading are one to one: each case
 -- computes. Assumes nothing.
+use Rattle.std.specs.Prelude.{Result, Ok, Err, ⊤}
 use Prim.Native.Nat.{ℕ}
 use mathlib.Core.Path.{◌≡◌, refl}
+use Rattle.line.specs.declared.mapping.MapFull.{MapFull}
 use Rattle.line.specs.declared.parser.ErrorKind.{ErrorKind}
 use Rattle.line.specs.declared.parser.ErrorKind.TheVariants as Ek
-use Rattle.line.specs.declared.mapping.PutResult.{PutResult}
-use Rattle.line.specs.declared.mapping.PutResult.TheVariants as Pr
 use Rattle.line.specs.declared.reading.ParseSdlMappingError.{ParseSdlMappingError}
 use Rattle.line.specs.declared.reading.ParseSdlMappingError.TheVariants as Pe
 use Rattle.line.specs.Kinds.{kind_number, kind_of, KindsOneToOne}
@@ -47,9 +47,9 @@ error_back Pe.ListTooLong = refl
 pub reading_one_to_one : ReadingOneToOne
 reading_one_to_one = record { case_back = error_back; refusals_back = λ p. refl }
 
-put_back : (r : PutResult) → put_result_of (put_outcome r) ≡ r
-put_back Pr.Stored = refl
-put_back Pr.Full = refl
+put_back : (r : Result ⊤ MapFull) → put_result_of (put_outcome r) ≡ r
+put_back (Ok u) = refl
+put_back (Err f) = refl
 
 pub put_one_to_one : PutOneToOne
 put_one_to_one = record { case_back = put_back; refusal_back = refl }

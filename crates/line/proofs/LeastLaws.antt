@@ -1,5 +1,6 @@
 -- The reverse look-up gives the least code of an element: entry by entry, the lesser of the first one's and the rest's.
 -- Assumes nothing.
+use Rattle.std.specs.Prelude.{Option, Some, None}
 use Prim.Native.Nat.{ℕ, ◌≤◌, ◌<◌}
 use mathlib.Core.Path.{◌≡◌, refl, sym, ◌∙◌}
 use mathlib.Core.Bool.{Bool, true, false}
@@ -13,8 +14,6 @@ use Rattle.text.proofs.ListLaws.{off}
 use Rattle.line.specs.declared.ev.Code.{Code}
 use Rattle.line.specs.declared.ev.AxisOrBtn.{AxisOrBtn}
 use Rattle.line.specs.declared.mapping.Entry.{Entry}
-use Rattle.line.specs.declared.mapping.Source.{Source}
-use Rattle.line.specs.declared.mapping.Source.TheVariants.{From, Nowhere}
 use Rattle.line.specs.Elements.{same_element}
 use Rattle.line.specs.Maps.{map_rev_of, lesser}
 use Rattle.line.specs.Regrouping.{In, here, there}
@@ -41,10 +40,10 @@ module _ (el : AxisOrBtn) where
 
   module _ (x : Entry) (xs : List Entry) where
     -- the first entry is of another element
-    passed_over : (r : Source) → same_element x.element el ≡ false → LeastOrNone xs el r
+    passed_over : (r : Option Code) → same_element x.element el ≡ false → LeastOrNone xs el r
         → LeastOrNone (x ∷ xs) el r
-    passed_over Nowhere n h = λ e l. neither (λ y. off (sym n ∙ y)) h e l.0 l.1
-    passed_over (From c) n h =
+    passed_over None n h = λ e l. neither (λ y. off (sym n ∙ y)) h e l.0 l.1
+    passed_over (Some c) n h =
         record {
           entry = h.entry;
           leads = (there h.leads.0, h.leads.1);
@@ -53,7 +52,7 @@ module _ (el : AxisOrBtn) where
         }
 
     -- it is of that element, and the only one so far
-    alone : Of x → LeastOrNone xs el Nowhere → Least (x ∷ xs) el x.code
+    alone : Of x → LeastOrNone xs el None → Least (x ∷ xs) el x.code
     alone y h =
         record {
           entry = x;
@@ -85,16 +84,16 @@ module _ (el : AxisOrBtn) where
             least = λ e l. first_or_later x.code.0 (λ z. omega arith) (at_least k) e l.0 l.1;
           }
 
-      lesser_of : LeastOrNone (x ∷ xs) el (lesser x.code (From d))
+      lesser_of : LeastOrNone (x ∷ xs) el (lesser x.code (Some d))
       lesser_of = by (ltb d.0 x.code.0) refl
         where
-          by : (t : Bool) → ltb d.0 x.code.0 ≡ t → LeastOrNone (x ∷ xs) el (pick t (From d) (From x.code))
+          by : (t : Bool) → ltb d.0 x.code.0 ≡ t → LeastOrNone (x ∷ xs) el (pick t (Some d) (Some x.code))
           by true e = later_less (ltb-true d.0 x.code.0 e)
           by false e = first_less (ltb-false d.0 x.code.0 e)
 
-    with_first : (r : Source) → Of x → LeastOrNone xs el r → LeastOrNone (x ∷ xs) el (lesser x.code r)
-    with_first Nowhere y h = alone y h
-    with_first (From d) y h = lesser_of d y h
+    with_first : (r : Option Code) → Of x → LeastOrNone xs el r → LeastOrNone (x ∷ xs) el (lesser x.code r)
+    with_first None y h = alone y h
+    with_first (Some d) y h = lesser_of d y h
 
 pub least_code : (xs : List Entry) (el : AxisOrBtn) → LeastOrNone xs el (map_rev_of xs el)
 unfolding map_rev_of

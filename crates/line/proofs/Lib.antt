@@ -8,7 +8,6 @@ pub mod MapLaws
 pub mod PutLaws
 pub mod ViewLaws
 pub mod NumberLaws
-pub mod DraftLaws
 pub mod TurnLaws
 pub mod OfNumbersLaws
 -- the walker and the reading

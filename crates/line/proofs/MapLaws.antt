@@ -1,21 +1,19 @@
 -- Laws of maps that several proofs cite. Assumes nothing.
-use Prim.Native.Nat.{ℕ, suc, ◌+◌, ◌-◌, ◌<◌, ◌≤◌}
-use mathlib.Core.Path.{◌≡◌, sym, ap, subst, ◌∙◌}
-use mathlib.Core.List.{List, ◌∷◌, ◌++◌, append_assoc, map}
+use Rattle.std.specs.List.{find, position_or_len, copy_within}
+use Rattle.std.specs.Prelude.{Bool, true, false, not, cond, ltb, leb, eqb, Option, Some, None, Ok, Err, option_map, unwrap_or}
+use Prim.Native.Nat.{min, ℕ, zero, suc, ◌+◌, ◌-◌, ◌<◌, ◌≤◌}
+use mathlib.Core.Path.{◌≡◌, refl, sym, ap, ◌∙◌}
+use mathlib.Core.List.{List, [], ◌∷◌, ◌++◌, append_assoc, map}
 use native.Mathlib.Omega.{arith}
 use lib.ListN.{length, take, drop, get_or, set, length-map, length-set, length-take, drop_of_length-le}
-use lib.Seq.{drop-cons, drop-length, get_or-take, take-suc, set_split}
+use lib.Seq.{drop-cons, get_or-take}
 use native.Mathlib.Numerals.{add-one}
-use borrow.Author.Tests.{eq-eqb, ne_eqb, lt-ltb, le-ltb, le-leb, lt-leb}
+use borrow.Author.Tests.{eq-eqb, ne_eqb, lt-ltb, le-ltb, le-leb, lt-leb, leb-true, leb-false, ltb-true, ltb-false}
 use Rattle.line.specs.declared.mapping.Entry.{Entry}
 use Rattle.line.specs.declared.mapping.Mapping.{Mapping}
 use Rattle.line.specs.declared.ev.Code.{Code}
-use Rattle.line.specs.declared.mapping.PutAnswer.{PutAnswer}
-use Rattle.line.specs.declared.mapping.PutResult.TheVariants.{Stored, Full}
+use Rattle.line.specs.Maps.{PutAnswer}
 use Rattle.line.specs.declared.ev.AxisOrBtn.{AxisOrBtn}
-use Rattle.line.specs.declared.mapping.Source.TheVariants.{Nowhere}
-use Rattle.line.specs.declared.mapping.Mapped.TheVariants.{To, Nothing}
-use Rattle.line.specs.declared.mapping.Entered.TheVariants.{Is, Absent}
 use Rattle.text.specs.Bytes.{pick}
 use Rattle.line.specs.Elements.{same_element}
 use Rattle.line.specs.Maps.{codes_max, unused_entry, held, map_of, entry_at, put_entry, put_of, map_rev_of, lesser}
@@ -38,72 +36,116 @@ held-from m i d h =
     let k : i < m.count = omega (arith, simp length-take at h) in
     drop-cons (held m) i d h ∙ ap (λ (x : Entry). x ∷ drop (suc i) (held m)) (get_or-take m.count m.entries i d k)
 
--- ---- the look-up, entry by entry
-module _ (m : Mapping) (c : Code) (i : ℕ) where
-  pub map_hit : (d : Entry) → i < length (held m) → (get_or m.entries i d).code.0 ≡ c.0 → map_of (drop i (held m)) c
-      ≡ To (get_or m.entries i d).element
-  unfolding map_of
-  map_hit d h e = rw (held-from m i d h, eq-eqb _ _ e)
+-- ---- the look-up
+pub entry_found : (xs : List Entry) (c : Code) → find (λ x. eqb x.code.0 c.0) xs ≡ entry_at xs c
+unfolding entry_at
+entry_found [] c = refl
+entry_found (x ∷ xs) c = go (eqb x.code.0 c.0) (entry_found xs c)
+  where
+    go : (t : Bool) → find (λ y. eqb y.code.0 c.0) xs ≡ entry_at xs c
+        → cond t (Some x) (find (λ y. eqb y.code.0 c.0) xs) ≡ pick t (Some x) (entry_at xs c)
+    go true e = refl
+    go false e = e
 
-  pub map_miss : (d : Entry) → i < length (held m) → ((get_or m.entries i d).code.0 ≡ c.0 → ⊥)
-      → map_of (drop (i + 1) (held m)) c ≡ map_of (drop i (held m)) c
-  unfolding map_of
-  map_miss d h e = rw (add-one, held-from m i d h, ne_eqb _ _ e)
+pub map_entry : (xs : List Entry) (c : Code) → map_of xs c ≡ option_map (λ (e : Entry). e.element) (entry_at xs c)
+unfolding map_of entry_at
+map_entry [] c = refl
+map_entry (x ∷ xs) c = go (eqb x.code.0 c.0) (map_entry xs c)
+  where
+    go : (t : Bool) → map_of xs c ≡ option_map (λ (e : Entry). e.element) (entry_at xs c)
+        → pick t (Some x.element) (map_of xs c) ≡ option_map (λ (e : Entry). e.element) (pick t (Some x) (entry_at xs c))
+    go true e = refl
+    go false e = e
 
-  pub map-done : i ≡ length (held m) → map_of (drop i (held m)) c ≡ Nothing
-  unfolding map_of
-  map-done e = rw (e, drop-length)
+-- ---- the place of a put: that of the first entry whose code is not lower
+module _ (e : Entry) where
+  abbrev pub place_in : List Entry → ℕ
+  place_in xs = position_or_len (λ x. leb e.code.0 x.code.0) xs
 
--- ---- the same with the entry
-module _ (m : Mapping) (c : Code) (i : ℕ) where
-  pub entry_hit : (d : Entry) → i < length (held m) → (get_or m.entries i d).code.0 ≡ c.0
-      → entry_at (drop i (held m)) c ≡ Is (get_or m.entries i d)
-  unfolding entry_at
-  entry_hit d h e = rw (held-from m i d h, eq-eqb _ _ e)
+  pub place_le : (xs : List Entry) → place_in xs ≤ length xs
+  place_le [] = omega arith
+  place_le (x ∷ xs) = go (leb e.code.0 x.code.0) (place_le xs)
+    where
+      go : (t : Bool) → place_in xs ≤ length xs → cond (not t) (1 + place_in xs) 0 ≤ suc (length xs)
+      go true h = omega arith
+      go false h = omega arith
 
-  pub entry_miss : (d : Entry) → i < length (held m) → ((get_or m.entries i d).code.0 ≡ c.0 → ⊥)
-      → entry_at (drop (i + 1) (held m)) c ≡ entry_at (drop i (held m)) c
-  unfolding entry_at
-  entry_miss d h e = rw (add-one, held-from m i d h, ne_eqb _ _ e)
-
-  pub entry_done : i ≡ length (held m) → entry_at (drop i (held m)) c ≡ Absent
-  unfolding entry_at
-  entry_done e = rw (e, drop-length)
-
--- ---- the place of a put, entry by entry
-module _ (m : Mapping) (e : Entry) (i : ℕ) where
-  pub place_less : (d : Entry) → i < length (held m) → e.code.0 < (get_or m.entries i d).code.0
-      → put_entry e (drop i (held m)) ≡ e ∷ drop i (held m)
+  pub place_onto : (xs : List Entry) (d : Entry) → place_in xs < length xs → (get_or xs (place_in xs) d).code.0 ≡ e.code.0
+      → put_entry e xs ≡ set xs (place_in xs) e
   unfolding put_entry
-  place_less d h lt = rw (held-from m i d h, lt-ltb _ _ lt)
+  place_onto [] d h q = absurd (omega arith)
+  place_onto (x ∷ xs) d h q = go (leb e.code.0 x.code.0) refl (place_onto xs d) h q
+    where
+      at : Bool → ℕ
+      at t = cond (not t) (1 + place_in xs) 0
 
-  pub place_same : (d : Entry) → i < length (held m) → (get_or m.entries i d).code.0 ≡ e.code.0
-      → take i (held m) ++ put_entry e (drop i (held m)) ≡ set (held m) i e
-  unfolding put_entry
-  place_same d h q =
-      let no = le-ltb e.code.0 (get_or m.entries i d).code.0 (omega arith) in
-      rw (held-from m i d h, no, eq-eqb _ _ q) (sym (set_split (held m) i e h))
+      go : (t : Bool) → leb e.code.0 x.code.0 ≡ t
+          → (place_in xs < length xs → (get_or xs (place_in xs) d).code.0 ≡ e.code.0 → put_entry e xs ≡ set xs (place_in xs) e)
+          → at t < suc (length xs) → (get_or (x ∷ xs) (at t) d).code.0 ≡ e.code.0
+          → pick (ltb e.code.0 x.code.0) (e ∷ x ∷ xs) (pick (eqb x.code.0 e.code.0) (e ∷ xs) (x ∷ put_entry e xs))
+          ≡ set (x ∷ xs) (at t) e
+      go true p f h q = rw (le-ltb e.code.0 x.code.0 (omega arith), eq-eqb x.code.0 e.code.0 q) refl
+      go false p f h q =
+          let l = leb-false e.code.0 x.code.0 p in
+          let z : 1 + place_in xs ≡ suc (place_in xs) = omega arith in
+          rw z (rw (le-ltb e.code.0 x.code.0 (omega arith), ne_eqb x.code.0 e.code.0 (λ r. omega arith))
+          (ap (λ (l : List Entry). x ∷ l) (f (omega arith) (rw z at q))))
 
-  pub place_more : (d : Entry) → i < length (held m) → (get_or m.entries i d).code.0 ≤ e.code.0
-      → ((get_or m.entries i d).code.0 ≡ e.code.0 → ⊥) → take i (held m) ++ put_entry e (drop i (held m))
-      ≡ take (i + 1) (held m) ++ put_entry e (drop (i + 1) (held m))
+  pub place_before : (xs : List Entry) (d : Entry)
+      → (place_in xs < length xs → (get_or xs (place_in xs) d).code.0 ≡ e.code.0 → ⊥)
+      → put_entry e xs ≡ insert_at (place_in xs) e xs
   unfolding put_entry
-  place_more d h le ne =
-      let k : i < m.count = omega (arith, simp length-take at h) in
-      rw (
-        held-from m i d h,
-        le-ltb _ _ le,
-        ne_eqb _ _ ne,
-        add-one,
-        take-suc (held m) i d h,
-        get_or-take m.count
-            m.entries i d k,
-        append_assoc,
-      )
+  place_before [] d h = refl
+  place_before (x ∷ xs) d h = go (leb e.code.0 x.code.0) refl (place_before xs d) h
+    where
+      at : Bool → ℕ
+      at t = cond (not t) (1 + place_in xs) 0
 
-  pub place_end : length (held m) ≤ i → put_entry e (drop i (held m)) ≡ e ∷ drop i (held m)
-  unfolding put_entry
-  place_end h = rw (drop_of_length-le (held m) h)
+      go : (t : Bool) → leb e.code.0 x.code.0 ≡ t
+          → ((place_in xs < length xs → (get_or xs (place_in xs) d).code.0 ≡ e.code.0 → ⊥)
+          → put_entry e xs ≡ insert_at (place_in xs) e xs)
+          → (at t < suc (length xs) → (get_or (x ∷ xs) (at t) d).code.0 ≡ e.code.0 → ⊥)
+          → pick (ltb e.code.0 x.code.0) (e ∷ x ∷ xs) (pick (eqb x.code.0 e.code.0) (e ∷ xs) (x ∷ put_entry e xs))
+          ≡ insert_at (at t) e (x ∷ xs)
+      go true p f h =
+          let n = h (omega arith) in
+          let l = leb-true e.code.0 x.code.0 p in
+          rw (lt-ltb e.code.0 x.code.0 (omega (arith, n))) refl
+      go false p f h =
+          let l = leb-false e.code.0 x.code.0 p in
+          let z : 1 + place_in xs ≡ suc (place_in xs) = omega arith in
+          rw z (rw (le-ltb e.code.0 x.code.0 (omega arith), ne_eqb x.code.0 e.code.0 (λ r. omega arith))
+          (ap (λ (l : List Entry). x ∷ l) (f (λ k q. h (omega arith) (rw z q)))))
+
+  -- what `position` says, or else the length
+  pub place_told : (xs : List Entry) (r : Option ℕ)
+      → r ≡ cond (ltb (place_in xs) (length xs)) (Some (place_in xs)) None → unwrap_or r (length xs) ≡ place_in xs
+  place_told xs r p = rw p (go (ltb (place_in xs) (length xs)) refl)
+    where
+      go : (t : Bool) → ltb (place_in xs) (length xs) ≡ t
+          → unwrap_or (cond t (Some (place_in xs)) None) (length xs) ≡ place_in xs
+      go true q = refl
+      go false q = omega (arith, ltb-false (place_in xs) (length xs) q, place_le xs)
+
+-- the entries from i up to n moved up by one, and e at i
+opened : {A : Type 0} (i n : ℕ) (xs : List A) (e : A) → i ≤ n → n < length xs
+    → set (take (suc i) xs ++ (take (n - i) (drop i xs) ++ drop (suc n) xs)) i e
+    ≡ take (suc n) (take i xs ++ e ∷ drop i xs) ++ drop (suc n) xs
+opened i n [] e h l = absurd (omega arith)
+opened zero n (x ∷ xs) e h l = let z : n - 0 ≡ n = omega arith in rw z refl
+opened {A} (suc i) zero (x ∷ xs) e h l = absurd (omega arith)
+opened {A} (suc i) (suc n) (x ∷ xs) e h l =
+    let z : suc n - suc i ≡ n - i = omega arith in
+    rw z (ap (λ (l : List A). x ∷ l) (opened i n xs e (omega arith) (omega arith)))
+
+pub copied_up : (i n : ℕ) (xs ys : List Entry) (e : Entry) → i ≤ n → n < length xs
+    → ys ≡ copy_within xs i n (i + 1)
+    → set ys i e ≡ take (n + 1) (insert_at i e xs) ++ drop (n + 1) xs
+copied_up i n xs ys e h l q =
+    let z : i + 1 ≡ suc i = omega arith in
+    let y : n + 1 ≡ suc n = omega arith in
+    let x : suc i + (n - i) ≡ suc n = omega arith in
+    rw (q, z, y, x, append_assoc) (opened i n xs e h l)
 
 -- ---- a put, by the place of its entry
 module _ (m : Mapping) where
@@ -111,7 +153,7 @@ module _ (m : Mapping) where
   abbrev pub stored : ℕ → List Entry → PutAnswer
   stored n xs =
       record {
-        answer = Stored;
+        answer = Ok tt;
         map =
             record {
               count = n;
@@ -139,24 +181,58 @@ module _ (m : Mapping) where
           let long = le-leb (length (held m) + 1) codes_max (omega arith) in
           rw (p, length_inserted k (held m) e h, long, insert_prefix k m.count m.entries e h)
 
-      pub put_full : length (held m) ≡ codes_max → record { answer = Full; map = m } ≡ put_of m e
+      pub put_full : length (held m) ≡ codes_max → record { answer = Err (record {}); map = m } ≡ put_of m e
       unfolding put_of
       put_full b =
           let long = lt-leb (length (held m) + 1) codes_max (omega arith) in
           rw (p, length_inserted k (held m) e h, long)
 
--- ---- the reverse look-up, from the last entry down
-module _ (m : Mapping) (el : AxisOrBtn) (i : ℕ) where
-  pub rev_done : i ≡ length (held m) → map_rev_of (drop i (held m)) el ≡ Nowhere
-  unfolding map_rev_of
-  rev_done e = rw (e, drop-length)
+-- ---- the reverse look-up: what was found before, and what is found in the rest
+abbrev pub least_of : Option Code → Option Code → Option Code
+least_of None r = r
+least_of (Some c) r = lesser c r
 
-  pub rev_step : (d : Entry) → 0 < i → i ≤ length (held m) → map_rev_of (drop (i - 1) (held m)) el
-      ≡ pick (same_element (get_or m.entries (i - 1) d).element el) (lesser (get_or m.entries (i - 1) d).code
-      (map_rev_of (drop i (held m)) el)) (map_rev_of (drop i (held m)) el)
-  unfolding map_rev_of
-  rev_step d p h =
-      let s : suc (i - 1) ≡ i = omega arith in
-      let at = subst (λ (n : ℕ). drop (i - 1) (held m) ≡ get_or m.entries (i - 1) d ∷ drop n (held m)) s
-      (held-from m (i - 1) d (omega arith)) in
-      rw at
+abbrev low : Code → Code → Code
+low c d = pick (ltb d.0 c.0) d c
+
+lower : (c d : Code) → lesser c (Some d) ≡ Some (low c d)
+lower c d = go (ltb d.0 c.0)
+  where
+    go : (t : Bool) → pick t (Some d) (Some c) ≡ Some (pick t d c)
+    go true = refl
+    go false = refl
+
+low_min : (c d : Code) → (low c d).0 ≡ min c.0 d.0
+low_min c d = go (ltb d.0 c.0) refl
+  where
+    go : (t : Bool) → ltb d.0 c.0 ≡ t → (pick t d c).0 ≡ min c.0 d.0
+    go true e = omega (arith, ltb-true d.0 c.0 e)
+    go false e = omega (arith, ltb-false d.0 c.0 e)
+
+same_code : (c d : Code) → c.0 ≡ d.0 → c ≡ d
+same_code c d e = ap (λ (n : ℕ). record { 0 = n }) e
+
+pub least_rest : (b : Option Code) (c : Code) (r : Option Code) → least_of (lesser c b) r ≡ least_of b (lesser c r)
+least_rest None c r = refl
+least_rest (Some d) c None =
+    rw (lower c d) (sym (lower d c ∙ ap (λ (x : Code). Some x) (same_code _ _ (omega (arith, low_min c d, low_min d c)))))
+least_rest (Some d) c (Some x) =
+    rw (lower c d, lower c x, lower (low c d) x, lower d (low c x))
+    (ap (λ (y : Code). Some y)
+    (same_code _ _ (omega (arith, low_min c d, low_min c x, low_min (low c d) x, low_min d (low c x)))))
+
+-- one entry of the rest
+pub rev_next : (xs : List Entry) (i : ℕ) (d : Entry) (el : AxisOrBtn) → i < length xs
+    → map_rev_of (drop i xs) el
+    ≡ pick (same_element (get_or xs i d).element el) (lesser (get_or xs i d).code (map_rev_of (drop (i + 1) xs) el))
+    (map_rev_of (drop (i + 1) xs) el)
+unfolding map_rev_of
+rev_next xs i d el h = rw (drop-cons xs i d h, add-one)
+
+pub rev_done : (xs : List Entry) (i : ℕ) (el : AxisOrBtn) → length xs ≤ i → map_rev_of (drop i xs) el ≡ None
+unfolding map_rev_of
+rev_done xs i el h = rw (drop_of_length-le xs h)
+
+pub least-none : (b : Option Code) → least_of b None ≡ b
+least-none None = refl
+least-none (Some c) = refl

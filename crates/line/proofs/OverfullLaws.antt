@@ -1,5 +1,6 @@
 -- Pairs are refused by 11 exactly where one puts a 257th unlike code: each goes and fits, goes and is over, or is
 -- refused for itself, by another number. Assumes nothing.
+use Rattle.std.specs.Prelude.{Option, Some, None, Result, Ok, Err, ⊤}
 use Prim.Native.Nat.{ℕ, ◌+◌, ◌<◌, ◌≤◌}
 use mathlib.Core.Path.{◌≡◌, refl, sym, ap, subst, ◌∙◌}
 use mathlib.Core.Bool.{Bool, true, false}
@@ -8,17 +9,16 @@ use native.Mathlib.Omega.{arith}
 use borrow.Author.Tests.{leb-true, leb-false, lt-leb}
 use lib.Dec.{leb}
 use lib.ListN.{length}
+use Rattle.line.specs.declared.reading.ParseSdlMappingError.{ParseSdlMappingError}
+use Rattle.line.specs.declared.parser.Error.{Error}
+use Rattle.line.specs.declared.parser.Token.{Token}
 use Rattle.text.specs.Bytes.{pick}
 use Rattle.text.proofs.ListLaws.{off}
 use Rattle.line.specs.declared.mapping.Entry.{Entry}
 use Rattle.line.specs.declared.parser.Token.TheVariants as Tk
-use Rattle.line.specs.declared.parser.Answer.{Answer}
-use Rattle.line.specs.declared.parser.Answer.TheVariants as An
 use Rattle.line.specs.declared.reading.puts.Puts.{Puts}
 use Rattle.line.specs.declared.reading.puts.Puts.TheVariants.{Nothing, Name, One, Two, UnknownHatDirection}
 use Rattle.line.specs.declared.reading.ParseSdlMappingError.TheVariants as Pe
-use Rattle.line.specs.declared.reading.SdlAnswer.{SdlAnswer}
-use Rattle.line.specs.declared.reading.SdlAnswer.TheVariants.{Accepted, Refused}
 use Rattle.line.specs.declared.reading.SdlMapping.{SdlMapping}
 use Rattle.line.specs.Maps.{codes_max, MapView, to_map, put_entry, puts_into}
 use Rattle.line.specs.Pairs.{pair_of}
@@ -36,24 +36,24 @@ use Rattle.line.proofs.AcceptedLaws.{NotName, nothing_unnamed, listed_unnamed, h
 use Rattle.line.proofs.AcceptedLaws.{pair_accepted}
 
 -- ---- 11 among the answers
-abbrev pub is11 : SdlAnswer → ℕ
-is11 Accepted = 0
-is11 (Refused (Pe.ParseError e)) = 0
-is11 (Refused Pe.UnknownHatDirection) = 0
-is11 (Refused (Pe.TooManyCodes p)) = 1
-is11 (Refused Pe.ListTooLong) = 0
+abbrev pub is11 : Result ⊤ ParseSdlMappingError → ℕ
+is11 (Ok u) = 0
+is11 (Err (Pe.ParseError e)) = 0
+is11 (Err Pe.UnknownHatDirection) = 0
+is11 (Err (Pe.TooManyCodes p)) = 1
+is11 (Err Pe.ListTooLong) = 0
 
-abbrev place11 : SdlAnswer → ℕ
-place11 Accepted = 0
-place11 (Refused (Pe.ParseError e)) = 0
-place11 (Refused Pe.UnknownHatDirection) = 0
-place11 (Refused (Pe.TooManyCodes p)) = p
-place11 (Refused Pe.ListTooLong) = 0
+abbrev place11 : Result ⊤ ParseSdlMappingError → ℕ
+place11 (Ok u) = 0
+place11 (Err (Pe.ParseError e)) = 0
+place11 (Err Pe.UnknownHatDirection) = 0
+place11 (Err (Pe.TooManyCodes p)) = p
+place11 (Err Pe.ListTooLong) = 0
 
 abbrev pub Eleven : ℕ → SdlMapping → Type 0
-Eleven q r = r.answer ≡ Refused (Pe.TooManyCodes q)
+Eleven q r = r.answer ≡ Err (Pe.TooManyCodes q)
 
-pub no_11 : (a : SdlAnswer) (q : ℕ) → is11 a ≡ 0 → a ≡ Refused (Pe.TooManyCodes q) → ⊥
+pub no_11 : (a : Result ⊤ ParseSdlMappingError) (q : ℕ) → is11 a ≡ 0 → a ≡ Err (Pe.TooManyCodes q) → ⊥
 no_11 a q z e = let y : is11 a ≡ 1 = ap is11 e in omega (arith, y, z)
 
 -- ---- the puts of a pair
@@ -89,47 +89,47 @@ module _ (v : MapView) (p : ℕ) where
   puts_not (Name start len) q n g a = n
   puts_not (One e flag) q n g a = off (sym g)
   puts_not (Two e f flag) q n g a = off (sym g)
-  puts_not UnknownHatDirection q n g a = no_11 (Refused Pe.UnknownHatDirection) q refl a
+  puts_not UnknownHatDirection q n g a = no_11 (Err Pe.UnknownHatDirection) q refl a
 
 -- ---- what the walker answers for a pair
 module _ (v : MapView) (p q : ℕ) (buttons axes : List ℕ) where
-  taken_over : (a : Answer) → PairAnswer a → length v.list ≤ codes_max → (answer_effect a buttons axes).goes ≡ true
+  taken_over : (a : Option (Result Token Error)) → PairAnswer a → length v.list ≤ codes_max → (answer_effect a buttons axes).goes ≡ true
       → codes_max < length (puts_into (answer_effect a buttons axes).puts v.list)
       → taken (to_map v) a p q buttons axes ≡ refuses (refusal_at 11 p)
   unfolding taken answer_effect puts_of PairAnswer
-  taken_over (An.Found (Tk.Uuid u)) n k g o = absurd n
-  taken_over (An.Found (Tk.Name start len)) n k g o = absurd n
-  taken_over (An.Found (Tk.Platform start len)) n k g o = puts_over v p Nothing k g o
-  taken_over (An.Found (Tk.AxisMapping j to r)) n k g o = puts_over v p (listed axes j to r) k g o
-  taken_over (An.Found (Tk.ButtonMapping j to r)) n k g o = puts_over v p (listed buttons j to r) k g o
-  taken_over (An.Found (Tk.HatMapping j d to r)) n k g o = puts_over v p (hat_puts j d to r) k g o
-  taken_over (An.Refused e) n k g o = passed (skips e.kind) g o
+  taken_over (Some (Ok (Tk.Uuid u))) n k g o = absurd n
+  taken_over (Some (Ok (Tk.Name start len))) n k g o = absurd n
+  taken_over (Some (Ok (Tk.Platform start len))) n k g o = puts_over v p Nothing k g o
+  taken_over (Some (Ok (Tk.AxisMapping j to r))) n k g o = puts_over v p (listed axes j to r) k g o
+  taken_over (Some (Ok (Tk.ButtonMapping j to r))) n k g o = puts_over v p (listed buttons j to r) k g o
+  taken_over (Some (Ok (Tk.HatMapping j d to r))) n k g o = puts_over v p (hat_puts j d to r) k g o
+  taken_over (Some (Err e)) n k g o = passed (skips e.kind) g o
     where
       passed : (t : Bool) → (pick t (does [] []) stops).goes ≡ true
           → codes_max < length (puts_into (pick t (does [] []) stops).puts v.list)
           → pick t (accepted_of (to_map v)) (refused_of (Pe.ParseError e)) ≡ refuses (refusal_at 11 p)
       passed true g o = absurd (none_over v.list k o)
       passed false g o = absurd (off g)
-  taken_over An.End n k g o = absurd (none_over v.list k o)
+  taken_over None n k g o = absurd (none_over v.list k o)
 
-  taken_not : (a : Answer) (at : ℕ) → PairAnswer a → (answer_effect a buttons axes).goes ≡ false
+  taken_not : (a : Option (Result Token Error)) (at : ℕ) → PairAnswer a → (answer_effect a buttons axes).goes ≡ false
       → Eleven at (taken (to_map v) a p q buttons axes) → ⊥
   unfolding taken answer_effect puts_of PairAnswer
-  taken_not (An.Found (Tk.Uuid u)) at n g x = n
-  taken_not (An.Found (Tk.Name start len)) at n g x = n
-  taken_not (An.Found (Tk.Platform start len)) at n g x = puts_not v p Nothing at nothing_unnamed g x
-  taken_not (An.Found (Tk.AxisMapping j to r)) at n g x =
+  taken_not (Some (Ok (Tk.Uuid u))) at n g x = n
+  taken_not (Some (Ok (Tk.Name start len))) at n g x = n
+  taken_not (Some (Ok (Tk.Platform start len))) at n g x = puts_not v p Nothing at nothing_unnamed g x
+  taken_not (Some (Ok (Tk.AxisMapping j to r))) at n g x =
       puts_not v p (listed axes j to r) at (listed_unnamed axes j to r) g x
-  taken_not (An.Found (Tk.ButtonMapping j to r)) at n g x =
+  taken_not (Some (Ok (Tk.ButtonMapping j to r))) at n g x =
       puts_not v p (listed buttons j to r) at (listed_unnamed buttons j to r) g x
-  taken_not (An.Found (Tk.HatMapping j d to r)) at n g x = puts_not v p (hat_puts j d to r) at (hat_unnamed j d to r) g x
-  taken_not (An.Refused e) at n g x = passed (skips e.kind) g x
+  taken_not (Some (Ok (Tk.HatMapping j d to r))) at n g x = puts_not v p (hat_puts j d to r) at (hat_unnamed j d to r) g x
+  taken_not (Some (Err e)) at n g x = passed (skips e.kind) g x
     where
       passed : (t : Bool) → (pick t (does [] []) stops).goes ≡ false
           → Eleven at (pick t (accepted_of (to_map v)) (refused_of (Pe.ParseError e))) → ⊥
       passed true g x = off (sym g)
-      passed false g x = no_11 (Refused (Pe.ParseError e)) at refl x
-  taken_not An.End at n g x = off (sym g)
+      passed false g x = no_11 (Err (Pe.ParseError e)) at refl x
+  taken_not None at n g x = off (sym g)
 
 -- ---- pairs in line order, the first of them at p, put into v
 module _ (buttons axes : List ℕ) where
@@ -173,9 +173,9 @@ module _ (buttons axes : List ℕ) where
         (taken (to_map v) (pair_of f p) p q buttons axes) rest) → ⊥
     stopped at rest k g x = by (taken (to_map v) (pair_of f p) p q buttons axes).answer refl
       where
-        by : (t : SdlAnswer) → (taken (to_map v) (pair_of f p) p q buttons axes).answer ≡ t → ⊥
-        by Accepted e = off (sym g ∙ (pair_accepted buttons axes f p q v k e).0)
-        by (Refused y) e = pair_not at g (e ∙ (rw e at x))
+        by : (t : Result ⊤ ParseSdlMappingError) → (taken (to_map v) (pair_of f p) p q buttons axes).answer ≡ t → ⊥
+        by (Ok u) e = off (sym g ∙ (pair_accepted buttons axes f p q v k e).0)
+        by (Err y) e = pair_not at g (e ∙ (rw e at x))
 
   module _ (f : List ℕ) (fs : List (List ℕ)) (p : ℕ) (v : MapView) where
     abbrev beyond : ℕ
@@ -236,7 +236,7 @@ module _ (buttons axes : List ℕ) where
             cons_over at g (ih (next v f) j (rw (pair_fits buttons axes f p beyond v g j) at a))
         by true g false t =
             let o = leb-false (length (puts_into (put_by f) v.list)) codes_max t in
-            let x : Refused (Pe.TooManyCodes p) ≡ Refused (Pe.TooManyCodes at) =
+            let x : Err (Pe.TooManyCodes p) ≡ Err (Pe.TooManyCodes at) =
             rw (pair_over f p beyond v k g o) at a in
             subst (λ (n : ℕ). OverFrom v p (f ∷ fs) n) (ap place11 x) (here_over k g o)
         by false g t u =
@@ -246,7 +246,7 @@ module _ (buttons axes : List ℕ) where
   pub only_over : (fs : List (List ℕ)) (p : ℕ) (v : MapView) (at : ℕ) → length v.list ≤ codes_max
       → Eleven at (pairs_from p fs (to_map v) buttons axes) → OverFrom v p fs at
   unfolding pairs_from
-  only_over [] p v at k a = absurd (no_11 Accepted at refl a)
+  only_over [] p v at k a = absurd (no_11 (Ok tt) at refl a)
   only_over (f ∷ fs) p v at k a = first_over f fs p v at k (λ w. only_over fs (p + length f + 1) w at) a
 
   pub over_says : (es : List (List ℕ)) (f : List ℕ) (fs : List (List ℕ)) (p : ℕ) (v : MapView)

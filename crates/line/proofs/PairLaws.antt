@@ -1,23 +1,21 @@
 -- A pair's effect does not depend on its place, and a pair gives no name and no UUID. Assumes nothing.
+use Rattle.std.specs.Prelude.{Option, Some, None, Result, Ok, Err}
 use Prim.Native.Nat.{ℕ, ◌+◌, ◌-◌}
 use mathlib.Core.Path.{◌≡◌, refl, sym, ap, ◌∙◌}
 use mathlib.Core.List.{List}
 use mathlib.Core.Bool.{Bool, true, false}
 use lib.Dec.{eqb}
 use lib.ListN.{length, take, drop, get_or}
+use Rattle.line.specs.declared.ev.AxisOrBtn.{AxisOrBtn}
+use Rattle.line.specs.declared.parser.Error.{Error}
+use Rattle.line.specs.declared.parser.Token.{Token}
 use Rattle.text.specs.Bytes.{byte, ascii, same, first_of}
 use Rattle.text.specs.Decimal.{index_number}
-use Rattle.text.specs.declared.decimal.IndexParse.{IndexParse}
-use Rattle.text.specs.declared.decimal.IndexParse.TheVariants as Ip
-use Rattle.line.specs.declared.tables.KeyElement.{KeyElement}
-use Rattle.line.specs.declared.tables.KeyElement.TheVariants as Ke
 use Rattle.line.specs.declared.parser.AxisRange.{AxisRange}
 use Rattle.line.specs.declared.parser.AxisRange.TheVariants as Ar
 use Rattle.line.specs.declared.parser.value.Value.{Value}
 use Rattle.line.specs.declared.parser.value.Value.TheVariants as Vl
 use Rattle.line.specs.declared.parser.Token.TheVariants as Tk
-use Rattle.line.specs.declared.parser.Answer.{Answer}
-use Rattle.line.specs.declared.parser.Answer.TheVariants as An
 use Rattle.line.specs.Tables.{key_element}
 use Rattle.line.specs.Fields.{count_of}
 use Rattle.line.specs.Values.{starts_with, axis_numbered, axis_value_of, signed_of, button_value_of}
@@ -28,34 +26,34 @@ use Rattle.line.specs.Effects.{answer_effect}
 use Rattle.line.proofs.PickLaws.{picked, picked₂}
 
 -- ---- a value at two places
-unfoldable unplaced : Value → Value
-unplaced (Vl.Axis n half inverted) = Vl.Axis n half inverted
-unplaced (Vl.Button n) = Vl.Button n
-unplaced (Vl.Hat h d) = Vl.Hat h d
-unplaced (Vl.Bad p) = Vl.Bad 0
+unfoldable unplaced : Result Value ℕ → Result Value ℕ
+unplaced (Ok (Vl.Axis n half inverted)) = Ok (Vl.Axis n half inverted)
+unplaced (Ok (Vl.Button n)) = Ok (Vl.Button n)
+unplaced (Ok (Vl.Hat h d)) = Ok (Vl.Hat h d)
+unplaced (Err p) = Err 0
 
-abbrev SameValue : Value → Value → Type 0
+abbrev SameValue : Result Value ℕ → Result Value ℕ → Type 0
 SameValue v w = unplaced v ≡ unplaced w
 
 module _ (p q : ℕ) where
-  numbered-same : (half : AxisRange) (inverted : Bool) (n : IndexParse) → SameValue (axis_numbered p half inverted n)
+  numbered-same : (half : AxisRange) (inverted : Bool) (n : Option ℕ) → SameValue (axis_numbered p half inverted n)
       (axis_numbered q half inverted n)
   unfolding unplaced
-  numbered-same half inverted (Ip.Parsed n) = refl
-  numbered-same half inverted Ip.Invalid = refl
+  numbered-same half inverted (Some n) = refl
+  numbered-same half inverted None = refl
 
-  button_same : (n : IndexParse) → SameValue (button_value_of p n) (button_value_of q n)
+  button_same : (n : Option ℕ) → SameValue (button_value_of p n) (button_value_of q n)
   unfolding unplaced
-  button_same (Ip.Parsed n) = refl
-  button_same Ip.Invalid = refl
+  button_same (Some n) = refl
+  button_same None = refl
 
-  hat_numbers-same : (dot : ℕ) (h d : IndexParse) → SameValue (hat_numbers p dot h d) (hat_numbers q dot h d)
+  hat_numbers-same : (dot : ℕ) (h d : Option ℕ) → SameValue (hat_numbers p dot h d) (hat_numbers q dot h d)
   unfolding unplaced
-  hat_numbers-same dot Ip.Invalid d = refl
-  hat_numbers-same dot (Ip.Parsed h) Ip.Invalid = refl
-  hat_numbers-same dot (Ip.Parsed h) (Ip.Parsed d) = refl
+  hat_numbers-same dot None d = refl
+  hat_numbers-same dot (Some h) None = refl
+  hat_numbers-same dot (Some h) (Some d) = refl
 
-  bad_same : SameValue (Vl.Bad p) (Vl.Bad q)
+  bad_same : SameValue (Err p) (Err q)
   unfolding unplaced
   bad_same = refl
 
@@ -86,31 +84,31 @@ module _ (p q : ℕ) where
 
 -- ---- a pair at two places
 module _ (buttons axes : List ℕ) where
-  abbrev SameEffect : Answer → Answer → Type 0
+  abbrev SameEffect : Option (Result Token Error) → Option (Result Token Error) → Type 0
   SameEffect a b = answer_effect a buttons axes ≡ answer_effect b buttons axes
 
-  mapped_free : (v : Value) (out : AxisRange) (to : KeyElement) (p : ℕ) → SameEffect (mapped_of v out to p)
+  mapped_free : (v : Result Value ℕ) (out : AxisRange) (to : Option AxisOrBtn) (p : ℕ) → SameEffect (mapped_of v out to p)
       (mapped_of (unplaced v) out to 0)
   unfolding unplaced answer_effect
-  mapped_free (Vl.Bad place) out to p = refl
-  mapped_free (Vl.Axis n half inverted) out (Ke.Is e) p = refl
-  mapped_free (Vl.Axis n half inverted) out Ke.Missing p = refl
-  mapped_free (Vl.Button n) out (Ke.Is e) p = refl
-  mapped_free (Vl.Button n) out Ke.Missing p = refl
-  mapped_free (Vl.Hat h d) out (Ke.Is e) p = refl
-  mapped_free (Vl.Hat h d) out Ke.Missing p = refl
+  mapped_free (Err place) out to p = refl
+  mapped_free (Ok (Vl.Axis n half inverted)) out (Some e) p = refl
+  mapped_free (Ok (Vl.Axis n half inverted)) out None p = refl
+  mapped_free (Ok (Vl.Button n)) out (Some e) p = refl
+  mapped_free (Ok (Vl.Button n)) out None p = refl
+  mapped_free (Ok (Vl.Hat h d)) out (Some e) p = refl
+  mapped_free (Ok (Vl.Hat h d)) out None p = refl
 
-  mapped_same : (v w : Value) (out : AxisRange) (to : KeyElement) (p q : ℕ) → SameValue v w
+  mapped_same : (v w : Result Value ℕ) (out : AxisRange) (to : Option AxisOrBtn) (p q : ℕ) → SameValue v w
       → SameEffect (mapped_of v out to p) (mapped_of w out to q)
   mapped_same v w out to p q e =
-      mapped_free v out to p ∙ ap (λ (x : Value). answer_effect (mapped_of x out to 0) buttons axes) e
+      mapped_free v out to p ∙ ap (λ (x : Result Value ℕ). answer_effect (mapped_of x out to 0) buttons axes) e
       ∙ sym (mapped_free w out to q)
 
   refused_same : (n p q : ℕ) → SameEffect (refuse n p) (refuse n q)
   unfolding answer_effect
   refused_same n p q = refl
 
-  platform-same : (at to n : ℕ) → SameEffect (An.Found (Tk.Platform at n)) (An.Found (Tk.Platform to n))
+  platform-same : (at to n : ℕ) → SameEffect (Some (Ok (Tk.Platform at n))) (Some (Ok (Tk.Platform to n)))
   unfolding answer_effect puts_of
   platform-same at to n = refl
 
@@ -130,31 +128,31 @@ module _ (buttons axes : List ℕ) where
       (p + (first_of (byte ":") f + 1)) q (q + (first_of (byte ":") f + 1))) (refused_same 3 p q)
 
 -- ---- a pair gives no name and no UUID
-unfoldable pub PairAnswer : Answer → Type 0
-PairAnswer (An.Found (Tk.Uuid u)) = ⊥
-PairAnswer (An.Found (Tk.Name start len)) = ⊥
-PairAnswer (An.Found (Tk.Platform start len)) = Unit {0}
-PairAnswer (An.Found (Tk.AxisMapping n to r)) = Unit {0}
-PairAnswer (An.Found (Tk.ButtonMapping n to r)) = Unit {0}
-PairAnswer (An.Found (Tk.HatMapping h d to r)) = Unit {0}
-PairAnswer (An.Refused e) = Unit {0}
-PairAnswer An.End = Unit {0}
+unfoldable pub PairAnswer : Option (Result Token Error) → Type 0
+PairAnswer (Some (Ok (Tk.Uuid u))) = ⊥
+PairAnswer (Some (Ok (Tk.Name start len))) = ⊥
+PairAnswer (Some (Ok (Tk.Platform start len))) = Unit {0}
+PairAnswer (Some (Ok (Tk.AxisMapping n to r))) = Unit {0}
+PairAnswer (Some (Ok (Tk.ButtonMapping n to r))) = Unit {0}
+PairAnswer (Some (Ok (Tk.HatMapping h d to r))) = Unit {0}
+PairAnswer (Some (Err e)) = Unit {0}
+PairAnswer None = Unit {0}
 
-mapped_pair : (v : Value) (out : AxisRange) (to : KeyElement) (p : ℕ) → PairAnswer (mapped_of v out to p)
+mapped_pair : (v : Result Value ℕ) (out : AxisRange) (to : Option AxisOrBtn) (p : ℕ) → PairAnswer (mapped_of v out to p)
 unfolding PairAnswer
-mapped_pair (Vl.Bad place) out to p = tt
-mapped_pair (Vl.Axis n half inverted) out (Ke.Is e) p = tt
-mapped_pair (Vl.Axis n half inverted) out Ke.Missing p = tt
-mapped_pair (Vl.Button n) out (Ke.Is e) p = tt
-mapped_pair (Vl.Button n) out Ke.Missing p = tt
-mapped_pair (Vl.Hat h d) out (Ke.Is e) p = tt
-mapped_pair (Vl.Hat h d) out Ke.Missing p = tt
+mapped_pair (Err place) out to p = tt
+mapped_pair (Ok (Vl.Axis n half inverted)) out (Some e) p = tt
+mapped_pair (Ok (Vl.Axis n half inverted)) out None p = tt
+mapped_pair (Ok (Vl.Button n)) out (Some e) p = tt
+mapped_pair (Ok (Vl.Button n)) out None p = tt
+mapped_pair (Ok (Vl.Hat h d)) out (Some e) p = tt
+mapped_pair (Ok (Vl.Hat h d)) out None p = tt
 
 refused_pair : (n p : ℕ) → PairAnswer (refuse n p)
 unfolding PairAnswer
 refused_pair n p = tt
 
-platform_pair : (at n : ℕ) → PairAnswer (An.Found (Tk.Platform at n))
+platform_pair : (at n : ℕ) → PairAnswer (Some (Ok (Tk.Platform at n)))
 unfolding PairAnswer
 platform_pair at n = tt
 

@@ -1,4 +1,5 @@
 -- Puts in another order, and puts of one code. No order of the entries is assumed. Assumes nothing.
+use Rattle.std.specs.Prelude.{Option, Some}
 use Prim.Native.Nat.{ℕ, ◌<◌}
 use mathlib.Core.Path.{◌≡◌, refl, sym, subst, ◌∙◌}
 use mathlib.Core.Logic.{◌⊎◌, inl, inr, ⊎_elim}
@@ -8,10 +9,9 @@ use native.Mathlib.Omega.{arith}
 use native.Mathlib.Nat.{eq-or-lt_of_le}
 use lib.Dec.{ltb, eqb}
 use borrow.Author.Tests.{ltb-true, ltb-false, eqb-true, eqb-false, lt-ltb, le-ltb, eq-eqb, ne_eqb}
+use Rattle.line.specs.declared.ev.AxisOrBtn.{AxisOrBtn}
 use Rattle.line.specs.declared.mapping.Entry.{Entry}
 use Rattle.line.specs.declared.ev.Code.{Code}
-use Rattle.line.specs.declared.mapping.Mapped.{Mapped}
-use Rattle.line.specs.declared.mapping.Mapped.TheVariants.{To}
 use Rattle.text.specs.Bytes.{pick}
 use Rattle.line.specs.Maps.{put_entry, map_of, Below, Ascending}
 
@@ -130,13 +130,13 @@ module _ (e : Entry) where
   put_ascending (x ∷ xs) a = ascending_by x xs a.0 a.1 (put_ascending xs a.1) (cases e x)
 
 -- ---- a look-up after a put
-module _ (a b : ℕ) (c : ℕ) (M : Mapped) where
-  pick_same : (X Y : Mapped) (t : Bool) → eqb b c ≡ t → a ≡ b → pick (eqb b c) X M
+module _ (a b : ℕ) (c : ℕ) (M : Option AxisOrBtn) where
+  pick_same : (X Y : Option AxisOrBtn) (t : Bool) → eqb b c ≡ t → a ≡ b → pick (eqb b c) X M
       ≡ pick (eqb b c) X (pick (eqb a c) Y M)
   pick_same X Y true p q = rw p
   pick_same X Y false p q = let n = ne_eqb a c (λ r. eqb-false b c p (sym q ∙ r)) in rw (p, n)
 
-  pick_swap : (X Y : Mapped) (t : Bool) → eqb a c ≡ t → a < b → pick (eqb a c) X (pick (eqb b c) Y M)
+  pick_swap : (X Y : Option AxisOrBtn) (t : Bool) → eqb a c ≡ t → a < b → pick (eqb a c) X (pick (eqb b c) Y M)
       ≡ pick (eqb b c) Y (pick (eqb a c) X M)
   pick_swap X Y true p q =
       let r = eqb-true a c p in
@@ -145,8 +145,8 @@ module _ (a b : ℕ) (c : ℕ) (M : Mapped) where
   pick_swap X Y false p q = rw p
 
 module _ (e : Entry) (c : Code) where
-  map-by : (x : Entry) (xs : List Entry) → map_of (put_entry e xs) c ≡ pick (eqb e.code.0 c.0) (To e.element)
-      (map_of xs c) → Cases e x → map_of (put_entry e (x ∷ xs)) c ≡ pick (eqb e.code.0 c.0) (To e.element)
+  map-by : (x : Entry) (xs : List Entry) → map_of (put_entry e xs) c ≡ pick (eqb e.code.0 c.0) (Some e.element)
+      (map_of xs c) → Cases e x → map_of (put_entry e (x ∷ xs)) c ≡ pick (eqb e.code.0 c.0) (Some e.element)
       (map_of (x ∷ xs) c)
   unfolding map_of
   map-by x xs ih (inl h) = rw (put_less e x xs h)
@@ -155,7 +155,7 @@ module _ (e : Entry) (c : Code) where
   map-by x xs ih (inr (inr h)) =
       rw (put_more e x xs h, ih) (pick_swap x.code.0 e.code.0 c.0 (map_of xs c) _ _ _ refl h)
 
-  pub map_put : (xs : List Entry) → map_of (put_entry e xs) c ≡ pick (eqb e.code.0 c.0) (To e.element)
+  pub map_put : (xs : List Entry) → map_of (put_entry e xs) c ≡ pick (eqb e.code.0 c.0) (Some e.element)
       (map_of xs c)
   unfolding map_of put_entry
   map_put [] = refl

@@ -1,5 +1,6 @@
 -- A line that is written field by field reads as the puts of its pairs: what the read-back of a built line rests on.
 -- Assumes nothing.
+use Rattle.std.specs.Prelude.{Option, Some, None}
 use Prim.Native.Nat.{ℕ, ◌+◌, ◌≤◌, ◌<◌}
 use mathlib.Core.Path.{◌≡◌, refl, ◌∙◌}
 use mathlib.Core.Bool.{true, false}
@@ -14,8 +15,6 @@ use Rattle.text.specs.Uuid.{uuid_text, Small}
 use Rattle.text.specs.declared.uuid.Uuid.{Uuid}
 use Rattle.text.specs.declared.uuid.Spelled.{Spelled}
 use Rattle.text.specs.declared.uuid.Form.TheVariants as Fm
-use Rattle.text.specs.declared.uuid.UuidParse.{UuidParse}
-use Rattle.text.specs.declared.uuid.UuidParse.TheVariants as Up
 use Rattle.text.proofs.ListLaws.{lt_or_le}
 use Rattle.text.proofs.BytesLaws.{same-lengths}
 use Rattle.text.proofs.UuidLaws.{uuid_back, uuid_text-length}
@@ -34,7 +33,7 @@ use Rattle.line.proofs.FoldLaws.{pairs_fit}
 use Rattle.line.proofs.JoinLaws.{Free, AllFree, line_of, later_fields_lem, first-after, take-before}
 
 -- a written UUID is read as itself
-pub guid_back : (u : Uuid) → Small u → guid_of (uuid_text u) ≡ Up.Parsed (record { id = u; form = Fm.Simple })
+pub guid_back : (u : Uuid) → Small u → guid_of (uuid_text u) ≡ Some (record { id = u; form = Fm.Simple })
 unfolding guid_of
 guid_back u small =
     let other = same-lengths (uuid_text u) (ascii "xinput") (λ e. omega (arith, uuid_text-length u)) in
@@ -46,9 +45,9 @@ named k n = record { list = []; name_start_of = 0 + k + 1; name_len_of = length 
 
 module _ (buttons axes : List ℕ) where
   -- what a line with a name field reads as
-  abbrev pub shaped : UuidParse → ℕ → List ℕ → List (List ℕ) → SdlMapping
-  shaped Up.Invalid k n fs = refuses (refusal_at 1 0)
-  shaped (Up.Parsed u) k n fs = pairs_from (0 + k + 1 + length n + 1) fs (to_map (named k n)) buttons axes
+  abbrev pub shaped : Option Spelled → ℕ → List ℕ → List (List ℕ) → SdlMapping
+  shaped None k n fs = refuses (refusal_at 1 0)
+  shaped (Some u) k n fs = pairs_from (0 + k + 1 + length n + 1) fs (to_map (named k n)) buttons axes
 
   no_field : {A : Type 0} (n : List ℕ) (fs : List (List ℕ)) → [] ≡ n ∷ fs → A
   no_field n fs e = let z : ◌≡◌ {A = ℕ} 0 1 = cc in absurd (omega arith)
@@ -59,11 +58,11 @@ module _ (buttons axes : List ℕ) where
       ⊎_elim (λ h. h) (λ h. no_field n fs (rw (drop_of_length-le s h) at e))
       (lt_or_le (first_of (byte ",") s + 1) (length s))
 
-  shape_by : (s n : List ℕ) (fs : List (List ℕ)) (g : UuidParse) → later_fields s ≡ n ∷ fs
+  shape_by : (s n : List ℕ) (fs : List (List ℕ)) (g : Option Spelled) → later_fields s ≡ n ∷ fs
       → headed g 0 (first_of (byte ",") s) s empty_map buttons axes ≡ shaped g (first_of (byte ",") s) n fs
   unfolding named_from empty_map to_map
-  shape_by s n fs Up.Invalid e = refl
-  shape_by s n fs (Up.Parsed u) e =
+  shape_by s n fs None e = refl
+  shape_by s n fs (Some u) e =
       let l = long s n fs e in
       rw (ne_eqb (first_of (byte ",") s) (length s) (λ q. omega arith), e)
 
@@ -77,7 +76,7 @@ module _ (buttons axes : List ℕ) where
 -- ---- a line whose pairs go and whose entries fit
 module _ (buttons axes : List ℕ) (u n : List ℕ) (fs : List (List ℕ)) (free-u : Free (byte ",") u)
     (free : AllFree (n ∷ fs)) where
-  pub reads_back : (id : Spelled) → guid_of u ≡ Up.Parsed id → is_utf8 (line_of u n fs) ≡ true
+  pub reads_back : (id : Spelled) → guid_of u ≡ Some id → is_utf8 (line_of u n fs) ≡ true
       → length buttons ≤ list_max → length axes ≤ list_max
       → AllGo fs buttons axes → length (puts_into (entries_of fs buttons axes) []) ≤ codes_max
       → reading_of (line_of u n fs) buttons axes

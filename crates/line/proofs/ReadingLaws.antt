@@ -1,5 +1,6 @@
 -- The rest of a reading, from where the walker stands: a step of the walker takes the next field of the line.
 -- Assumes nothing.
+use Rattle.std.specs.Prelude.{Option, Some, None, Result, Ok, Err, ⊤}
 use Prim.Native.Nat.{ℕ, ◌+◌, ◌≤◌, ◌<◌}
 use mathlib.Core.Path.{◌≡◌, refl, ◌∙◌}
 use mathlib.Core.List.{List, [], ◌∷◌}
@@ -12,8 +13,6 @@ use native.Mathlib.Omega.{arith}
 use Rattle.text.specs.Bytes.{pick, byte, first_of}
 use Rattle.text.specs.Utf8.{valid_run}
 use Rattle.text.specs.declared.uuid.Spelled.{Spelled}
-use Rattle.text.specs.declared.uuid.UuidParse.{UuidParse}
-use Rattle.text.specs.declared.uuid.UuidParse.TheVariants as Up
 use Rattle.line.specs.declared.mapping.Mapping.{Mapping}
 use Rattle.line.specs.Fields.{find_from, field, fields_of}
 use Rattle.line.specs.Puts.{puts_of}
@@ -26,9 +25,7 @@ use Rattle.line.specs.declared.parser.State.{State}
 use Rattle.line.specs.declared.parser.State.TheVariants as St
 use Rattle.line.specs.declared.parser.Stepped.{Stepped}
 use Rattle.line.specs.declared.parser.Token.TheVariants as Tk
-use Rattle.line.specs.declared.parser.Answer.TheVariants.{Found}
 use Rattle.line.specs.declared.reading.ParseSdlMappingError.{ParseSdlMappingError}
-use Rattle.line.specs.declared.reading.SdlAnswer.TheVariants.{Accepted, Refused}
 use Rattle.line.specs.declared.reading.SdlMapping.{SdlMapping}
 use Rattle.line.proofs.FieldLaws.{ahead, field-length, fields_at}
 
@@ -86,16 +83,16 @@ module _ (s : List ℕ) (p k : ℕ) (m : Mapping) (buttons axes : List ℕ) wher
       → pick t (refuses (refusal_at 2 0)) (named_from (p + k + 1) (fields_of (drop (k + 1) (drop p s)))
       (with_name m (p + k + 1) 0) buttons axes)
       ≡ onward s p m (pick t (stepped (refuse 2 0) p St.Invalid)
-      (stepped (Found (Tk.Uuid u.id)) (p + k + 1) St.Name)) buttons axes
+      (stepped (Some (Ok (Tk.Uuid u.id))) (p + k + 1) St.Name)) buttons axes
   unfolding taken rest_of puts_of
   uuid_cut u true = refl
   uuid_cut u false = let e : p + (k + 1) ≡ p + k + 1 = omega arith in rw (drop-drop (k + 1) p s, e)
 
-  head_step : (g : UuidParse) → p < length s → headed g p k (drop p s) m buttons axes
+  head_step : (g : Option Spelled) → p < length s → headed g p k (drop p s) m buttons axes
       ≡ onward s p m (uuid_step g p (p + k) (length s)) buttons axes
   unfolding taken rest_of
-  head_step Up.Invalid h = refl
-  head_step (Up.Parsed u) h = rw (same_end s p k h) (uuid_cut u (eqb k (length (drop p s))))
+  head_step None h = refl
+  head_step (Some u) h = rw (same_end s p k h) (uuid_cut u (eqb k (length (drop p s))))
 
 module _ (s : List ℕ) (p : ℕ) (m : Mapping) (buttons axes : List ℕ) (h : p < length s) where
   -- the step at a field that starts at p
@@ -118,26 +115,26 @@ module _ (s : List ℕ) (p : ℕ) (m : Mapping) (buttons axes : List ℕ) (h : p
   rest_step st = rw (lt-ltb p (length s) h) (field_step st)
 
 -- ---- an accepted turn moves on
-refused_not : {A : Type 0} (e : ParseSdlMappingError) → Refused e ≡ Accepted → A
+refused_not : {A : Type 0} (e : ParseSdlMappingError) → ◌≡◌ {A = Result ⊤ ParseSdlMappingError} (Err e) (Ok tt) → A
 refused_not e h = let z : ◌≡◌ {A = ℕ} 0 1 = cc in absurd (omega arith)
 
 module _ (p e n : ℕ) (m : Mapping) (buttons axes : List ℕ) (h : p ≤ e) where
   uuid_ends : (u : Spelled) (t : Bool)
-      → (turn m (pick t (stepped (refuse 2 0) p St.Invalid) (stepped (Found (Tk.Uuid u.id)) (e + 1) St.Name))
-      p buttons axes).answer ≡ Accepted
+      → (turn m (pick t (stepped (refuse 2 0) p St.Invalid) (stepped (Some (Ok (Tk.Uuid u.id))) (e + 1) St.Name))
+      p buttons axes).answer ≡ Ok tt
       → p < (pick t (stepped (refuse 2 0) p St.Invalid)
-      (stepped (Found (Tk.Uuid u.id)) (e + 1) St.Name)).pos
+      (stepped (Some (Ok (Tk.Uuid u.id))) (e + 1) St.Name)).pos
   unfolding taken
   uuid_ends u true a = refused_not _ a
   uuid_ends u false a = omega arith
 
-  uuid_moves : (g : UuidParse) → (turn m (uuid_step g p e n) p buttons axes).answer ≡ Accepted → p < (uuid_step g p e n).pos
+  uuid_moves : (g : Option Spelled) → (turn m (uuid_step g p e n) p buttons axes).answer ≡ Ok tt → p < (uuid_step g p e n).pos
   unfolding taken
-  uuid_moves Up.Invalid a = refused_not _ a
-  uuid_moves (Up.Parsed u) a = uuid_ends u (eqb e n) a
+  uuid_moves None a = refused_not _ a
+  uuid_moves (Some u) a = uuid_ends u (eqb e n) a
 
 field_moves : (s : List ℕ) (p e : ℕ) (m : Mapping) (buttons axes : List ℕ) (st : State) → p ≤ e
-    → (turn m (field_step_of s p e st) p buttons axes).answer ≡ Accepted → p < (field_step_of s p e st).pos
+    → (turn m (field_step_of s p e st) p buttons axes).answer ≡ Ok tt → p < (field_step_of s p e st).pos
 unfolding field_step_of taken
 field_moves s p e m buttons axes St.Uuid h a = uuid_moves p e (length s) m buttons axes h (guid_of (field s p e)) a
 field_moves s p e m buttons axes St.Name h a = omega arith
@@ -146,7 +143,7 @@ field_moves s p e m buttons axes St.Invalid h a = refused_not _ a
 field_moves s p e m buttons axes St.NotUtf8 h a = refused_not _ a
 
 step_moves : (s : List ℕ) (p : ℕ) (m : Mapping) (buttons axes : List ℕ) (st : State) → p < length s
-    → (turn m (step_of s p st) p buttons axes).answer ≡ Accepted → p < (step_of s p st).pos
+    → (turn m (step_of s p st) p buttons axes).answer ≡ Ok tt → p < (step_of s p st).pos
 unfolding step_of
 step_moves s p m buttons axes st h a =
     rw (lt-ltb p (length s) h) (field_moves s p (find_from (byte ",") s p) m buttons axes st (omega arith)
@@ -155,18 +152,18 @@ step_moves s p m buttons axes st h a =
 -- ---- a turn of the loop: x is the step that was taken, y the map after it
 module _ (s buttons axes : List ℕ) (p : ℕ) (st : State) (m : Mapping) (h : p < length s) (x : Stepped)
     (is : x ≡ step_of s p st) (y : SdlMapping) (was : y ≡ turn m x p buttons axes) where
-  pub turn_refused : (e : ParseSdlMappingError) → y.answer ≡ Refused e → rest_of s p st m buttons axes ≡ y
+  pub turn_refused : (e : ParseSdlMappingError) → y.answer ≡ Err e → rest_of s p st m buttons axes ≡ y
   turn_refused e a =
-      let b : (turn m (step_of s p st) p buttons axes).answer ≡ Refused e = rw (was, is) at a in
+      let b : (turn m (step_of s p st) p buttons axes).answer ≡ Err e = rw (was, is) at a in
       rw (was, is) (rest_step s p m buttons axes h st ∙ rw b)
 
-  pub turn_accepted : y.answer ≡ Accepted → rest_of s p st m buttons axes ≡ rest_of s x.pos x.state
+  pub turn_accepted : y.answer ≡ Ok tt → rest_of s p st m buttons axes ≡ rest_of s x.pos x.state
       y.map buttons axes
   turn_accepted a =
-      let b : (turn m (step_of s p st) p buttons axes).answer ≡ Accepted = rw (was, is) at a in
+      let b : (turn m (step_of s p st) p buttons axes).answer ≡ Ok tt = rw (was, is) at a in
       rw (was, is) (rest_step s p m buttons axes h st ∙ rw b)
 
-  pub turn_moves : y.answer ≡ Accepted → p < x.pos
+  pub turn_moves : y.answer ≡ Ok tt → p < x.pos
   turn_moves a =
-      let b : (turn m (step_of s p st) p buttons axes).answer ≡ Accepted = rw (was, is) at a in
+      let b : (turn m (step_of s p st) p buttons axes).answer ≡ Ok tt = rw (was, is) at a in
       rw is (step_moves s p m buttons axes st h b)

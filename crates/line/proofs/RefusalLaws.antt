@@ -1,5 +1,6 @@
 -- The places of every step's refusals and texts, and the order of a reading's: "1 and 2 at 0; 3, 5, 6, 8 .. at p; 4 as
 -- the walker's paragraph says; .. 9 at 0; 10 at the length of the longest valid run". Assumes nothing.
+use Rattle.std.specs.Prelude.{Option, Some, None, Result, Err, Ok}
 use Prim.Native.Nat.{ℕ, suc, ◌+◌, ◌-◌, ◌<◌, ◌≤◌}
 use mathlib.Core.Path.{◌≡◌, refl}
 use mathlib.Core.Logic.{⊎_elim}
@@ -9,18 +10,16 @@ use native.Mathlib.Omega.{arith}
 use borrow.Author.Tests.{eqb-true, eqb-false, ltb-true}
 use lib.Dec.{eqb, ltb}
 use lib.ListN.{length, take, drop, get_or, length-drop}
+use Rattle.line.specs.declared.ev.AxisOrBtn.{AxisOrBtn}
+use Rattle.text.specs.declared.uuid.Spelled.{Spelled}
+use Rattle.line.specs.declared.parser.Error.{Error}
+use Rattle.line.specs.declared.parser.Token.{Token}
 use Rattle.text.specs.Bytes.{pick, byte, ascii, same, first_of}
 use Rattle.text.specs.Decimal.{index_number}
 use Rattle.text.specs.Utf8.{valid_run, is_utf8}
 use Rattle.text.proofs.AsciiLaws.{valid_le}
 use Rattle.text.proofs.BytesLaws.{first_le}
 use Rattle.text.proofs.ListLaws.{off, lt_or_le}
-use Rattle.text.specs.declared.decimal.IndexParse.{IndexParse}
-use Rattle.text.specs.declared.decimal.IndexParse.TheVariants as Ip
-use Rattle.text.specs.declared.uuid.UuidParse.{UuidParse}
-use Rattle.text.specs.declared.uuid.UuidParse.TheVariants as Up
-use Rattle.line.specs.declared.tables.KeyElement.{KeyElement}
-use Rattle.line.specs.declared.tables.KeyElement.TheVariants as Ke
 use Rattle.line.specs.declared.parser.AxisRange.{AxisRange}
 use Rattle.line.specs.declared.parser.AxisRange.TheVariants as Ar
 use Rattle.line.specs.declared.parser.value.Value.{Value}
@@ -28,8 +27,6 @@ use Rattle.line.specs.declared.parser.value.Value.TheVariants as Vl
 use Rattle.line.specs.declared.parser.State.{State}
 use Rattle.line.specs.declared.parser.State.TheVariants as St
 use Rattle.line.specs.declared.parser.Stepped.{Stepped}
-use Rattle.line.specs.declared.parser.Answer.{Answer}
-use Rattle.line.specs.declared.parser.Answer.TheVariants as An
 use Rattle.line.specs.Tables.{key_element}
 use Rattle.line.specs.Fields.{count_of, find_from}
 use Rattle.line.specs.Values.{starts_with, axis_numbered, axis_value_of, signed_of, button_value_of}
@@ -38,7 +35,6 @@ use Rattle.line.specs.Pairs.{refuse, half_of, skip_of, mapped_of, keyed_of, pair
 use Rattle.line.specs.Walker.{guid_of, stepped, uuid_step, field_step_of, step_of}
 use Rattle.line.specs.Reading.{refuses, lists_fit, read_line, reading_of}
 use Rattle.line.specs.Refusals.{refusal, refusal_at, reading_outcome}
-use Rattle.line.specs.declared.refusal.Outcome.TheVariants.{Refuses}
 use Rattle.line.specs.Regrouping.{In, here, there}
 use Rattle.line.specs.Places.{field_at, value_part, four_places, PlaceOf, AnswerIn, Stands}
 use Rattle.line.proofs.CountLaws.{find_le, first_below}
@@ -54,24 +50,24 @@ unfolding is_utf8
 run_below s e = below (valid_run s) (length s) (valid_le s) (eqb-false (valid_run s) (length s) e)
 
 -- ---- a value of a pair at p is refused at one of three places, none of them past the value
-abbrev BadAt : ℕ → List ℕ → Value → Type 0
-BadAt p v (Vl.Axis n half inverted) = Unit {0}
-BadAt p v (Vl.Button n) = Unit {0}
-BadAt p v (Vl.Hat h d) = Unit {0}
-BadAt p v (Vl.Bad q) = In q (four_places p v) × (q ≤ p + length v)
+abbrev BadAt : ℕ → List ℕ → Result Value ℕ → Type 0
+BadAt p v (Ok (Vl.Axis n half inverted)) = Unit {0}
+BadAt p v (Ok (Vl.Button n)) = Unit {0}
+BadAt p v (Ok (Vl.Hat h d)) = Unit {0}
+BadAt p v (Err q) = In q (four_places p v) × (q ≤ p + length v)
 
 module _ (p : ℕ) (v : List ℕ) where
-  bad_placed : BadAt p v (Vl.Bad p)
+  bad_placed : BadAt p v (Err p)
   bad_placed = (here, omega arith)
 
-  numbered_placed : (half : AxisRange) (inverted : Bool) (n : IndexParse)
+  numbered_placed : (half : AxisRange) (inverted : Bool) (n : Option ℕ)
       → BadAt p v (axis_numbered p half inverted n)
-  numbered_placed half inverted (Ip.Parsed n) = tt
-  numbered_placed half inverted Ip.Invalid = bad_placed
+  numbered_placed half inverted (Some n) = tt
+  numbered_placed half inverted None = bad_placed
 
-  button_placed : (n : IndexParse) → BadAt p v (button_value_of p n)
-  button_placed (Ip.Parsed n) = tt
-  button_placed Ip.Invalid = bad_placed
+  button_placed : (n : Option ℕ) → BadAt p v (button_value_of p n)
+  button_placed (Some n) = tt
+  button_placed None = bad_placed
 
   axis_placed : (half : AxisRange) (s : List ℕ) → BadAt p v (axis_value_of p half s)
   unfolding axis_value_of
@@ -97,18 +93,18 @@ module _ (p x : ℕ) (t : List ℕ) (e : eqb x (byte "h") ≡ true) where
       let q : p + (dot + 1) + 1 ≡ p + first_of (byte ".") (x ∷ t) + 1 = omega (arith, first_next x t e, is) in
       rw q (there (there here))
 
-  hat_numbers_placed : (dot : ℕ) (h d : IndexParse) → dot ≡ first_of (byte ".") t → dot < length t
+  hat_numbers_placed : (dot : ℕ) (h d : Option ℕ) → dot ≡ first_of (byte ".") t → dot < length t
       → BadAt p (x ∷ t) (hat_numbers p (dot + 1) h d)
-  hat_numbers_placed dot Ip.Invalid d is l = (there here, omega arith)
-  hat_numbers_placed dot (Ip.Parsed h) Ip.Invalid is l = (third dot is, omega (arith, l))
-  hat_numbers_placed dot (Ip.Parsed h) (Ip.Parsed d) is l = tt
+  hat_numbers_placed dot None d is l = (there here, omega arith)
+  hat_numbers_placed dot (Some h) None is l = (third dot is, omega (arith, l))
+  hat_numbers_placed dot (Some h) (Some d) is l = tt
 
   hat_placed : BadAt p (x ∷ t) (hat_of p t)
   unfolding hat_of
   hat_placed = by (eqb (first_of (byte ".") t) (length t)) refl
     where
       by : (b : Bool) → eqb (first_of (byte ".") t) (length t) ≡ b
-          → BadAt p (x ∷ t) (pick b (Vl.Bad p) (hat_numbers p (first_of (byte ".") t + 1)
+          → BadAt p (x ∷ t) (pick b (Err p) (hat_numbers p (first_of (byte ".") t + 1)
           (index_number (take (first_of (byte ".") t) t)) (index_number (drop (first_of (byte ".") t + 1) t))))
       by true q = bad_placed p (x ∷ t)
       by false q =
@@ -122,7 +118,7 @@ hat_value_placed p [] e = absurd (off e)
 hat_value_placed p (x ∷ t) e = hat_placed p x t e
 
 module _ (p : ℕ) (v : List ℕ) where
-  last_placed : (b : Bool) → starts_with (byte "h") v ≡ b → BadAt p v (pick b (hat_of p (drop 1 v)) (Vl.Bad p))
+  last_placed : (b : Bool) → starts_with (byte "h") v ≡ b → BadAt p v (pick b (hat_of p (drop 1 v)) (Err p))
   last_placed true e = hat_value_placed p v e
   last_placed false e = bad_placed p v
 
@@ -137,20 +133,20 @@ module _ (p : ℕ) (v : List ℕ) where
 
 -- ---- a pair f that starts at p of the line s
 module _ (s f : List ℕ) (p : ℕ) (starts : p < length s) (ends : p + length f ≤ length s) where
-  abbrev InLine : Answer → Type 0
+  abbrev InLine : Option (Result Token Error) → Type 0
   InLine a = AnswerIn s f p a
 
-  mapped_placed : (v : Value) (out : AxisRange) (to : KeyElement) → first_of (byte ":") f < length f
+  mapped_placed : (v : Result Value ℕ) (out : AxisRange) (to : Option AxisOrBtn) → first_of (byte ":") f < length f
       → BadAt p (value_part f) v → InLine (mapped_of v out to p)
   unfolding PlaceOf
-  mapped_placed (Vl.Bad q) out to c h =
+  mapped_placed (Err q) out to c h =
       (h.0, omega (arith, starts, ends, c, h.1, length-drop (first_of (byte ":") f + 1) f))
-  mapped_placed (Vl.Axis n half inverted) out (Ke.Is e) c h = tt
-  mapped_placed (Vl.Axis n half inverted) out Ke.Missing c h = (refl, starts)
-  mapped_placed (Vl.Button n) out (Ke.Is e) c h = tt
-  mapped_placed (Vl.Button n) out Ke.Missing c h = (refl, starts)
-  mapped_placed (Vl.Hat k d) out (Ke.Is e) c h = tt
-  mapped_placed (Vl.Hat k d) out Ke.Missing c h = (refl, starts)
+  mapped_placed (Ok (Vl.Axis n half inverted)) out (Some e) c h = tt
+  mapped_placed (Ok (Vl.Axis n half inverted)) out None c h = (refl, starts)
+  mapped_placed (Ok (Vl.Button n)) out (Some e) c h = tt
+  mapped_placed (Ok (Vl.Button n)) out None c h = (refl, starts)
+  mapped_placed (Ok (Vl.Hat k d)) out (Some e) c h = tt
+  mapped_placed (Ok (Vl.Hat k d)) out None c h = (refl, starts)
 
   empty_placed : InLine (refuse 8 p)
   unfolding PlaceOf
@@ -194,10 +190,10 @@ module _ (s : List ℕ) (p : ℕ) (h : p < length s) where
   pub field_ends : p + length (field_at s p) ≤ length s
   field_ends = omega (arith, h, field-length s p h, find_le (byte ",") s p (omega (arith, h)))
 
-  uuid_placed : (g : UuidParse) (e n : ℕ) → StepPlaced (uuid_step g p e n)
+  uuid_placed : (g : Option Spelled) (e n : ℕ) → StepPlaced (uuid_step g p e n)
   unfolding PlaceOf
-  uuid_placed Up.Invalid e n = (refl, omega (arith, h))
-  uuid_placed (Up.Parsed u) e n = picked StepPlaced (eqb e n) (refl, omega (arith, h)) tt
+  uuid_placed None e n = (refl, omega (arith, h))
+  uuid_placed (Some u) e n = picked StepPlaced (eqb e n) (refl, omega (arith, h)) tt
 
   field_placed : (st : State) → Stands s st → StepPlaced (field_step_of s p end st)
   unfolding field_step_of PlaceOf
@@ -213,23 +209,23 @@ unfolding step_of
 step_placed s p st k = by (ltb p (length s)) refl
   where
     by : (t : Bool) → ltb p (length s) ≡ t
-        → AnswerIn s (field_at s p) p (pick t (field_step_of s p (find_from (byte ",") s p) st) (stepped An.End p st)).answer
+        → AnswerIn s (field_at s p) p (pick t (field_step_of s p (find_from (byte ",") s p) st) (stepped None p st)).answer
     by true e = field_placed s p (ltb-true p (length s) e) st k
     by false e = tt
 
 -- ---- "Order: reading 10, 12, then line order."
 pub reading_order : (s buttons axes : List ℕ) → reading_outcome (reading_of s buttons axes).answer
     ≡ pick (is_utf8 s)
-    (pick (lists_fit buttons axes) (reading_outcome (read_line s buttons axes).answer) (Refuses (refusal 12)))
-    (Refuses (refusal_at 10 (valid_run s)))
+    (pick (lists_fit buttons axes) (reading_outcome (read_line s buttons axes).answer) (Err (refusal 12)))
+    (Err (refusal_at 10 (valid_run s)))
 unfolding reading_of
 reading_order s buttons axes = by (is_utf8 s) (lists_fit buttons axes)
   where
     by : (t u : Bool)
         → reading_outcome (pick t (pick u (read_line s buttons axes) (refuses (refusal 12)))
         (refuses (refusal_at 10 (valid_run s)))).answer
-        ≡ pick t (pick u (reading_outcome (read_line s buttons axes).answer) (Refuses (refusal 12)))
-        (Refuses (refusal_at 10 (valid_run s)))
+        ≡ pick t (pick u (reading_outcome (read_line s buttons axes).answer) (Err (refusal 12)))
+        (Err (refusal_at 10 (valid_run s)))
     by true true = refl
     by true false = refl
     by false u = refl

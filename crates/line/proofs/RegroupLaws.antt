@@ -1,5 +1,6 @@
 -- `regrouped`: pairs in another order give the same map (document 02, P8). Two puts of one code are the same entry, and
 -- all others change places freely; so do flags, and the bytes of whole fields. Assumes nothing.
+use Rattle.std.specs.Prelude.{Option, Some, None, Ok}
 use Prim.Native.Nat.{ℕ, ◌+◌, ◌≤◌}
 use mathlib.Core.Path.{◌≡◌, refl, sym, ap, ◌∙◌}
 use mathlib.Core.List.{List, ◌∷◌}
@@ -10,16 +11,14 @@ use lib.Bits.{bit_or}
 use lib.Dec.{eqb}
 use lib.ListN.{length, drop}
 use lib.Seq.{length-take-le}
+use Rattle.text.specs.declared.uuid.Spelled.{Spelled}
 use Rattle.text.specs.Bytes.{pick, byte, first_of}
 use Rattle.text.specs.Utf8.{valid_run, is_utf8}
-use Rattle.text.specs.declared.uuid.UuidParse.{UuidParse}
-use Rattle.text.specs.declared.uuid.UuidParse.TheVariants as Up
 use Rattle.text.proofs.AsciiLaws.{Valid, valid_is, is_valid}
 use Rattle.text.proofs.BytesLaws.{first_le}
 use Rattle.line.specs.declared.mapping.Entry.{Entry}
 use Rattle.line.specs.declared.parser.ErrorKind.TheVariants as Ek
 use Rattle.line.specs.declared.reading.ParseSdlMappingError.TheVariants as Pe
-use Rattle.line.specs.declared.reading.SdlAnswer.TheVariants.{Accepted}
 use Rattle.line.specs.Maps.{codes_max, MapView, to_map, put_entry, puts_into}
 use Rattle.line.specs.Fields.{first_field, later_fields}
 use Rattle.line.specs.Walker.{guid_of}
@@ -96,7 +95,7 @@ module _ (buttons axes : List ℕ) where
 
   pub pairs_regrouped : (fs gs : List (List ℕ)) (p : ℕ) (v : MapView) → Permuted fs gs
       → Alike (entries_of fs buttons axes) → length v.list ≤ codes_max
-      → (pairs_from p fs (to_map v) buttons axes).answer ≡ Accepted
+      → (pairs_from p fs (to_map v) buttons axes).answer ≡ Ok tt
       → pairs_from p gs (to_map v) buttons axes ≡ pairs_from p fs (to_map v) buttons axes
   pairs_regrouped fs gs p v o a h ok =
       let was = pairs_accepted buttons axes fs p v h ok in
@@ -118,11 +117,11 @@ all_permuted (then p q) v = all_permuted q (all_permuted p v)
 
 -- ---- lines
 module _ (buttons axes : List ℕ) where
-  shaped_regrouped : (g : UuidParse) (k : ℕ) (n : List ℕ) (fs gs : List (List ℕ)) → Permuted fs gs
-      → Alike (entries_of fs buttons axes) → (shaped buttons axes g k n fs).answer ≡ Accepted
+  shaped_regrouped : (g : Option Spelled) (k : ℕ) (n : List ℕ) (fs gs : List (List ℕ)) → Permuted fs gs
+      → Alike (entries_of fs buttons axes) → (shaped buttons axes g k n fs).answer ≡ Ok tt
       → shaped buttons axes g k n gs ≡ shaped buttons axes g k n fs
-  shaped_regrouped Up.Invalid k n fs gs o a ok = refl
-  shaped_regrouped (Up.Parsed u) k n fs gs o a ok =
+  shaped_regrouped None k n fs gs o a ok = refl
+  shaped_regrouped (Some u) k n fs gs o a ok =
       pairs_regrouped buttons axes fs gs (0 + k + 1 + length n + 1) (named k n) o a (omega arith) ok
 
   module _ (s t : List ℕ) (r : Regrouped s t) where
@@ -132,7 +131,7 @@ module _ (buttons axes : List ℕ) where
         ∙ ap length r.first
         ∙ length-take-le (first_of (byte ",") t) t (first_le (byte ",") t)
 
-    line_regrouped : Alike (entries_of r.pairs buttons axes) → (read_line s buttons axes).answer ≡ Accepted
+    line_regrouped : Alike (entries_of r.pairs buttons axes) → (read_line s buttons axes).answer ≡ Ok tt
         → read_line t buttons axes ≡ read_line s buttons axes
     line_regrouped a ok =
         let x = line_shape buttons axes s r.name r.pairs r.in_s in
@@ -150,12 +149,12 @@ module _ (buttons axes : List ℕ) where
         let g : AllValid (later_fields t) = rw r.in_t (all_permuted (keep r.order) f) in
         valid_first t (rw r.first at w.0) (valid_fields (drop (first_of (byte ",") t + 1) t) g)
 
-    line_reads_alike : Alike (entries_of r.pairs buttons axes) → (reading_of s buttons axes).answer ≡ Accepted
+    line_reads_alike : Alike (entries_of r.pairs buttons axes) → (reading_of s buttons axes).answer ≡ Ok tt
         → reading_of t buttons axes ≡ reading_of s buttons axes
     unfolding reading_of
     line_reads_alike a ok = text (is_utf8 s) refl
       where
-        lists : (b : Bool) → (pick b (read_line s buttons axes) (refuses (refusal 12))).answer ≡ Accepted
+        lists : (b : Bool) → (pick b (read_line s buttons axes) (refuses (refusal 12))).answer ≡ Ok tt
             → pick b (read_line t buttons axes) (refuses (refusal 12))
             ≡ pick b (read_line s buttons axes) (refuses (refusal 12))
         lists true k = line_regrouped a k

@@ -1,20 +1,19 @@
 -- `regrouped` on two small lines: one where it gives the same map, and one where a code is put with two unlike entries
 -- and the maps differ, so that the premise is needed. Assumes nothing.
+use Rattle.std.specs.Prelude.{Option, Some, None, Ok}
 use Prim.Native.Nat.{ℕ}
 use mathlib.Core.Path.{◌≡◌, refl, sym, ap, subst, ◌∙◌}
 use mathlib.Core.Logic.{◌⊎◌, inl, inr}
 use mathlib.Core.List.{List, [], ◌∷◌, ◌++◌}
 use mathlib.Core.Bool.{false}
 use native.Mathlib.Omega.{arith}
+use Rattle.line.specs.declared.ev.AxisOrBtn.{AxisOrBtn}
 use Rattle.text.specs.Bytes.{ascii, same, first_of}
 use Rattle.text.specs.Decimal.{read_digits, unsigned, index_number}
 use Rattle.text.specs.Utf8.{begins, first_length, char_length, run_of, valid_run, is_utf8}
 use Rattle.text.specs.Uuid.{hex_digit, read_hex, hyphenated, uuid_of}
 use Rattle.line.specs.declared.ev.AxisOrBtn.TheVariants.{Axis, Btn}
 use Rattle.line.specs.declared.mapping.Entry.{Entry}
-use Rattle.line.specs.declared.mapping.Mapped.{Mapped}
-use Rattle.line.specs.declared.mapping.Mapped.TheVariants.{To, Nothing}
-use Rattle.line.specs.declared.reading.SdlAnswer.TheVariants.{Accepted}
 use Rattle.line.specs.declared.reading.SdlMapping.{SdlMapping}
 use Rattle.line.specs.Buttons as B
 use Rattle.line.specs.Axes as A
@@ -155,14 +154,14 @@ the_later_stays = (refl, refl)
 -- without the premise the theorem would be false
 abbrev WithoutPremise : Type 0
 WithoutPremise =
-    (s t : List ℕ) (buttons axes : List ℕ) → Regrouped s t → (reading_of s buttons axes).answer ≡ Accepted
+    (s t : List ℕ) (buttons axes : List ℕ) → Regrouped s t → (reading_of s buttons axes).answer ≡ Ok tt
     → reading_of t buttons axes ≡ reading_of s buttons axes
 
 -- the number of the button that 10130 goes to
-abbrev button_in : Mapped → ℕ
-button_in (To (Btn b)) = b.0
-button_in (To (Axis a)) = 0
-button_in Nothing = 0
+abbrev button_in : Option AxisOrBtn → ℕ
+button_in (Some (Btn b)) = b.0
+button_in (Some (Axis a)) = 0
+button_in None = 0
 
 abbrev button0 : SdlMapping → ℕ
 button0 r = button_in (map_of r.map.entries (code_of 0x10130))

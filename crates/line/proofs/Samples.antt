@@ -1,4 +1,5 @@
 -- Document 01's sample lines (a) to (k), read with buttons 10130, 10131 and axes 30000, in one list. Assumes nothing.
+use Rattle.std.specs.Prelude.{Err}
 use Prim.Native.Nat.{ℕ}
 use mathlib.Core.Path.{◌≡◌, refl}
 use mathlib.Core.List.{List, [], ◌∷◌, ◌++◌}
@@ -24,7 +25,6 @@ use Rattle.line.specs.Walker.{guid_of}
 use Rattle.line.specs.Puts.{listed, hat_codes, dpad_axis, hat_puts, puts_of}
 use Rattle.line.specs.Reading.{accepted_of, put_one, taken, pairs_from, named_from, line_from, read_line, reading_of}
 use Rattle.line.specs.Refusals.{refusal_at, reading_outcome}
-use Rattle.line.specs.declared.refusal.Outcome.TheVariants.{Refuses}
 
 -- ---- what a sample says: entries, name, flags; or a number at a place, with the empty map
 pub data Expected : Type 0 where
@@ -33,7 +33,7 @@ pub data Expected : Type 0 where
 
 abbrev pub Gives : SdlMapping → Expected → Type 0
 Gives r (reads v) = r ≡ accepted_of (to_map v)
-Gives r (refuses n p) = (reading_outcome r.answer ≡ Refuses (refusal_at n p)) × (r.map ≡ empty_map)
+Gives r (refuses n p) = (reading_outcome r.answer ≡ Err (refusal_at n p)) × (r.map ≡ empty_map)
 
 pub record Sample : Type 0 where
   pub line : List ℕ

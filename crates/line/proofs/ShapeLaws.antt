@@ -1,5 +1,6 @@
 -- Every map that is read has document 01's shape: the empty map has it, and each put and each change of name or flags
 -- keeps it. Assumes nothing.
+use Rattle.std.specs.Prelude.{Option, Some, None, Result, Ok, Err, ⊤}
 use Prim.Native.Nat.{ℕ, ◌+◌, ◌≤◌}
 use mathlib.Core.Path.{◌≡◌, refl, sym, subst}
 use mathlib.Core.Bool.{Bool, true, false}
@@ -9,22 +10,19 @@ use borrow.Author.Tests.{leb-true}
 use lib.Bits.{bit_or}
 use lib.Dec.{leb, eqb}
 use lib.ListN.{length, drop}
+use Rattle.line.specs.declared.mapping.MapFull.{MapFull}
+use Rattle.text.specs.declared.uuid.Spelled.{Spelled}
+use Rattle.line.specs.declared.reading.ParseSdlMappingError.{ParseSdlMappingError}
+use Rattle.line.specs.declared.parser.Error.{Error}
+use Rattle.line.specs.declared.parser.Token.{Token}
 use Rattle.text.specs.Bytes.{pick, byte, first_of}
 use Rattle.text.specs.Utf8.{valid_run, is_utf8}
-use Rattle.text.specs.declared.uuid.UuidParse.{UuidParse}
-use Rattle.text.specs.declared.uuid.UuidParse.TheVariants as Up
 use Rattle.line.specs.declared.mapping.Entry.{Entry}
 use Rattle.line.specs.declared.mapping.Mapping.{Mapping}
-use Rattle.line.specs.declared.mapping.PutAnswer.{PutAnswer}
-use Rattle.line.specs.declared.mapping.PutResult.{PutResult}
-use Rattle.line.specs.declared.mapping.PutResult.TheVariants.{Stored, Full}
-use Rattle.line.specs.declared.parser.Answer.{Answer}
-use Rattle.line.specs.declared.parser.Answer.TheVariants as An
+use Rattle.line.specs.Maps.{PutAnswer}
 use Rattle.line.specs.declared.reading.puts.Puts.{Puts}
 use Rattle.line.specs.declared.reading.puts.Puts.TheVariants.{Nothing, Name, One, Two, UnknownHatDirection}
 use Rattle.line.specs.declared.reading.ParseSdlMappingError.TheVariants as Pe
-use Rattle.line.specs.declared.reading.SdlAnswer.{SdlAnswer}
-use Rattle.line.specs.declared.reading.SdlAnswer.TheVariants.{Accepted, Refused}
 use Rattle.line.specs.declared.reading.SdlMapping.{SdlMapping}
 use Rattle.line.specs.Fields.{fields_of, first_field}
 use Rattle.line.specs.Maps.{codes_max, MapView, to_map, empty_view, empty_map, Ascending, put_entry, put_of}
@@ -48,8 +46,8 @@ put_into : (v : MapView) (e : Entry) → length v.list ≤ codes_max → Ascendi
 put_into v e l a = rw (put_to_map v e) (by (leb (length (put_entry e v.list)) codes_max) refl)
   where
     by : (b : Bool) → leb (length (put_entry e v.list)) codes_max ≡ b
-        → Shaped (pick {A = PutAnswer} b (record { answer = Stored; map = to_map (with v (put_entry e v.list)) })
-        (record { answer = Full; map = to_map v })).map
+        → Shaped (pick {A = PutAnswer} b (record { answer = Ok tt; map = to_map (with v (put_entry e v.list)) })
+        (record { answer = Err (record {}); map = to_map v })).map
     by true q =
         record {
           view = with v (put_entry e v.list);
@@ -101,14 +99,14 @@ shaped_hat m d s =
       ascends = a;
     }
 
-shaped_follow : (a : SdlAnswer) (part rest : SdlMapping) → Shaped part.map → Shaped rest.map
+shaped_follow : (a : Result ⊤ ParseSdlMappingError) (part rest : SdlMapping) → Shaped part.map → Shaped rest.map
     → Shaped (follow a part rest).map
-shaped_follow Accepted part rest p r = r
-shaped_follow (Refused e) part rest p r = p
+shaped_follow (Ok u) part rest p r = r
+shaped_follow (Err e) part rest p r = p
 
-shaped_stored : (r : PutResult) (m : Mapping) (p : ℕ) → Shaped m → Shaped (stored_at r m p).map
-shaped_stored Stored m p s = s
-shaped_stored Full m p s = shaped_empty
+shaped_stored : (r : Result ⊤ MapFull) (m : Mapping) (p : ℕ) → Shaped m → Shaped (stored_at r m p).map
+shaped_stored (Ok u) m p s = s
+shaped_stored (Err u) m p s = shaped_empty
 
 shaped_one : (m : Mapping) (e : Entry) (p : ℕ) → Shaped m → Shaped (put_one m e p).map
 unfolding put_one
@@ -134,12 +132,12 @@ shaped_pick true x y s t = s
 shaped_pick false x y s t = t
 
 module _ (buttons axes : List ℕ) where
-  shaped_taken : (m : Mapping) (a : Answer) (p q : ℕ) → Shaped m → Shaped (taken m a p q buttons axes).map
+  shaped_taken : (m : Mapping) (a : Option (Result Token Error)) (p q : ℕ) → Shaped m → Shaped (taken m a p q buttons axes).map
   unfolding taken
-  shaped_taken m (An.Found x) p q s = shaped_all m (puts_of x q buttons axes) p s
-  shaped_taken m (An.Refused e) p q s =
+  shaped_taken m (Some (Ok x)) p q s = shaped_all m (puts_of x q buttons axes) p s
+  shaped_taken m (Some (Err e)) p q s =
       shaped_pick (skips e.kind) (accepted_of m) (refused_of (Pe.ParseError e)) s shaped_empty
-  shaped_taken m An.End p q s = s
+  shaped_taken m None p q s = s
 
   shaped_pairs : (fs : List (List ℕ)) (p : ℕ) (m : Mapping) → Shaped m → Shaped (pairs_from p fs m buttons axes).map
   unfolding pairs_from
@@ -156,10 +154,10 @@ module _ (buttons axes : List ℕ) where
   shaped_named (f ∷ fs) p m s =
       shaped_pairs fs (p + length f + 1) (with_name m p (length f)) (shaped_name m p (length f) s)
 
-  shaped_headed : (g : UuidParse) (p k : ℕ) (l : List ℕ) (m : Mapping) → Shaped m
+  shaped_headed : (g : Option Spelled) (p k : ℕ) (l : List ℕ) (m : Mapping) → Shaped m
       → Shaped (headed g p k l m buttons axes).map
-  shaped_headed Up.Invalid p k l m s = shaped_empty
-  shaped_headed (Up.Parsed u) p k l m s =
+  shaped_headed None p k l m s = shaped_empty
+  shaped_headed (Some u) p k l m s =
       shaped_pick (eqb k (length l)) (refuses (refusal_at 2 0))
       (named_from (p + k + 1) (fields_of (drop (k + 1) l)) (with_name m (p + k + 1) 0) buttons axes)
       shaped_empty

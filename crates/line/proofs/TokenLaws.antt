@@ -1,16 +1,16 @@
 -- Counting answers from where the walker stands: a turn takes one answer, and what is left comes to the same. Assumes
 -- nothing.
+use Rattle.std.specs.Prelude.{Option, Some, None, Result, Ok, Err}
 use Prim.Native.Nat.{ℕ, zero, suc, ◌+◌, ◌≤◌, ◌<◌}
 use mathlib.Core.Path.{◌≡◌, refl, sym, ◌∙◌}
 use mathlib.Core.List.{List}
 use native.Mathlib.Omega.{arith}
 use borrow.Author.Tests.{lt-ltb, le-ltb}
 use lib.ListN.{length}
+use Rattle.line.specs.declared.parser.Error.{Error}
+use Rattle.line.specs.declared.parser.Token.{Token}
 use Rattle.line.specs.declared.parser.State.{State}
 use Rattle.line.specs.declared.parser.Stepped.{Stepped}
-use Rattle.line.specs.declared.parser.Answer.{Answer}
-use Rattle.line.specs.declared.parser.Answer.TheVariants as An
-use Rattle.line.specs.declared.parser.tokens.LastRefusal.TheVariants as Lr
 use Rattle.line.specs.declared.parser.tokens.Tokens.{Tokens}
 use Rattle.line.specs.Walker.{start_of, step_of}
 use Rattle.line.specs.Parser.{answers_from, with_answer, count_all, tokens_of}
@@ -22,10 +22,10 @@ pub record Counted (s : List ℕ) (p : ℕ) (st : State) (t : Tokens) : Type 0 w
   pub few : t.count ≤ p
   pub is : count_all t (answers_from fuel s p st) ≡ tokens_of s
 
-counted_few : (t : Tokens) (a : Answer) → (with_answer t a).count ≤ t.count + 1
-counted_few t (An.Found k) = omega arith
-counted_few t (An.Refused e) = omega arith
-counted_few t An.End = omega arith
+counted_few : (t : Tokens) (a : Option (Result Token Error)) → (with_answer t a).count ≤ t.count + 1
+counted_few t (Some (Ok k)) = omega arith
+counted_few t (Some (Err e)) = omega arith
+counted_few t None = omega arith
 
 -- at the end
 module _ (s : List ℕ) (p : ℕ) (st : State) (t : Tokens) (h : length s ≤ p) where
@@ -73,6 +73,6 @@ module _ (s : List ℕ) (p : ℕ) (st : State) (t : Tokens) (h : p < length s) (
 
 -- before the first call
 pub counted-first : (s : List ℕ) (st : State) → st ≡ start_of s
-    → Counted s 0 st (record { count = 0; last = Lr.Nothing })
+    → Counted s 0 st (record { count = 0; last = None })
 unfolding tokens_of
 counted-first s st e = rw e (record { fuel = length s; enough = omega arith; few = omega arith; is = refl })

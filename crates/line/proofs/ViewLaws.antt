@@ -1,4 +1,5 @@
 -- Laws of puts over the list of entries. Assumes nothing.
+use Rattle.std.specs.Prelude.{Ok, Err}
 use Prim.Native.Nat.{ℕ, zero, suc, ◌+◌, ◌-◌, ◌<◌, ◌≤◌}
 use mathlib.Core.Path.{◌≡◌, refl, ap, subst, ◌∙◌}
 use mathlib.Core.Bool.{Bool, true, false}
@@ -10,8 +11,7 @@ use lib.ListN.{length, drop, replicate}
 use lib.Seq.{take-append_seam, drop-append-add}
 use Rattle.line.specs.declared.mapping.Entry.{Entry}
 use Rattle.line.specs.declared.mapping.Mapping.{Mapping}
-use Rattle.line.specs.declared.mapping.PutAnswer.{PutAnswer}
-use Rattle.line.specs.declared.mapping.PutResult.TheVariants.{Stored, Full}
+use Rattle.line.specs.Maps.{PutAnswer}
 use Rattle.text.specs.Bytes.{pick}
 use Rattle.line.proofs.PickLaws.{picked}
 use Rattle.line.specs.Maps.{codes_max, unused_entry, MapView, to_map, held, put_entry, put_of}
@@ -31,8 +31,8 @@ with v es = record {
 abbrev pub put_view : MapView → Entry → PutAnswer
 put_view v e =
     pick (leb (length (put_entry e v.list)) codes_max)
-    (record { answer = Stored; map = to_map (with v (put_entry e v.list)) })
-    (record { answer = Full; map = to_map v })
+    (record { answer = Ok tt; map = to_map (with v (put_entry e v.list)) })
+    (record { answer = Err (record {}); map = to_map v })
 
 module _ {A : Type 0} where
   pub drop-replicate : (k n : ℕ) (a : A) → drop k (replicate n a) ≡ replicate (n - k) a
@@ -75,24 +75,24 @@ put_to_map v e =
 
 -- what the answer of a put says of the entries
 abbrev answered : Bool → Mapping → Mapping → PutAnswer
-answered b x y = pick b (record { answer = Stored; map = x }) (record { answer = Full; map = y })
+answered b x y = pick b (record { answer = Ok tt; map = x }) (record { answer = Err (record {}); map = y })
 
-by-stored : (b : Bool) (x y : Mapping) → (answered b x y).answer ≡ Stored → b ≡ true
+by-stored : (b : Bool) (x y : Mapping) → (answered b x y).answer ≡ Ok tt → b ≡ true
 by-stored true x y e = refl
 by-stored false x y e = cc
 
-by_full : (b : Bool) (x y : Mapping) → (answered b x y).answer ≡ Full → b ≡ false
+by_full : (b : Bool) (x y : Mapping) → (answered b x y).answer ≡ Err (record {}) → b ≡ false
 by_full true x y e = cc
 by_full false x y e = refl
 
 module _ (v : MapView) (e : Entry) where
-  pub stored_fits : (put_of (to_map v) e).answer ≡ Stored → leb (length (put_entry e v.list)) codes_max ≡ true
+  pub stored_fits : (put_of (to_map v) e).answer ≡ Ok tt → leb (length (put_entry e v.list)) codes_max ≡ true
   stored_fits p = by-stored _ _ _ (rw (put_to_map v e) at p)
 
-  pub full_over : (put_of (to_map v) e).answer ≡ Full → leb (length (put_entry e v.list)) codes_max ≡ false
+  pub full_over : (put_of (to_map v) e).answer ≡ Err (record {}) → leb (length (put_entry e v.list)) codes_max ≡ false
   full_over p = by_full _ _ _ (rw (put_to_map v e) at p)
 
-  pub stored-map : (put_of (to_map v) e).answer ≡ Stored → (put_of (to_map v) e).map ≡ to_map (with v (put_entry e v.list))
+  pub stored-map : (put_of (to_map v) e).answer ≡ Ok tt → (put_of (to_map v) e).map ≡ to_map (with v (put_entry e v.list))
   stored-map p = rw (put_to_map v e, stored_fits p)
 
 -- ---- a put that is sure to fit

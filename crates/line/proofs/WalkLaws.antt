@@ -1,4 +1,5 @@
 -- The walker, step after step, walks exactly the fields of the line: the first, the name, the pairs. Assumes nothing.
+use Rattle.std.specs.Prelude.{Some, Ok}
 use Prim.Native.Nat.{ℕ, zero, suc, ◌+◌, ◌-◌, ◌≤◌, ◌<◌}
 use mathlib.Core.Path.{◌≡◌, refl}
 use mathlib.Core.Logic.{⊎_elim}
@@ -8,11 +9,9 @@ use borrow.Author.Tests.{lt-ltb, le-ltb, ne_eqb}
 use lib.ListN.{length, drop, drop_of_length-le}
 use Rattle.text.specs.Bytes.{byte, first_of}
 use Rattle.text.specs.declared.uuid.Spelled.{Spelled}
-use Rattle.text.specs.declared.uuid.UuidParse.TheVariants as Up
 use Rattle.text.proofs.ListLaws.{lt_or_le}
 use Rattle.line.specs.declared.parser.State.TheVariants as St
 use Rattle.line.specs.declared.parser.Token.TheVariants as Tk
-use Rattle.line.specs.declared.parser.Answer.TheVariants.{Found}
 use Rattle.line.specs.Fields.{find_from, fields_of, first_field, later_fields}
 use Rattle.line.specs.Parser.{answers_from}
 use Rattle.line.specs.Walks.{pairs_at, named_at, WalksLine}
@@ -72,11 +71,11 @@ walks_named zero s p h = name_past s p 0 (omega arith)
 walks_named (suc n) s p h = ⊎_elim (λ k. name_inside s p n k h) (λ k. name_past s p (suc n) k) (lt_or_le p (length s))
 
 -- ---- the whole line, where its first field is a UUID and a comma follows
-module _ (s : List ℕ) (u : Spelled) (g : guid_of (first_field s) ≡ Up.Parsed u)
+module _ (s : List ℕ) (u : Spelled) (g : guid_of (first_field s) ≡ Some u)
     (h : first_of (byte ",") s < length s) where
   abbrev Walked : ℕ → Type 0
   Walked n =
-      answers_from n s 0 St.Uuid ≡ Found (Tk.Uuid u.id) ∷ named_at (first_of (byte ",") s + 1) (later_fields s)
+      answers_from n s 0 St.Uuid ≡ Some (Ok (Tk.Uuid u.id)) ∷ named_at (first_of (byte ",") s + 1) (later_fields s)
 
   walks_on : (n : ℕ) → length s ≡ suc n → Walked (suc n)
   unfolding answers_from step_of field_step_of

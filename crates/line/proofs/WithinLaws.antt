@@ -1,5 +1,6 @@
 -- The place of a reading's refusal and the name of its map lie within the line: a reading is the walker's steps, one
 -- after the other, and each of them has its places there. Assumes nothing.
+use Rattle.std.specs.Prelude.{Option, Some, None, Result, Ok, Err, ⊤}
 use Prim.Native.Nat.{ℕ, zero, suc, ◌+◌, ◌<◌, ◌≤◌}
 use mathlib.Core.Path.{◌≡◌, refl, sym, subst}
 use mathlib.Core.Bool.{Bool, true, false}
@@ -9,28 +10,25 @@ use native.Mathlib.Omega.{arith}
 use borrow.Author.Tests.{eqb-false, lt-ltb}
 use lib.Dec.{eqb, leb, ltb}
 use lib.ListN.{length}
+use Rattle.line.specs.declared.mapping.MapFull.{MapFull}
+use Rattle.text.specs.declared.uuid.Spelled.{Spelled}
+use Rattle.line.specs.declared.reading.ParseSdlMappingError.{ParseSdlMappingError}
+use Rattle.line.specs.declared.parser.Error.{Error}
+use Rattle.line.specs.declared.parser.Token.{Token}
 use Rattle.text.specs.Bytes.{pick, byte}
 use Rattle.text.specs.Utf8.{valid_run, is_utf8}
-use Rattle.text.specs.declared.uuid.UuidParse.{UuidParse}
-use Rattle.text.specs.declared.uuid.UuidParse.TheVariants as Up
 use Rattle.text.proofs.ListLaws.{lt_or_le}
 use Rattle.line.specs.declared.mapping.Entry.{Entry}
 use Rattle.line.specs.declared.mapping.Mapping.{Mapping}
-use Rattle.line.specs.declared.mapping.PutAnswer.{PutAnswer}
-use Rattle.line.specs.declared.mapping.PutResult.{PutResult}
-use Rattle.line.specs.declared.mapping.PutResult.TheVariants.{Stored, Full}
+use Rattle.line.specs.Maps.{PutAnswer}
 use Rattle.line.specs.declared.parser.Parser.{Parser}
 use Rattle.line.specs.declared.parser.State.{State}
 use Rattle.line.specs.declared.parser.State.TheVariants as St
 use Rattle.line.specs.declared.parser.Stepped.{Stepped}
 use Rattle.line.specs.declared.parser.Token.TheVariants as Tk
-use Rattle.line.specs.declared.parser.Answer.{Answer}
-use Rattle.line.specs.declared.parser.Answer.TheVariants as An
 use Rattle.line.specs.declared.reading.puts.Puts.{Puts}
 use Rattle.line.specs.declared.reading.puts.Puts.TheVariants.{Nothing, Name, One, Two, UnknownHatDirection}
 use Rattle.line.specs.declared.reading.ParseSdlMappingError.TheVariants as Pe
-use Rattle.line.specs.declared.reading.SdlAnswer.{SdlAnswer}
-use Rattle.line.specs.declared.reading.SdlAnswer.TheVariants.{Accepted, Refused}
 use Rattle.line.specs.declared.reading.SdlMapping.{SdlMapping}
 use Rattle.line.specs.Fields.{find_from, field}
 use Rattle.line.specs.Maps.{codes_max, empty_map, to_map, held, put_entry, with_entries, put_of}
@@ -67,24 +65,24 @@ module _ (n : ℕ) where
   put_named m e h = by (leb (length (put_entry e (held m))) codes_max)
     where
       by : (t : Bool) → NameIn n (pick {A = PutAnswer} t
-          (record { answer = Stored; map = with_entries m (put_entry e (held m)) })
-          (record { answer = Full; map = m })).map
+          (record { answer = Ok tt; map = with_entries m (put_entry e (held m)) })
+          (record { answer = Err (record {}); map = m })).map
       by true = h
       by false = h
 
   module _ (p : ℕ) (l : p < n) where
-    stored_within : (r : PutResult) (m : Mapping) → NameIn n m → Within n (stored_at r m p)
-    stored_within Stored m h = (tt, h)
-    stored_within Full m h = (l, empty_named n)
+    stored_within : (r : Result ⊤ MapFull) (m : Mapping) → NameIn n m → Within n (stored_at r m p)
+    stored_within (Ok u) m h = (tt, h)
+    stored_within (Err u) m h = (l, empty_named n)
 
     one_within : (m : Mapping) (e : Entry) → NameIn n m → Within n (put_one m e p)
     unfolding put_one
     one_within m e h = stored_within (put_of m e).answer (put_of m e).map (put_named m e h)
 
-    follow_within : (a : SdlAnswer) (part rest : SdlMapping) → Within n part → Within n rest
+    follow_within : (a : Result ⊤ ParseSdlMappingError) (part rest : SdlMapping) → Within n part → Within n rest
         → Within n (follow a part rest)
-    follow_within Accepted part rest h k = k
-    follow_within (Refused e) part rest h k = h
+    follow_within (Ok u) part rest h k = k
+    follow_within (Err e) part rest h k = h
 
     flagged_within : (r : SdlMapping) (flags : ℕ) → Within n r → Within n (flagged r flags)
     flagged_within r flags h =
@@ -114,30 +112,30 @@ module _ (s buttons axes : List ℕ) where
 
   module _ (p : ℕ) (l : p < n) (m : Mapping) (h : NameIn n m) where
     -- what the walker answers for a pair f
-    pair_within : (f : List ℕ) (q : ℕ) (a : Answer) → PairAnswer a → AnswerIn s f p a
+    pair_within : (f : List ℕ) (q : ℕ) (a : Option (Result Token Error)) → PairAnswer a → AnswerIn s f p a
         → Within n (taken m a p q buttons axes)
     unfolding taken puts_of PairAnswer
-    pair_within f q (An.Found (Tk.Uuid u)) k i = absurd k
-    pair_within f q (An.Found (Tk.Name start len)) k i = absurd k
-    pair_within f q (An.Found (Tk.Platform start len)) k i = (tt, h)
-    pair_within f q (An.Found (Tk.AxisMapping j to r)) k i =
+    pair_within f q (Some (Ok (Tk.Uuid u))) k i = absurd k
+    pair_within f q (Some (Ok (Tk.Name start len))) k i = absurd k
+    pair_within f q (Some (Ok (Tk.Platform start len))) k i = (tt, h)
+    pair_within f q (Some (Ok (Tk.AxisMapping j to r))) k i =
         all_within n p l m (listed axes j to r) (listed_unnamed axes j to r) h
-    pair_within f q (An.Found (Tk.ButtonMapping j to r)) k i =
+    pair_within f q (Some (Ok (Tk.ButtonMapping j to r))) k i =
         all_within n p l m (listed buttons j to r) (listed_unnamed buttons j to r) h
-    pair_within f q (An.Found (Tk.HatMapping j d to r)) k i =
+    pair_within f q (Some (Ok (Tk.HatMapping j d to r))) k i =
         all_within n p l m (hat_puts j d to r) (hat_unnamed j d to r) h
-    pair_within f q (An.Refused e) k i =
+    pair_within f q (Some (Err e)) k i =
         picked (Within n) (skips e.kind) {x = accepted_of m} {y = refused_of (Pe.ParseError e)} (tt, h)
         (i.1, empty_named n)
-    pair_within f q An.End k i = (tt, h)
+    pair_within f q None k i = (tt, h)
 
-    uuid_within : (g : UuidParse) (e : ℕ) → e ≤ n → Within n (turned m (uuid_step g p e n) p)
+    uuid_within : (g : Option Spelled) (e : ℕ) → e ≤ n → Within n (turned m (uuid_step g p e n) p)
     unfolding taken puts_of
-    uuid_within Up.Invalid e k = (omega (arith, l), empty_named n)
-    uuid_within (Up.Parsed u) e k = by (eqb e n) refl
+    uuid_within None e k = (omega (arith, l), empty_named n)
+    uuid_within (Some u) e k = by (eqb e n) refl
       where
         by : (t : Bool) → eqb e n ≡ t → Within n (turned m (pick t (stepped (refuse 2 0) p St.Invalid)
-            (stepped (An.Found (Tk.Uuid u.id)) (e + 1) St.Name)) p)
+            (stepped (Some (Ok (Tk.Uuid u.id))) (e + 1) St.Name)) p)
         by true q = (omega (arith, l), empty_named n)
         by false q = (tt, omega (arith, below e n k (eqb-false e n q)))
 
@@ -157,9 +155,9 @@ module _ (s buttons axes : List ℕ) where
     step_within st k = rw (lt-ltb p n l) (field_within st k)
 
   -- the state after a step
-  uuid_stands : (g : UuidParse) (p e : ℕ) → Stands s (uuid_step g p e n).state
-  uuid_stands Up.Invalid p e = tt
-  uuid_stands (Up.Parsed u) p e = picked (λ (x : Stepped). Stands s x.state) (eqb e n) tt tt
+  uuid_stands : (g : Option Spelled) (p e : ℕ) → Stands s (uuid_step g p e n).state
+  uuid_stands None p e = tt
+  uuid_stands (Some u) p e = picked (λ (x : Stepped). Stands s x.state) (eqb e n) tt tt
 
   field_stands : (p e : ℕ) (st : State) → Stands s st → Stands s (field_step_of s p e st).state
   unfolding field_step_of
@@ -196,10 +194,10 @@ module _ (s buttons axes : List ℕ) where
       w : Within n y
       w = step_within p l m h st u
 
-      by : (t : SdlAnswer) → y.answer ≡ t → Within n (rest_of s p st m buttons axes)
-      by (Refused e) q =
+      by : (t : Result ⊤ ParseSdlMappingError) → y.answer ≡ t → Within n (rest_of s p st m buttons axes)
+      by (Err e) q =
           subst (λ (r : SdlMapping). Within n r) (sym (turn_refused s buttons axes p st m l x refl y refl e q)) w
-      by Accepted q =
+      by (Ok ok) q =
           let moved = turn_moves s buttons axes p st m l x refl y refl q in
           subst (λ (r : SdlMapping). Within n r) (sym (turn_accepted s buttons axes p st m l x refl y refl q))
           (ih x.pos x.state y.map (omega (arith, f, moved)) (step_stands p st u) w.1)

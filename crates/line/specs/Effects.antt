@@ -1,13 +1,13 @@
 -- What a pair puts, wherever it stands in a line (document 01, 'Reading').
 -- The theorems `regrouped` and `eleven_exactly` rest on these definitions; they assume nothing.
-use Rattle.std.specs.Prelude.{ℕ, ◌≡◌, List, [], ◌∷◌, ◌++◌, Bool, true, false}
+use Rattle.std.specs.Prelude.{ℕ, ◌≡◌, List, [], ◌∷◌, ◌++◌, Bool, true, false, Option, Some, None, Result, Ok, Err}
+use Rattle.line.specs.declared.parser.Error.{Error}
+use Rattle.line.specs.declared.parser.Token.{Token}
 use Rattle.text.specs.Bytes.{pick}
 use Rattle.line.specs.declared.mapping.Entry.{Entry}
 use Rattle.line.specs.Puts.{puts_of}
 use Rattle.line.specs.Reading.{skips}
 use Rattle.line.specs.Pairs.{pair_of}
-use Rattle.line.specs.declared.parser.Answer.{Answer}
-use Rattle.line.specs.declared.parser.Answer.TheVariants as An
 use Rattle.line.specs.declared.reading.puts.Puts.{Puts}
 use Rattle.line.specs.declared.reading.puts.Puts.TheVariants.{Nothing, Name, One, Two, UnknownHatDirection}
 
@@ -32,10 +32,10 @@ puts_effect (Two e f flag) = does (e ∷ f ∷ []) (flag ∷ [])
 puts_effect UnknownHatDirection = stops
 
 -- what the walker says of a pair: "An 8 is skipped", each other refusal is the line's
-unfoldable pub answer_effect : Answer → List ℕ → List ℕ → Effect
-answer_effect (An.Found t) buttons axes = puts_effect (puts_of t 0 buttons axes)
-answer_effect (An.Refused e) buttons axes = pick (skips e.kind) (does [] []) stops
-answer_effect An.End buttons axes = does [] []
+unfoldable pub answer_effect : Option (Result Token Error) → List ℕ → List ℕ → Effect
+answer_effect (Some (Ok t)) buttons axes = puts_effect (puts_of t 0 buttons axes)
+answer_effect (Some (Err e)) buttons axes = pick (skips e.kind) (does [] []) stops
+answer_effect None buttons axes = does [] []
 
 -- a pair with the two lists; what it puts does not depend on its place, so place 0 will do
 abbrev pub effect_of : List ℕ → List ℕ → List ℕ → Effect

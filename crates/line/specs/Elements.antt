@@ -1,16 +1,12 @@
 -- Elements and their native codes (document 01, 'Records'), and the element calls of ev/mod.rs.
 -- Public contracts rest on these definitions; they assume nothing.
-use Rattle.std.specs.Prelude.{ℕ, ◌+◌, ◌-◌, Bool, true, false, List, [], ◌∷◌, leb, eqb}
+use Rattle.std.specs.Prelude.{ℕ, ◌+◌, ◌-◌, Bool, true, false, List, [], ◌∷◌, leb, eqb, Option, Some, None}
 use Rattle.text.specs.Bytes.{pick}
 use Rattle.line.specs.declared.ev.Code.{Code}
 use Rattle.line.specs.declared.ev.Button.{Button}
 use Rattle.line.specs.declared.ev.Axis.{Axis}
 use Rattle.line.specs.declared.ev.AxisOrBtn.{AxisOrBtn}
 use Rattle.line.specs.declared.ev.AxisOrBtn.TheVariants as El
-use Rattle.line.specs.declared.ev.ToNec.{ToNec}
-use Rattle.line.specs.declared.ev.ToNec.TheVariants as Tn
-use Rattle.line.specs.declared.ev.SecondAxis.{SecondAxis}
-use Rattle.line.specs.declared.ev.SecondAxis.TheVariants as Sa
 use Rattle.line.specs.Buttons as B
 use Rattle.line.specs.Axes as A
 
@@ -69,8 +65,8 @@ abbrev pub counted_axis : Axis → ℕ
 counted_axis a = counted_of axis_last a.0
 
 -- `to_nec`: Unknown has no native code
-unfoldable pub to_nec_of : Button → ToNec
-to_nec_of b = pick (eqb (counted_button b) (B.Unknown).0) Tn.Nothing (Tn.Is (button_code (counted_button b)))
+unfoldable pub to_nec_of : Button → Option Code
+to_nec_of b = pick (eqb (counted_button b) (B.Unknown).0) None (Some (button_code (counted_button b)))
 
 -- `is_dpad`
 unfoldable pub is_dpad_of : Button → Bool
@@ -89,15 +85,15 @@ abbrev pub is_axis_of : Axis → Axis → Bool
 is_axis_of a x = eqb (counted_axis a) x.0
 
 -- `second_axis`: the other axis of the same stick, or of the DPad
-unfoldable pub second_axis_of : Axis → SecondAxis
+unfoldable pub second_axis_of : Axis → Option Axis
 second_axis_of a =
-    pick (is_axis_of a A.LeftStickX) (Sa.Is A.LeftStickY)
-    (pick (is_axis_of a A.LeftStickY) (Sa.Is A.LeftStickX)
-    (pick (is_axis_of a A.RightStickX) (Sa.Is A.RightStickY)
-    (pick (is_axis_of a A.RightStickY) (Sa.Is A.RightStickX)
-    (pick (is_axis_of a A.DPadX) (Sa.Is A.DPadY)
-    (pick (is_axis_of a A.DPadY) (Sa.Is A.DPadX)
-    Sa.Nothing)))))
+    pick (is_axis_of a A.LeftStickX) (Some A.LeftStickY)
+    (pick (is_axis_of a A.LeftStickY) (Some A.LeftStickX)
+    (pick (is_axis_of a A.RightStickX) (Some A.RightStickY)
+    (pick (is_axis_of a A.RightStickY) (Some A.RightStickX)
+    (pick (is_axis_of a A.DPadX) (Some A.DPadY)
+    (pick (is_axis_of a A.DPadY) (Some A.DPadX)
+    None)))))
 
 -- "an element is a button or an axis": `is_button`
 abbrev pub is_button_of : AxisOrBtn → Bool

@@ -1,11 +1,9 @@
 -- What `map_rev` answers of a list of entries: the theorem `least_code` in ../proofs/LeastLaws.antt.
 -- The theorem rests on these definitions; they assume nothing.
-use Rattle.std.specs.Prelude.{◌≤◌, ◌≡◌, true, List}
+use Rattle.std.specs.Prelude.{◌≤◌, ◌≡◌, true, List, Option, Some, None}
 use Rattle.line.specs.declared.ev.Code.{Code}
 use Rattle.line.specs.declared.ev.AxisOrBtn.{AxisOrBtn}
 use Rattle.line.specs.declared.mapping.Entry.{Entry}
-use Rattle.line.specs.declared.mapping.Source.{Source}
-use Rattle.line.specs.declared.mapping.Source.TheVariants.{From, Nowhere}
 use Rattle.line.specs.Elements.{same_element}
 use Rattle.line.specs.Regrouping.{In}
 
@@ -21,6 +19,6 @@ pub record Least (xs : List Entry) (el : AxisOrBtn) (c : Code) : Type 0 where
   pub least : (e : Entry) → Leads xs el e → c.0 ≤ e.code.0
 
 -- "`map_rev`: the least code of that element, or none": none exactly where no entry is of that element
-abbrev pub LeastOrNone : List Entry → AxisOrBtn → Source → Type 0
-LeastOrNone xs el (From c) = Least xs el c
-LeastOrNone xs el Nowhere = (e : Entry) → Leads xs el e → ⊥
+abbrev pub LeastOrNone : List Entry → AxisOrBtn → Option Code → Type 0
+LeastOrNone xs el (Some c) = Least xs el c
+LeastOrNone xs el None = (e : Entry) → Leads xs el e → ⊥

@@ -1,6 +1,6 @@
 -- The map from codes to elements (document 01, 'Records' and 'Also').
 -- Public contracts rest on these definitions; they assume nothing.
-use Rattle.std.specs.Prelude.{ℕ, ◌-◌, ◌<◌, List, [], ◌∷◌, ◌++◌, Bool, false, length, take, drop, replicate, ltb, leb, eqb}
+use Rattle.std.specs.Prelude.{ℕ, ◌-◌, ◌<◌, List, [], ◌∷◌, ◌++◌, Bool, false, length, take, drop, replicate, ltb, leb, eqb, Option, Some, None, Result, Ok, Err, ⊤}
 use Rattle.text.specs.Bytes.{pick}
 use Rattle.line.specs.declared.ev.Code.{Code}
 use Rattle.line.specs.declared.ev.AxisOrBtn.{AxisOrBtn}
@@ -9,16 +9,8 @@ use Rattle.line.specs.declared.mapping.Entry.{Entry}
 use Rattle.line.specs.declared.parser.Ranges.{Ranges}
 use Rattle.line.specs.declared.parser.AxisRange.TheVariants as Ar
 use Rattle.line.specs.declared.mapping.Mapping.{Mapping}
-use Rattle.line.specs.declared.mapping.PutResult.TheVariants.{Stored}
-use Rattle.line.specs.declared.mapping.PutAnswer.{PutAnswer}
-use Rattle.line.specs.declared.mapping.Mapped.{Mapped}
-use Rattle.line.specs.declared.mapping.Mapped.TheVariants.{To, Nothing}
-use Rattle.line.specs.declared.mapping.Entered.{Entered}
-use Rattle.line.specs.declared.mapping.Entered.TheVariants.{Is, Absent}
-use Rattle.line.specs.declared.mapping.Source.{Source}
-use Rattle.line.specs.declared.mapping.Source.TheVariants.{From, Nowhere}
+use Rattle.line.specs.declared.mapping.MapFull.{MapFull}
 use Rattle.line.specs.Buttons as B
-use Rattle.line.specs.declared.refusal.Outcome.TheVariants.{Refuses}
 use Rattle.line.specs.Elements.{code_of, same_element}
 use Rattle.line.specs.Refusals.{refusal, put_result_of}
 
@@ -107,28 +99,33 @@ with_entries m es =
       hats_mapped = m.hats_mapped;
     }
 
+-- a put: its answer, and the map after it
+pub record PutAnswer : Type 0 where
+  pub answer : Result ⊤ MapFull
+  pub map : Mapping
+
 -- "257 codes in a map": 11, the map unchanged
 unfoldable pub put_of : Mapping → Entry → PutAnswer
 put_of m e =
     pick (leb (length (put_entry e (held m))) codes_max)
-    (record { answer = Stored; map = with_entries m (put_entry e (held m)) })
-    (record { answer = put_result_of (Refuses (refusal 11)); map = m })
+    (record { answer = Ok tt; map = with_entries m (put_entry e (held m)) })
+    (record { answer = put_result_of (Err (refusal 11)); map = m })
 
 -- ---- "`map`: the first entry of that code, or none"
-unfoldable pub map_of : List Entry → Code → Mapped
-map_of [] c = Nothing
-map_of (x ∷ xs) c = pick (eqb x.code.0 c.0) (To x.element) (map_of xs c)
+unfoldable pub map_of : List Entry → Code → Option AxisOrBtn
+map_of [] c = None
+map_of (x ∷ xs) c = pick (eqb x.code.0 c.0) (Some x.element) (map_of xs c)
 
 -- that entry itself, with its ranges
-unfoldable pub entry_at : List Entry → Code → Entered
-entry_at [] c = Absent
-entry_at (x ∷ xs) c = pick (eqb x.code.0 c.0) (Is x) (entry_at xs c)
+unfoldable pub entry_at : List Entry → Code → Option Entry
+entry_at [] c = None
+entry_at (x ∷ xs) c = pick (eqb x.code.0 c.0) (Some x) (entry_at xs c)
 
 -- ---- "`map_rev`: the least code of that element, or none"
-abbrev pub lesser : Code → Source → Source
-lesser c Nowhere = From c
-lesser c (From d) = pick (ltb d.0 c.0) (From d) (From c)
+abbrev pub lesser : Code → Option Code → Option Code
+lesser c None = Some c
+lesser c (Some d) = pick (ltb d.0 c.0) (Some d) (Some c)
 
-unfoldable pub map_rev_of : List Entry → AxisOrBtn → Source
-map_rev_of [] el = Nowhere
+unfoldable pub map_rev_of : List Entry → AxisOrBtn → Option Code
+map_rev_of [] el = None
 map_rev_of (x ∷ xs) el = pick (same_element x.element el) (lesser x.code (map_rev_of xs el)) (map_rev_of xs el)

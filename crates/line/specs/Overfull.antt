@@ -1,12 +1,10 @@
 -- When a reading answers 11: the theorem `eleven_exactly` in ../proofs/ElevenLaws.antt.
 -- The theorem rests on these definitions; they assume nothing.
-use Rattle.std.specs.Prelude.{ℕ, ◌+◌, ◌<◌, ◌≤◌, ◌≡◌, true, List, [], ◌∷◌, ◌++◌, length}
+use Rattle.std.specs.Prelude.{ℕ, ◌+◌, ◌<◌, ◌≤◌, ◌≡◌, true, List, [], ◌∷◌, ◌++◌, length, Some, Err}
 use Rattle.text.specs.Bytes.{byte, first_of}
 use Rattle.text.specs.Utf8.{is_utf8}
 use Rattle.text.specs.declared.uuid.Spelled.{Spelled}
-use Rattle.text.specs.declared.uuid.UuidParse.TheVariants as Up
 use Rattle.line.specs.declared.mapping.Entry.{Entry}
-use Rattle.line.specs.declared.refusal.Outcome.TheVariants.{Refuses}
 use Rattle.line.specs.Maps.{codes_max, puts_into}
 use Rattle.line.specs.Fields.{first_field, later_fields}
 use Rattle.line.specs.Walker.{guid_of}
@@ -41,14 +39,14 @@ pub record PutsTooMany (s buttons axes : List ℕ) (p : ℕ) : Type 0 where
   pub utf8 : is_utf8 s ≡ true
   pub fit : lists_fit buttons axes ≡ true
   pub id : Spelled
-  pub uuid : guid_of (first_field s) ≡ Up.Parsed id
+  pub uuid : guid_of (first_field s) ≡ Some id
   pub name : List ℕ
   pub pairs : List (List ℕ)
   pub fields : later_fields s ≡ name ∷ pairs
   pub overfull : Overfull (first_of (byte ",") s + 1 + length name + 1) pairs buttons axes p
 
 abbrev pub Says11 : List ℕ → List ℕ → List ℕ → ℕ → Type 0
-Says11 s buttons axes p = reading_outcome (reading_of s buttons axes).answer ≡ Refuses (refusal_at 11 p)
+Says11 s buttons axes p = reading_outcome (reading_of s buttons axes).answer ≡ Err (refusal_at 11 p)
 
 -- "11 at p": exactly where the pair at p puts a 257th unlike code
 pub record ElevenExactly (s buttons axes : List ℕ) (p : ℕ) : Type 0 where

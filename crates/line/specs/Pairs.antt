@@ -1,15 +1,14 @@
 -- A pair that starts at p of the line (document 01, 'Walker'): "checks in this order".
 -- Public contracts rest on these definitions; they assume nothing.
-use Rattle.std.specs.Prelude.{ℕ, ◌+◌, List, Bool, false, eqb, length, take, drop}
+use Rattle.std.specs.Prelude.{ℕ, ◌+◌, List, Bool, false, eqb, length, take, drop, Option, Some, None, Result, Ok, Err}
+use Rattle.line.specs.declared.ev.AxisOrBtn.{AxisOrBtn}
+use Rattle.line.specs.declared.parser.Error.{Error}
+use Rattle.line.specs.declared.parser.Token.{Token}
 use Rattle.text.specs.Bytes.{pick, byte, ascii, same, first_of}
-use Rattle.line.specs.declared.tables.KeyElement.{KeyElement}
-use Rattle.line.specs.declared.tables.KeyElement.TheVariants as Ke
 use Rattle.line.specs.declared.parser.AxisRange.{AxisRange}
 use Rattle.line.specs.declared.parser.AxisRange.TheVariants as Ar
 use Rattle.line.specs.declared.parser.Ranges.{Ranges}
 use Rattle.line.specs.declared.parser.Token.TheVariants as Tk
-use Rattle.line.specs.declared.parser.Answer.{Answer}
-use Rattle.line.specs.declared.parser.Answer.TheVariants.{Found, Refused}
 use Rattle.line.specs.declared.parser.value.Value.{Value}
 use Rattle.line.specs.declared.parser.value.Value.TheVariants as Vl
 use Rattle.line.specs.Kinds.{kind_of}
@@ -18,8 +17,8 @@ use Rattle.line.specs.Fields.{count_of}
 use Rattle.line.specs.Values.{starts_with, value_of}
 
 -- a refusal by document 01's number, at a place
-abbrev pub refuse : ℕ → ℕ → Answer
-refuse n p = Refused (record { kind = kind_of n; position = p })
+abbrev pub refuse : ℕ → ℕ → Option (Result Token Error)
+refuse n p = Some (Err (record { kind = kind_of n; position = p }))
 
 -- "a leading `+` or `-` of the key sets the output half and is cut off"
 unfoldable pub half_of : List ℕ → AxisRange
@@ -36,34 +35,34 @@ abbrev pub ranges_of : AxisRange → AxisRange → Bool → Ranges
 ranges_of input output inverted = record { input = input; output = output; inverted = inverted }
 
 -- "Last, the key is sought in `AXES_SDL` and `AXES`, ..: not there, 5 for an `a` value, else 6."
-abbrev pub axis_token : ℕ → Ranges → KeyElement → ℕ → Answer
-axis_token n r (Ke.Is e) p = Found (Tk.AxisMapping n e r)
-axis_token n r Ke.Missing p = refuse 5 p
+abbrev pub axis_token : ℕ → Ranges → Option AxisOrBtn → ℕ → Option (Result Token Error)
+axis_token n r (Some e) p = Some (Ok (Tk.AxisMapping n e r))
+axis_token n r None p = refuse 5 p
 
-abbrev pub button_token : ℕ → Ranges → KeyElement → ℕ → Answer
-button_token n r (Ke.Is e) p = Found (Tk.ButtonMapping n e r)
-button_token n r Ke.Missing p = refuse 6 p
+abbrev pub button_token : ℕ → Ranges → Option AxisOrBtn → ℕ → Option (Result Token Error)
+button_token n r (Some e) p = Some (Ok (Tk.ButtonMapping n e r))
+button_token n r None p = refuse 6 p
 
-abbrev pub hat_token : ℕ → ℕ → Ranges → KeyElement → ℕ → Answer
-hat_token h d r (Ke.Is e) p = Found (Tk.HatMapping h d e r)
-hat_token h d r Ke.Missing p = refuse 6 p
+abbrev pub hat_token : ℕ → ℕ → Ranges → Option AxisOrBtn → ℕ → Option (Result Token Error)
+hat_token h d r (Some e) p = Some (Ok (Tk.HatMapping h d e r))
+hat_token h d r None p = refuse 6 p
 
 -- the value (4) comes before the key (5, 6)
-abbrev pub mapped_of : Value → AxisRange → KeyElement → ℕ → Answer
-mapped_of (Vl.Bad place) out to p = refuse 4 place
-mapped_of (Vl.Axis n half inverted) out to p = axis_token n (ranges_of half out inverted) to p
-mapped_of (Vl.Button n) out to p = button_token n (ranges_of Ar.Full out false) to p
-mapped_of (Vl.Hat h d) out to p = hat_token h d (ranges_of Ar.Full out false) to p
+abbrev pub mapped_of : Result Value ℕ → AxisRange → Option AxisOrBtn → ℕ → Option (Result Token Error)
+mapped_of (Err place) out to p = refuse 4 place
+mapped_of (Ok (Vl.Axis n half inverted)) out to p = axis_token n (ranges_of half out inverted) to p
+mapped_of (Ok (Vl.Button n)) out to p = button_token n (ranges_of Ar.Full out false) to p
+mapped_of (Ok (Vl.Hat h d)) out to p = hat_token h d (ranges_of Ar.Full out false) to p
 
 -- a key and its value, which stands at place `at` of the line: "empty value, 8; key `platform`, a platform token"
-unfoldable pub keyed_of : List ℕ → List ℕ → ℕ → ℕ → Answer
+unfoldable pub keyed_of : List ℕ → List ℕ → ℕ → ℕ → Option (Result Token Error)
 keyed_of k v p at =
     pick (eqb (length v) 0) (refuse 8 p)
-    (pick (same k (ascii "platform")) (Found (Tk.Platform at (length v)))
+    (pick (same k (ascii "platform")) (Some (Ok (Tk.Platform at (length v))))
     (mapped_of (value_of p v) (half_of k) (key_element (drop (skip_of (half_of k)) k)) p))
 
 -- "not exactly one colon, 3"; else the pair is cut at the colon
-unfoldable pub pair_of : List ℕ → ℕ → Answer
+unfoldable pub pair_of : List ℕ → ℕ → Option (Result Token Error)
 pair_of s p =
     let colon = first_of (byte ":") s in
     pick (eqb (count_of (byte ":") s) 1)

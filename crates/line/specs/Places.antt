@@ -1,12 +1,12 @@
 -- Where refusals and texts lie in the line: of every step `step_placed` in ../proofs/RefusalLaws.antt, of every call of
 -- a walker and of every reading `walker_placed` and `reading_placed` in ../proofs/WithinLaws.antt.
 -- The theorems rest on these definitions; they assume nothing.
-use Rattle.std.specs.Prelude.{ℕ, ◌+◌, ◌<◌, ◌≤◌, ◌≡◌, false, List, [], ◌∷◌, length, drop}
+use Rattle.std.specs.Prelude.{ℕ, ◌+◌, ◌<◌, ◌≤◌, ◌≡◌, false, List, [], ◌∷◌, length, drop, Option, Some, None, Result, Ok, Err, ⊤}
 use Rattle.std.specs.Borrow.{Bor}
+use Rattle.line.specs.declared.refusal.Refusal.{Refusal}
+use Rattle.line.specs.declared.parser.Error.{Error}
 use Rattle.text.specs.Bytes.{byte, first_of}
 use Rattle.text.specs.Utf8.{valid_run, is_utf8}
-use Rattle.line.specs.declared.parser.Answer.{Answer}
-use Rattle.line.specs.declared.parser.Answer.TheVariants as An
 use Rattle.line.specs.declared.parser.ErrorKind.{ErrorKind}
 use Rattle.line.specs.declared.parser.ErrorKind.TheVariants as Ek
 use Rattle.line.specs.declared.parser.Parser.{Parser}
@@ -14,10 +14,6 @@ use Rattle.line.specs.declared.parser.State.{State}
 use Rattle.line.specs.declared.parser.State.TheVariants as St
 use Rattle.line.specs.declared.parser.Token.{Token}
 use Rattle.line.specs.declared.parser.Token.TheVariants as Tk
-use Rattle.line.specs.declared.refusal.Place.{Place}
-use Rattle.line.specs.declared.refusal.Place.TheVariants.{At, NoPlace}
-use Rattle.line.specs.declared.refusal.Outcome.{Outcome}
-use Rattle.line.specs.declared.refusal.Outcome.TheVariants.{Passes, Refuses}
 use Rattle.line.specs.Fields.{find_from, field}
 use Rattle.line.specs.Parser.{parser_of, step_from}
 use Rattle.line.specs.Calls.{after_calls}
@@ -60,10 +56,10 @@ TextIn n (Tk.ButtonMapping from to ranges) = Unit {0}
 TextIn n (Tk.HatMapping hat direction to ranges) = Unit {0}
 
 -- a refusal has its place, which is one of the line; a text lies within the line
-abbrev pub AnswerIn : List ℕ → List ℕ → ℕ → Answer → Type 0
-AnswerIn s f p (An.Found t) = TextIn (length s) t
-AnswerIn s f p (An.Refused e) = PlaceOf s f p e.kind e.position × (e.position < length s)
-AnswerIn s f p An.End = Unit {0}
+abbrev pub AnswerIn : List ℕ → List ℕ → ℕ → Option (Result Token Error) → Type 0
+AnswerIn s f p (Some (Ok t)) = TextIn (length s) t
+AnswerIn s f p (Some (Err e)) = PlaceOf s f p e.kind e.position × (e.position < length s)
+AnswerIn s f p None = Unit {0}
 
 -- of the states in which `Parser::new` leaves a walker and to which its steps lead, NotUtf8 is that of a line that isn't
 abbrev pub Stands : List ℕ → State → Type 0
@@ -82,13 +78,13 @@ abbrev pub WalkerPlaced : Type 0
 WalkerPlaced = (s : Bor (List ℕ)) (n : ℕ) → CallPlaced (after_calls n (parser_of s))
 
 -- ---- a reading
-abbrev pub PlaceIn : ℕ → Place → Type 0
-PlaceIn n (At q) = q < n
-PlaceIn n NoPlace = Unit {0}
+abbrev pub PlaceIn : ℕ → Option ℕ → Type 0
+PlaceIn n (Some q) = q < n
+PlaceIn n None = Unit {0}
 
-abbrev pub OutcomeIn : ℕ → Outcome → Type 0
-OutcomeIn n Passes = Unit {0}
-OutcomeIn n (Refuses r) = PlaceIn n r.place
+abbrev pub OutcomeIn : ℕ → Result ⊤ Refusal → Type 0
+OutcomeIn n (Ok u) = Unit {0}
+OutcomeIn n (Err r) = PlaceIn n r.place
 
 -- the place of its refusal is one of the line, and so is the name of its map: "the name's start and length in the line"
 pub record ReadingPlaced (s buttons axes : List ℕ) : Type 0 where

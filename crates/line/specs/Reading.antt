@@ -1,24 +1,20 @@
 -- The reading of a line (document 01, 'Reading'), pair by pair.
 -- Public contracts rest on these definitions; they assume nothing.
-use Rattle.std.specs.Prelude.{ℕ, ◌+◌, List, [], ◌∷◌, Bool, ◌&&◌, eqb, leb, length, drop}
+use Rattle.std.specs.Prelude.{ℕ, ◌+◌, List, [], ◌∷◌, Bool, ◌&&◌, eqb, leb, length, drop, Option, Some, None, Result, Ok, Err, ⊤}
 use Rattle.std.specs.Int.Bits.{bit_or}
+use Rattle.line.specs.declared.mapping.MapFull.{MapFull}
+use Rattle.text.specs.declared.uuid.Spelled.{Spelled}
+use Rattle.line.specs.declared.parser.Error.{Error}
+use Rattle.line.specs.declared.parser.Token.{Token}
 use Rattle.text.specs.Bytes.{pick, byte, first_of}
 use Rattle.text.specs.Utf8.{valid_run, is_utf8}
-use Rattle.text.specs.declared.uuid.UuidParse.{UuidParse}
-use Rattle.text.specs.declared.uuid.UuidParse.TheVariants as Up
 use Rattle.line.specs.declared.mapping.Entry.{Entry}
 use Rattle.line.specs.declared.mapping.Mapping.{Mapping}
-use Rattle.line.specs.declared.mapping.PutResult.{PutResult}
-use Rattle.line.specs.declared.mapping.PutResult.TheVariants.{Stored, Full}
 use Rattle.line.specs.declared.parser.ErrorKind.{ErrorKind}
-use Rattle.line.specs.declared.parser.Answer.{Answer}
-use Rattle.line.specs.declared.parser.Answer.TheVariants as An
 use Rattle.line.specs.declared.reading.puts.Puts.{Puts}
 use Rattle.line.specs.declared.reading.puts.Puts.TheVariants.{Nothing, Name, One, Two, UnknownHatDirection}
 use Rattle.line.specs.declared.reading.ParseSdlMappingError.{ParseSdlMappingError}
 use Rattle.line.specs.declared.reading.ParseSdlMappingError.TheVariants as Pe
-use Rattle.line.specs.declared.reading.SdlAnswer.{SdlAnswer}
-use Rattle.line.specs.declared.reading.SdlAnswer.TheVariants.{Accepted, Refused}
 use Rattle.line.specs.declared.reading.SdlMapping.{SdlMapping}
 use Rattle.line.specs.declared.refusal.Refusal.{Refusal}
 use Rattle.line.specs.Maps.{empty_map, put_of}
@@ -32,19 +28,19 @@ use Rattle.line.specs.Puts.{puts_of}
 -- ---- answers with a map
 -- "A refused reading .. returns the empty map, flags and lengths 0"
 abbrev pub refused_of : ParseSdlMappingError → SdlMapping
-refused_of e = record { answer = Refused e; map = empty_map }
+refused_of e = record { answer = Err e; map = empty_map }
 
 abbrev pub accepted_of : Mapping → SdlMapping
-accepted_of m = record { answer = Accepted; map = m }
+accepted_of m = record { answer = Ok tt; map = m }
 
 -- by document 01's number, with its place where it has one
 abbrev pub refuses : Refusal → SdlMapping
 refuses r = refused_of (reading_error_of r)
 
 -- what follows an accepted part; a refusal stays
-abbrev pub follow : SdlAnswer → SdlMapping → SdlMapping → SdlMapping
-follow Accepted part rest = rest
-follow (Refused e) part rest = part
+abbrev pub follow : Result ⊤ ParseSdlMappingError → SdlMapping → SdlMapping → SdlMapping
+follow (Ok u) part rest = rest
+follow (Err e) part rest = part
 
 -- "Name start": m with that name's start and length
 abbrev pub with_name : Mapping → ℕ → ℕ → Mapping
@@ -72,9 +68,9 @@ with_hat m d =
 
 -- ---- one token
 -- "257 codes in a map": 11 at p
-abbrev pub stored_at : PutResult → Mapping → ℕ → SdlMapping
-stored_at Stored m p = accepted_of m
-stored_at Full m p = refuses (refusal_at 11 p)
+abbrev pub stored_at : Result ⊤ MapFull → Mapping → ℕ → SdlMapping
+stored_at (Ok u) m p = accepted_of m
+stored_at (Err f) m p = refuses (refusal_at 11 p)
 
 -- an entry put by the pair at p; one after an accepted put; the flags after accepted puts
 unfoldable pub put_one : Mapping → Entry → ℕ → SdlMapping
@@ -99,10 +95,10 @@ abbrev pub skips : ErrorKind → Bool
 skips k = eqb (kind_number k) 8
 
 -- what the walker answers at p, after which the line goes on at q
-unfoldable pub taken : Mapping → Answer → ℕ → ℕ → List ℕ → List ℕ → SdlMapping
-taken m (An.Found t) p q buttons axes = put_all m (puts_of t q buttons axes) p
-taken m (An.Refused e) p q buttons axes = pick (skips e.kind) (accepted_of m) (refused_of (Pe.ParseError e))
-taken m An.End p q buttons axes = accepted_of m
+unfoldable pub taken : Mapping → Option (Result Token Error) → ℕ → ℕ → List ℕ → List ℕ → SdlMapping
+taken m (Some (Ok t)) p q buttons axes = put_all m (puts_of t q buttons axes) p
+taken m (Some (Err e)) p q buttons axes = pick (skips e.kind) (accepted_of m) (refused_of (Pe.ParseError e))
+taken m None p q buttons axes = accepted_of m
 
 -- ---- a line
 -- the pairs, the first of them at p, "then line order"
@@ -118,9 +114,9 @@ named_from p [] m buttons axes = accepted_of m
 named_from p (f ∷ fs) m buttons axes = pairs_from (p + length f + 1) fs (with_name m p (length f)) buttons axes
 
 -- the first field, which starts at p and is the first k bytes of s: no UUID, 1; no comma, 2
-abbrev pub headed : UuidParse → ℕ → ℕ → List ℕ → Mapping → List ℕ → List ℕ → SdlMapping
-headed Up.Invalid p k s m buttons axes = refuses (refusal_at 1 0)
-headed (Up.Parsed u) p k s m buttons axes =
+abbrev pub headed : Option Spelled → ℕ → ℕ → List ℕ → Mapping → List ℕ → List ℕ → SdlMapping
+headed None p k s m buttons axes = refuses (refusal_at 1 0)
+headed (Some u) p k s m buttons axes =
     pick (eqb k (length s)) (refuses (refusal_at 2 0))
     (named_from (p + k + 1) (fields_of (drop (k + 1) s)) (with_name m (p + k + 1) 0) buttons axes)
 

@@ -1,8 +1,7 @@
 -- `regrouped`: pairs in another order give the same map (document 02, P8).
 -- The theorem `regrouped` rests on these definitions; they assume nothing. It stands in proofs/RegroupLaws.antt.
-use Rattle.std.specs.Prelude.{ℕ, ◌≡◌, List, [], ◌∷◌}
+use Rattle.std.specs.Prelude.{ℕ, ◌≡◌, List, [], ◌∷◌, Ok}
 use Rattle.line.specs.declared.mapping.Entry.{Entry}
-use Rattle.line.specs.declared.reading.SdlAnswer.TheVariants.{Accepted}
 use Rattle.line.specs.Fields.{first_field, later_fields}
 use Rattle.line.specs.Effects.{entries_of}
 use Rattle.line.specs.Reading.{reading_of}
@@ -41,4 +40,4 @@ pub record Regrouped (s t : List ℕ) : Type 0 where
 abbrev pub ReadsAlike : Type 0
 ReadsAlike =
     (s t : List ℕ) (buttons axes : List ℕ) (r : Regrouped s t) → Alike (entries_of r.pairs buttons axes)
-    → (reading_of s buttons axes).answer ≡ Accepted → reading_of t buttons axes ≡ reading_of s buttons axes
+    → (reading_of s buttons axes).answer ≡ Ok tt → reading_of t buttons axes ≡ reading_of s buttons axes

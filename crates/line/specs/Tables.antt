@@ -1,16 +1,11 @@
 -- The key names of mapping lines and the elements that they name (document 01, 'Walker' and 'Build').
 -- Public contracts rest on these definitions; they assume nothing.
-use Rattle.std.specs.Prelude.{ℕ, zero, suc, ◌+◌, ◌-◌, Bool, true, false, ◌&&◌, List, [], ◌∷◌, ◌++◌, map, ltb, eqb, length, get_or, replicate}
+use Rattle.std.specs.Prelude.{ℕ, zero, suc, ◌+◌, Bool, true, false, ◌&&◌, List, [], ◌∷◌, map, ltb, eqb, get_or, Option, Some, None}
 use Rattle.text.specs.Bytes.{pick, ascii, same}
 use Rattle.line.specs.declared.ev.AxisOrBtn.{AxisOrBtn}
 use Rattle.line.specs.declared.ev.AxisOrBtn.TheVariants.{Axis, Btn}
-use Rattle.line.specs.declared.tables.Order.{Order}
-use Rattle.line.specs.declared.tables.Order.TheVariants.{Less, Equal, Greater}
-use Rattle.line.specs.declared.tables.KeyRow.{KeyRow}
-use Rattle.line.specs.declared.tables.KeyRow.TheVariants.{At, Nowhere}
-use Rattle.line.specs.declared.tables.KeyElement.{KeyElement}
-use Rattle.line.specs.declared.tables.KeyElement.TheVariants.{Is, Missing}
-use Rattle.line.specs.declared.tables.Ident.{Ident}
+use Rattle.std.specs.declared.cmp.Ordering.{Ordering}
+use Rattle.std.specs.declared.cmp.Ordering.TheVariants.{Less, Equal, Greater}
 use Rattle.line.specs.Buttons as B
 use Rattle.line.specs.Axes as A
 use Rattle.line.specs.Elements.{same_element}
@@ -51,33 +46,33 @@ name_at i = get_or axes_sdl i []
 
 -- ---- "the key is sought in `AXES_SDL` and `AXES`"
 -- the first of the names, counted from i, that is the key
-unfoldable pub row_from : ℕ → List (List ℕ) → List ℕ → KeyRow
-row_from i [] key = Nowhere
-row_from i (n ∷ ns) key = pick (same n key) (At i) (row_from (suc i) ns key)
+unfoldable pub row_from : ℕ → List (List ℕ) → List ℕ → Option ℕ
+row_from i [] key = None
+row_from i (n ∷ ns) key = pick (same n key) (Some i) (row_from (suc i) ns key)
 
-unfoldable pub key_row : List ℕ → KeyRow
+unfoldable pub key_row : List ℕ → Option ℕ
 key_row key = row_from 0 axes_sdl key
 
 -- the element that stands in a row
-abbrev pub element_in : KeyRow → KeyElement
-element_in (At i) = Is (get_or axes_table i (Btn B.Unknown))
-element_in Nowhere = Missing
+abbrev pub element_in : Option ℕ → Option AxisOrBtn
+element_in (Some i) = Some (get_or axes_table i (Btn B.Unknown))
+element_in None = None
 
-abbrev pub key_element : List ℕ → KeyElement
+abbrev pub key_element : List ℕ → Option AxisOrBtn
 key_element key = element_in (key_row key)
 
 -- ---- "its ident (the one name in `AXES_SDL` whose row in `AXES` is that element)"
 -- the first of the elements, counted from i, that is e
-unfoldable pub element_from : ℕ → List AxisOrBtn → AxisOrBtn → KeyRow
-element_from i [] e = Nowhere
-element_from i (x ∷ xs) e = pick (same_element x e) (At i) (element_from (suc i) xs e)
+unfoldable pub element_from : ℕ → List AxisOrBtn → AxisOrBtn → Option ℕ
+element_from i [] e = None
+element_from i (x ∷ xs) e = pick (same_element x e) (Some i) (element_from (suc i) xs e)
 
-unfoldable pub element_row : AxisOrBtn → KeyRow
+unfoldable pub element_row : AxisOrBtn → Option ℕ
 element_row e = element_from 0 axes_table e
 
-abbrev pub name_in_line : KeyRow → List ℕ
-name_in_line (At i) = name_at i
-name_in_line Nowhere = []
+abbrev pub name_in_line : Option ℕ → List ℕ
+name_in_line (Some i) = name_at i
+name_in_line None = []
 
 abbrev pub ident_text : AxisOrBtn → List ℕ
 ident_text e = name_in_line (element_row e)
@@ -97,33 +92,19 @@ as_button k = Btn (record { 0 = k })
 abbrev pub as_axis : ℕ → AxisOrBtn
 as_axis k = Axis (record { 0 = k })
 
--- as the program hands it out: the name, filled with zeros, and its length
-abbrev pub padded_name : List ℕ → List ℕ
-padded_name n = n ++ replicate (ident_max - length n) 0
-
--- `axes_sdl` as the program holds it: each name, filled with zeros
-unfoldable pub name_rows : List (List ℕ)
-name_rows = map padded_name axes_sdl
-
-abbrev pub named : List ℕ → Ident
-named n = record { name = padded_name n; len = length n }
-
-abbrev pub ident_of : AxisOrBtn → Ident
-ident_of e = named (ident_text e)
-
 -- ---- "in byte order of the names"
 -- by the first byte that differs, and a text comes after its beginnings
-unfoldable pub byte_order : List ℕ → List ℕ → Order
+unfoldable pub byte_order : List ℕ → List ℕ → Ordering
 byte_order [] [] = Equal
 byte_order [] (y ∷ ys) = Less
 byte_order (x ∷ xs) [] = Greater
 byte_order (x ∷ xs) (y ∷ ys) = pick (ltb x y) Less (pick (ltb y x) Greater (byte_order xs ys))
 
 -- how two places compare
-abbrev pub place_order : ℕ → ℕ → Order
+abbrev pub place_order : ℕ → ℕ → Ordering
 place_order i j = pick (ltb i j) Less (pick (ltb j i) Greater Equal)
 
-abbrev pub same_order : Order → Order → Bool
+abbrev pub same_order : Ordering → Ordering → Bool
 same_order Less Less = true
 same_order Less Equal = false
 same_order Less Greater = false

@@ -3,21 +3,21 @@ mod nec;
 
 ghost use Rattle.std.specs.Prelude.{◌≡◌};
 ghost use Rattle.line.specs.Elements.{counted_of, to_nec_of, is_dpad_of, is_stick_of, is_stick_axis_of, second_axis_of};
-ghost use Rattle.line.specs.Elements.{is_button_of, same_element};
+ghost use Rattle.line.specs.Elements.{is_button_of};
 
 // An event code.
-#[derive(Clone, Copy)]
+#[derive(Clone, Copy, PartialEq, Eq, PartialOrd, Ord)]
 pub struct Code(pub u32);
 
 // A button's number.
-#[derive(Clone, Copy)]
+#[derive(Clone, Copy, PartialEq, Eq)]
 pub struct Button(pub u16);
 
 // An axis's number.
-#[derive(Clone, Copy)]
+#[derive(Clone, Copy, PartialEq, Eq)]
 pub struct Axis(pub u16);
 
-#[derive(Clone, Copy)]
+#[derive(Clone, Copy, PartialEq, Eq)]
 pub enum AxisOrBtn {
     Btn(Button),
     Axis(Axis),
@@ -27,20 +27,6 @@ pub enum AxisOrBtn {
 const BUTTON_LAST: u16 = 19;
 
 const AXIS_LAST: u16 = 8;
-
-// The native code of a button, if it has one.
-#[derive(Clone, Copy)]
-pub enum ToNec {
-    Is(Code),
-    Nothing,
-}
-
-// The other axis of a stick or of the DPad, if there is one.
-#[derive(Clone, Copy)]
-pub enum SecondAxis {
-    Is(Axis),
-    Nothing,
-}
 
 impl Button {
     pub const Unknown: Button = Button(0);
@@ -84,49 +70,36 @@ impl Button {
     pub const DPadRight: Button = Button(19);
 
     // The native code of a button; Unknown has none.
-    pub fn to_nec(self) -> ToNec
+    #[tactic(auto, unfolding(crate::specs::Elements::to_nec_of))]
+    pub fn to_nec(self) -> Option<Code>
         ensures { result ≡ to_nec_of self }
     {
-        let n = counted(self.0, BUTTON_LAST) as usize;
-        if n == 0 {
-            return ToNec::Nothing;
+        match counted(self.0, BUTTON_LAST) {
+            0 => None,
+            n => Some(nec::BUTTONS[n as usize]),
         }
-        let code = nec::BUTTONS[n];
-        ToNec::Is(code)
     }
 
     // Whether a button is a stick's, pressed.
+    #[tactic(auto, unfolding(crate::specs::Elements::is_stick_of))]
     pub fn is_stick(self) -> bool
         ensures { result ≡ is_stick_of self }
     {
-        let n = counted(self.0, BUTTON_LAST);
-        if n == Button::LeftThumb.0 {
-            return true;
-        }
-        if n == Button::RightThumb.0 {
-            return true;
-        }
-        false
+        matches!(
+            Button(counted(self.0, BUTTON_LAST)),
+            Button::LeftThumb | Button::RightThumb
+        )
     }
 
     // Whether a button is one of the DPad.
+    #[tactic(auto, unfolding(crate::specs::Elements::is_dpad_of))]
     pub fn is_dpad(self) -> bool
         ensures { result ≡ is_dpad_of self }
     {
-        let n = counted(self.0, BUTTON_LAST);
-        if n == Button::DPadUp.0 {
-            return true;
-        }
-        if n == Button::DPadDown.0 {
-            return true;
-        }
-        if n == Button::DPadLeft.0 {
-            return true;
-        }
-        if n == Button::DPadRight.0 {
-            return true;
-        }
-        false
+        matches!(
+            Button(counted(self.0, BUTTON_LAST)),
+            Button::DPadUp | Button::DPadDown | Button::DPadLeft | Button::DPadRight
+        )
     }
 }
 
@@ -150,49 +123,30 @@ impl Axis {
     pub const DPadY: Axis = Axis(8);
 
     // Whether an axis is one of a stick.
+    #[tactic(auto, unfolding(crate::specs::Elements::is_stick_axis_of))]
     pub fn is_stick(self) -> bool
         ensures { result ≡ is_stick_axis_of self }
     {
-        let n = counted(self.0, AXIS_LAST);
-        if n == Axis::LeftStickX.0 {
-            return true;
-        }
-        if n == Axis::LeftStickY.0 {
-            return true;
-        }
-        if n == Axis::RightStickX.0 {
-            return true;
-        }
-        if n == Axis::RightStickY.0 {
-            return true;
-        }
-        false
+        matches!(
+            Axis(counted(self.0, AXIS_LAST)),
+            Axis::LeftStickX | Axis::LeftStickY | Axis::RightStickX | Axis::RightStickY
+        )
     }
 
     // The other axis of the same stick, or of the DPad.
-    pub fn second_axis(self) -> SecondAxis
+    #[tactic(auto, unfolding(crate::specs::Elements::second_axis_of))]
+    pub fn second_axis(self) -> Option<Axis>
         ensures { result ≡ second_axis_of self }
     {
-        let n = counted(self.0, AXIS_LAST);
-        if n == Axis::LeftStickX.0 {
-            return SecondAxis::Is(Axis::LeftStickY);
+        match Axis(counted(self.0, AXIS_LAST)) {
+            Axis::LeftStickX => Some(Axis::LeftStickY),
+            Axis::LeftStickY => Some(Axis::LeftStickX),
+            Axis::RightStickX => Some(Axis::RightStickY),
+            Axis::RightStickY => Some(Axis::RightStickX),
+            Axis::DPadX => Some(Axis::DPadY),
+            Axis::DPadY => Some(Axis::DPadX),
+            _ => None,
         }
-        if n == Axis::LeftStickY.0 {
-            return SecondAxis::Is(Axis::LeftStickX);
-        }
-        if n == Axis::RightStickX.0 {
-            return SecondAxis::Is(Axis::RightStickY);
-        }
-        if n == Axis::RightStickY.0 {
-            return SecondAxis::Is(Axis::RightStickX);
-        }
-        if n == Axis::DPadX.0 {
-            return SecondAxis::Is(Axis::DPadY);
-        }
-        if n == Axis::DPadY.0 {
-            return SecondAxis::Is(Axis::DPadX);
-        }
-        SecondAxis::Nothing
     }
 }
 
@@ -201,26 +155,7 @@ impl AxisOrBtn {
     pub fn is_button(self) -> bool
         ensures { result ≡ is_button_of self }
     {
-        match self {
-            AxisOrBtn::Axis(_) => false,
-            AxisOrBtn::Btn(_) => true,
-        }
-    }
-
-    // Whether the two are the same button or the same axis.
-    pub fn eq(self, other: AxisOrBtn) -> bool
-        ensures { result ≡ same_element self other }
-    {
-        match self {
-            AxisOrBtn::Axis(a) => match other {
-                AxisOrBtn::Axis(b) => a.0 == b.0,
-                AxisOrBtn::Btn(_) => false,
-            },
-            AxisOrBtn::Btn(a) => match other {
-                AxisOrBtn::Axis(_) => false,
-                AxisOrBtn::Btn(b) => a.0 == b.0,
-            },
-        }
+        matches!(self, AxisOrBtn::Btn(_))
     }
 }
 

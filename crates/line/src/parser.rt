@@ -9,16 +9,14 @@ ghost use Rattle.line.specs.Walker.{guid_of, uuid_step, field_step_of, start_of,
 ghost use Rattle.line.specs.Walker as specs;
 ghost use Rattle.line.specs.Inner.{refused_as};
 ghost use Rattle.line.specs.Parser.{parser_of, step_from, moved};
-ghost use Rattle.line.specs.Inner.{Lent};
 
 use crate::ev::AxisOrBtn;
 use crate::parser::pair::read_pair;
-use crate::tables::{IDENT_MAX, ROWS, key_kinds, key_names};
 use text::bytes::{find_byte, same_bytes};
 use text::utf8::{is_utf8, valid_up_to};
-use text::uuid::{Form, Spelled, Uuid, UuidParse};
+use text::uuid::{Form, Spelled, Uuid};
 
-#[derive(Clone, Copy)]
+#[derive(Clone, Copy, PartialEq, Eq)]
 pub enum State {
     Uuid,
     Name,
@@ -29,7 +27,7 @@ pub enum State {
 }
 
 // The half of an axis that is meant.
-#[derive(Clone, Copy)]
+#[derive(Clone, Copy, PartialEq, Eq)]
 pub enum AxisRange {
     Full,
     UpperHalf,
@@ -37,7 +35,7 @@ pub enum AxisRange {
 }
 
 // What a pair says of the ranges; buttons and hats have a full input and no inversion.
-#[derive(Clone, Copy)]
+#[derive(Clone, Copy, PartialEq, Eq)]
 pub struct Ranges {
     pub input: AxisRange,
     pub output: AxisRange,
@@ -54,7 +52,7 @@ impl Ranges {
 }
 
 // A text is its start and length in the line. How the UUID is spelled, `first_form` tells.
-#[derive(Clone, Copy)]
+#[derive(Clone, Copy, PartialEq, Eq)]
 pub enum Token {
     Uuid(Uuid),
     Platform {
@@ -83,14 +81,7 @@ pub enum Token {
     },
 }
 
-// How the UUID of a line's first token is spelled, if that token is one.
-#[derive(Clone, Copy)]
-pub enum FirstForm {
-    Is(Form),
-    NoUuid,
-}
-
-#[derive(Clone, Copy)]
+#[derive(Clone, Copy, PartialEq, Eq)]
 pub enum ErrorKind {
     InvalidGuid,
     InvalidKeyValPair,
@@ -103,22 +94,15 @@ pub enum ErrorKind {
     NotUtf8,
 }
 
-#[derive(Clone, Copy)]
+#[derive(Clone, Copy, PartialEq, Eq)]
 pub struct Error {
     pub kind: ErrorKind,
     pub position: usize,
 }
 
-#[derive(Clone, Copy)]
-pub enum Answer {
-    Found(Token),
-    Refused(Error),
-    End,
-}
-
-#[derive(Clone, Copy)]
+#[derive(Clone, Copy, PartialEq, Eq)]
 pub struct Stepped {
-    pub answer: Answer,
+    pub answer: Option<Result<Token, Error>>,
     pub pos: usize,
     pub state: State,
 }
@@ -145,7 +129,7 @@ impl<'a> Parser<'a> {
     }
 
     // One step.
-    pub fn next_token(&mut self) -> Answer
+    pub fn next_token(&mut self) -> Option<Result<Token, Error>>
         ensures { (result ≡ (step_from self.old).answer) × (self.new ≡ moved self.old) }
     {
         let data = self.data;
@@ -159,7 +143,7 @@ impl<'a> Parser<'a> {
 }
 
 // The first answer of a walker that is made over a line.
-pub fn first_token(line: &[u8]) -> Answer
+pub fn first_token(line: &[u8]) -> Option<Result<Token, Error>>
     ensures { result ≡ (step_from (parser_of line.entry)).answer }
 {
     let mut p = Parser::new(line);
@@ -167,24 +151,17 @@ pub fn first_token(line: &[u8]) -> Answer
 }
 
 // How the UUID of a line's first token is spelled: `xinput` is a form of its own.
-pub fn first_form(line: &[u8]) -> FirstForm
+pub fn first_form(line: &[u8]) -> Option<Form>
     ensures { result ≡ first_form line.now }
 {
     if !is_utf8(line) {
-        return FirstForm::NoUuid;
+        return None;
     }
     let end = find_byte(line, b',');
     if end == line.len() {
-        return FirstForm::NoUuid;
+        return None;
     }
-    let parsed = read_guid(&line[0..end]);
-    match parsed {
-        UuidParse::Parsed(spelled) => {
-            let form = spelled.form;
-            FirstForm::Is(form)
-        }
-        UuidParse::Invalid => FirstForm::NoUuid,
-    }
+    Some(read_guid(&line[..end])?.form)
 }
 
 // The state of a walker that is made over a line.
@@ -201,51 +178,29 @@ pub fn start_state(line: &[u8]) -> State
 pub fn step(line: &[u8], pos: usize, state: State) -> Stepped
     ensures { result ≡ step_of line.now pos state }
 {
-    let names = key_names();
-    let kinds = key_kinds();
-    step_by(&names, &kinds, line, pos, state)
-}
-
-// The same by tables that are lent: a walk over a whole line makes them once.
-pub(crate) fn step_by(
-    names: &[[u8; IDENT_MAX]; ROWS],
-    kinds: &[[u16; 2]; ROWS],
-    line: &[u8],
-    pos: usize,
-    state: State,
-) -> Stepped
-    requires { Lent names.now kinds.now }
-    ensures { result ≡ step_of line.now pos state }
-{
     if line.len() <= pos {
-        return take_step(Answer::End, pos, state);
+        return take_step(None, pos, state);
     }
     let comma = find_byte(&line[pos..], b',');
-    field_step(names, kinds, line, pos, pos + comma, state)
+    field_step(line, pos, pos + comma, state)
 }
 
-fn take_step(answer: Answer, pos: usize, state: State) -> Stepped
+fn take_step(answer: Option<Result<Token, Error>>, pos: usize, state: State) -> Stepped
     ensures { result ≡ specs.stepped answer pos state }
 {
     Stepped { answer, pos, state }
 }
 
-fn refused(kind: ErrorKind, position: usize) -> Answer
+fn refused(kind: ErrorKind, position: usize) -> Option<Result<Token, Error>>
     ensures { result ≡ refused_as kind position }
 {
-    Answer::Refused(Error { kind, position })
+    Some(Err(Error { kind, position }))
 }
 
 // A step at p, before the line's end; e is the place of the next comma, or the end.
-fn field_step(
-    names: &[[u8; IDENT_MAX]; ROWS],
-    kinds: &[[u16; 2]; ROWS],
-    line: &[u8],
-    p: usize,
-    e: usize,
-    state: State,
-) -> Stepped
-    requires { Lent names.now kinds.now × (p ≤ e) × (e ≤ length line.now) }
+#[tactic(auto, unfolding(crate::specs::Walker::field_step_of))]
+fn field_step(line: &[u8], p: usize, e: usize, state: State) -> Stepped
+    requires { (p ≤ e) × (e ≤ length line.now) }
     ensures { result ≡ field_step_of line.now p e state }
 {
     match state {
@@ -255,13 +210,9 @@ fn field_step(
                 start: p,
                 len: e - p,
             };
-            take_step(Answer::Found(name), e + 1, State::KeyVal)
+            take_step(Some(Ok(name)), e + 1, State::KeyVal)
         }
-        State::KeyVal => take_step(
-            read_pair(names, kinds, &line[p..e], p),
-            e + 1,
-            State::KeyVal,
-        ),
+        State::KeyVal => take_step(Some(read_pair(&line[p..e], p)), e + 1, State::KeyVal),
         State::Invalid => take_step(refused(ErrorKind::InvalidParserState, 0), p, State::Invalid),
         State::NotUtf8 => take_step(
             refused(ErrorKind::NotUtf8, valid_up_to(line)),
@@ -272,11 +223,12 @@ fn field_step(
 }
 
 // The first field: `xinput` is the nil UUID.
-fn read_guid(s: &[u8]) -> UuidParse
+#[tactic(auto, unfolding(crate::specs::Walker::guid_of))]
+fn read_guid(s: &[u8]) -> Option<Spelled>
     ensures { result ≡ guid_of s.now }
 {
     if same_bytes(s, b"xinput") {
-        return UuidParse::Parsed(Spelled {
+        return Some(Spelled {
             id: Uuid::NIL,
             form: Form::Xinput,
         });
@@ -285,18 +237,18 @@ fn read_guid(s: &[u8]) -> UuidParse
 }
 
 // The step of the first field, which is from p to e of a line of n bytes.
-fn uuid_step(id: UuidParse, p: usize, e: usize, n: usize) -> Stepped
+fn uuid_step(id: Option<Spelled>, p: usize, e: usize, n: usize) -> Stepped
     requires { (e ≤ n) × (n < 2 ^ 63) }
     ensures { result ≡ uuid_step id p e n }
 {
     match id {
-        UuidParse::Invalid => take_step(refused(ErrorKind::InvalidGuid, 0), p, State::Invalid),
-        UuidParse::Parsed(u) => {
+        None => take_step(refused(ErrorKind::InvalidGuid, 0), p, State::Invalid),
+        Some(u) => {
             if e == n {
                 return take_step(refused(ErrorKind::UnexpectedEnd, 0), p, State::Invalid);
             }
             let uuid = u.id;
-            take_step(Answer::Found(Token::Uuid(uuid)), e + 1, State::Name)
+            take_step(Some(Ok(Token::Uuid(uuid))), e + 1, State::Name)
         }
     }
 }

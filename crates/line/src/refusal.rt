@@ -1,38 +1,19 @@
 // A refusal as document 01 tells it: its number, its place, and the code that it carries.
 ghost use Rattle.std.specs.Prelude.{◌≡◌};
-ghost use Rattle.line.specs.Refusals.{refusal_at, refusal, refusal_of, error_refusal, put_outcome};
+ghost use Rattle.line.specs.Refusals.{refusal_at, refusal, refusal_of, error_refusal, full_refusal, put_outcome};
 ghost use Rattle.line.specs.Kinds.{kind_number};
 ghost use Rattle.line.specs.Refusals.{reading_refusal, reading_outcome};
 
 use crate::ev::Code;
-use crate::mapping::PutResult;
+use crate::mapping::MapFull;
 use crate::parser::{Error, ErrorKind};
-use crate::reading::{ParseSdlMappingError, SdlAnswer};
+use crate::reading::ParseSdlMappingError;
 
-#[derive(Clone, Copy)]
-pub enum Place {
-    At(usize),
-    NoPlace,
-}
-
-#[derive(Clone, Copy)]
-pub enum Carried {
-    Carries(Code),
-    NoCode,
-}
-
-#[derive(Clone, Copy)]
+#[derive(Clone, Copy, PartialEq, Eq)]
 pub struct Refusal {
     pub number: u8,
-    pub place: Place,
-    pub code: Carried,
-}
-
-// An answer is a refusal, or it is none.
-#[derive(Clone, Copy)]
-pub enum Outcome {
-    Passes,
-    Refuses(Refusal),
+    pub place: Option<usize>,
+    pub code: Option<Code>,
 }
 
 impl Refusal {
@@ -42,8 +23,8 @@ impl Refusal {
     {
         Refusal {
             number,
-            place: Place::At(place),
-            code: Carried::NoCode,
+            place: Some(place),
+            code: None,
         }
     }
 
@@ -53,8 +34,8 @@ impl Refusal {
     {
         Refusal {
             number: n,
-            place: Place::NoPlace,
-            code: Carried::NoCode,
+            place: None,
+            code: None,
         }
     }
 
@@ -64,25 +45,28 @@ impl Refusal {
     {
         Refusal {
             number: told,
-            place: Place::NoPlace,
-            code: Carried::Carries(code),
+            place: None,
+            code: Some(code),
         }
     }
 }
 
-fn kind_number(kind: ErrorKind) -> u8
-    ensures { result ≡ kind_number kind }
-{
-    match kind {
-        ErrorKind::InvalidGuid => 1,
-        ErrorKind::UnexpectedEnd => 2,
-        ErrorKind::InvalidKeyValPair => 3,
-        ErrorKind::InvalidValue => 4,
-        ErrorKind::UnknownAxis => 5,
-        ErrorKind::UnknownButton => 6,
-        ErrorKind::EmptyValue => 8,
-        ErrorKind::InvalidParserState => 9,
-        ErrorKind::NotUtf8 => 10,
+impl From<ErrorKind> for u8 {
+    ghost from_gives = { λ kind n. n ≡ kind_number kind };
+
+    // The number of a kind.
+    fn from(kind: ErrorKind) -> u8 {
+        match kind {
+            ErrorKind::InvalidGuid => 1,
+            ErrorKind::UnexpectedEnd => 2,
+            ErrorKind::InvalidKeyValPair => 3,
+            ErrorKind::InvalidValue => 4,
+            ErrorKind::UnknownAxis => 5,
+            ErrorKind::UnknownButton => 6,
+            ErrorKind::EmptyValue => 8,
+            ErrorKind::InvalidParserState => 9,
+            ErrorKind::NotUtf8 => 10,
+        }
     }
 }
 
@@ -91,20 +75,16 @@ impl Error {
     pub fn refusal(self) -> Refusal
         ensures { result ≡ error_refusal self }
     {
-        let kind = self.kind;
-        Refusal::at(kind_number(kind), self.position)
+        Refusal::at(u8::from(self.kind), self.position)
     }
 }
 
-impl PutResult {
-    // A put's answer: 11, whose place is the pair's, known to the reading.
-    pub fn outcome(self) -> Outcome
-        ensures { result ≡ put_outcome self }
+impl MapFull {
+    // A put's refusal: 11, whose place is the pair's, known to the reading.
+    pub fn refusal(self) -> Refusal
+        ensures { result ≡ full_refusal self }
     {
-        match self {
-            PutResult::Stored => Outcome::Passes,
-            PutResult::Full => Outcome::Refuses(Refusal::plain(11)),
-        }
+        Refusal::plain(11)
     }
 }
 
@@ -122,14 +102,16 @@ impl ParseSdlMappingError {
     }
 }
 
-impl SdlAnswer {
-    // A reading's answer.
-    pub fn outcome(self) -> Outcome
-        ensures { result ≡ reading_outcome self }
-    {
-        match self {
-            SdlAnswer::Accepted => Outcome::Passes,
-            SdlAnswer::Refused(e) => Outcome::Refuses(e.refusal()),
-        }
-    }
+// A put's answer.
+pub fn put_outcome(answer: Result<(), MapFull>) -> Result<(), Refusal>
+    ensures { result ≡ put_outcome answer }
+{
+    answer.map_err(|full| full.refusal())
+}
+
+// A reading's answer.
+pub fn reading_outcome(answer: Result<(), ParseSdlMappingError>) -> Result<(), Refusal>
+    ensures { result ≡ reading_outcome answer }
+{
+    answer.map_err(|error| error.refusal())
 }

@@ -1,5 +1,6 @@
 -- How long a built line is, where build's checks pass: at most 8544 bytes, a bound made of the limits by name.
 -- Assumes nothing.
+use Rattle.std.specs.Prelude.{Option, Some, None, Result, Ok, Err, ⊤}
 use Prim.Native.Nat.{ℕ, zero, suc, ◌+◌, ◌-◌, ◌<◌, ◌≤◌}
 use mathlib.Core.Path.{◌≡◌, refl}
 use mathlib.Core.Bool.{Bool, true, false}
@@ -11,16 +12,14 @@ use lib.ListN.{length}
 use Rattle.text.specs.Bytes.{pick}
 use Rattle.text.specs.Decimal.{digits, decimal}
 use Rattle.text.specs.declared.uuid.Uuid.{Uuid}
+use Rattle.line.specs.declared.ev.Code.{Code}
 use Rattle.line.specs.declared.ev.AxisOrBtn.{AxisOrBtn}
 use Rattle.line.specs.declared.mapping.Entry.{Entry}
 use Rattle.line.specs.Maps.{entry_of}
 use Rattle.line.specs.Reading.{list_max}
 use Rattle.line.specs.Tables.{axes_sdl, axes_table, element_from, element_row, as_button, as_axis}
-use Rattle.map.specs.declared.error.MappingAnswer.{MappingAnswer}
-use Rattle.map.specs.declared.error.MappingAnswer.TheVariants.{Accepted, Refused}
+use Rattle.map.specs.declared.error.MappingError.{MappingError}
 use Rattle.map.specs.declared.mapping_data.MappingData.{MappingData}
-use Rattle.map.specs.declared.mapping_data.SlotCode.{SlotCode}
-use Rattle.map.specs.declared.mapping_data.SlotCode.TheVariants.{Is, Nothing}
 use Rattle.map.specs.Lists.{place_of, in_list}
 use Rattle.map.specs.Slots.{button_of, axis_of}
 use Rattle.map.specs.Build.{also, filled_from, filled_buttons, filled_axes, missing_of, checks_of, built_line}
@@ -33,13 +32,13 @@ use Rattle.map.proofs.PlainLaws.{AllPlain, buttons_plain, axes_plain, named_butt
 use Rattle.map.proofs.PlainLaws.{axes_named}
 
 -- ---- entries of which none is missing
-pub first-listed : (e : Entry) (es : List Entry) (codes : List ℕ) → missing_of (e ∷ es) codes ≡ Nothing
-    → (place_of e.code codes < length codes) × (missing_of es codes ≡ Nothing)
+pub first-listed : (e : Entry) (es : List Entry) (codes : List ℕ) → missing_of (e ∷ es) codes ≡ None
+    → (place_of e.code codes < length codes) × (missing_of es codes ≡ None)
 unfolding missing_of
 first-listed e es codes h = by (in_list e.code codes) refl h
   where
-    by : (t : Bool) → in_list e.code codes ≡ t → pick t (missing_of es codes) (Is e.code) ≡ Nothing
-        → (place_of e.code codes < length codes) × (missing_of es codes ≡ Nothing)
+    by : (t : Bool) → in_list e.code codes ≡ t → pick t (missing_of es codes) (Some e.code) ≡ None
+        → (place_of e.code codes < length codes) × (missing_of es codes ≡ None)
     by true p q = (ltb-true (place_of e.code codes) (length codes) p, q)
     by false p q = let z : ◌≡◌ {A = ℕ} 0 1 = cc in absurd (omega arith)
 
@@ -48,16 +47,16 @@ pair_most : (codes : List ℕ) (e : Entry) → place_of e.code codes < length co
     → pair_length codes e ≤ pair_max e.element
 pair_most codes e h l = omega (arith, decimal_grows (place_of e.code codes) (list_max - 1) (omega arith))
 
-module _ (code : ℕ → SlotCode) (to : ℕ → AxisOrBtn) (codes : List ℕ) (fit : length codes ≤ list_max) where
-  also_most : (s : SlotCode) (e : AxisOrBtn) (es : List Entry) (n : ℕ) → missing_of (also s e es) codes ≡ Nothing
-      → (missing_of es codes ≡ Nothing → pairs_length codes es ≤ n) → pairs_length codes (also s e es) ≤ pair_max e + n
+module _ (code : ℕ → Option Code) (to : ℕ → AxisOrBtn) (codes : List ℕ) (fit : length codes ≤ list_max) where
+  also_most : (s : Option Code) (e : AxisOrBtn) (es : List Entry) (n : ℕ) → missing_of (also s e es) codes ≡ None
+      → (missing_of es codes ≡ None → pairs_length codes es ≤ n) → pairs_length codes (also s e es) ≤ pair_max e + n
   unfolding pairs_length
-  also_most (Is c) e es n m h =
+  also_most (Some c) e es n m h =
       let w = first-listed (entry_of c e) es codes m in
       omega (arith, pair_most codes (entry_of c e) w.0 fit, h w.1)
-  also_most Nothing e es n m h = omega (arith, h m)
+  also_most None e es n m h = omega (arith, h m)
 
-  pairs_most : (n k : ℕ) → missing_of (filled_from code to n k) codes ≡ Nothing
+  pairs_most : (n k : ℕ) → missing_of (filled_from code to n k) codes ≡ None
       → pairs_length codes (filled_from code to n k) ≤ pairs_max to n k
   unfolding filled_from pairs_length pairs_max
   pairs_most zero k m = omega arith
@@ -100,19 +99,19 @@ unfolding built_max pairs_max decimal digits axes_sdl axes_table element_row ele
 built_max_lem = refl
 
 module _ (d : MappingData) (buttons axes name : List ℕ) (uuid : Uuid) where
-  pub built_length : checks_of d buttons axes name ≡ Accepted → length (built_line d buttons axes name uuid) ≤ built_max
+  pub built_length : checks_of d buttons axes name ≡ Ok tt → length (built_line d buttons axes name uuid) ≤ built_max
   built_length h = built_most d buttons axes name (passed d buttons axes name _ refl h) uuid
 
   pub built_positive : 1 ≤ length (built_line d buttons axes name uuid)
   built_positive = omega (arith, line_length_lem d buttons axes name uuid)
 
-  answer_by : (a : MappingAnswer) (room : ℕ) → built_max ≤ room → checks_of d buttons axes name ≡ a
+  answer_by : (a : Result ⊤ MappingError) (room : ℕ) → built_max ≤ room → checks_of d buttons axes name ≡ a
       → answer_of d buttons axes name uuid room ≡ a
   unfolding answer_of
-  answer_by Accepted room h e =
+  answer_by (Ok tt) room h e =
       let l : length (built_line d buttons axes name uuid) ≤ room = omega (arith, built_length e) in
       rw (e, le-leb (length (built_line d buttons axes name uuid)) room l)
-  answer_by (Refused x) room h e = rw e
+  answer_by (Err x) room h e = rw e
 
   -- an output of that length is never too short
   pub room_enough : (room : ℕ) → built_max ≤ room → answer_of d buttons axes name uuid room ≡ checks_of d buttons axes name
@@ -126,7 +125,7 @@ short_so room n h = by (leb built_line_max room) h
     by true q = let z : ◌≡◌ {A = ℕ} 0 1 = cc in absurd (omega arith)
     by false q = ltb-true room n q
 
-pub fits_so : (d : MappingData) (buttons axes name : List ℕ) (uuid : Uuid) → checks_of d buttons axes name ≡ Accepted
+pub fits_so : (d : MappingData) (buttons axes name : List ℕ) (uuid : Uuid) → checks_of d buttons axes name ≡ Ok tt
     → (room n : ℕ) → n ≡ line_length d buttons axes name → short_of room n ≡ false → n ≤ room
 fits_so d buttons axes name uuid c room n e h = by (leb built_line_max room) refl h
   where

@@ -1,5 +1,6 @@
 -- What a built line holds, where build's checks pass: it is UTF-8, its first field is its UUID, and it has no LF and no
 -- `platform:` where the name has none. Assumes nothing.
+use Rattle.std.specs.Prelude.{Ok, Some}
 use Prim.Native.Nat.{ℕ, suc, ◌<◌}
 use mathlib.Core.Path.{◌≡◌, refl, ap, ◌∙◌}
 use mathlib.Core.Bool.{Bool, true, false}
@@ -15,7 +16,6 @@ use Rattle.text.specs.Utf8.{is_utf8}
 use Rattle.text.specs.Uuid.{is_from, uuid_text, uuid_of, Small}
 use Rattle.text.specs.Inner.{every, is_ascii, either, is_lower_hex}
 use Rattle.text.specs.declared.uuid.Uuid.{Uuid}
-use Rattle.text.specs.declared.uuid.UuidParse.TheVariants.{Parsed}
 use Rattle.text.specs.declared.uuid.Form.TheVariants as F
 use Rattle.text.proofs.ListLaws.{lt_or_le, both_parts, off}
 use Rattle.text.proofs.BytesLaws.{every_append, every-also}
@@ -27,7 +27,6 @@ use Rattle.line.specs.Fields.{count_of, first_field}
 use Rattle.line.specs.Tables.{ident_text}
 use Rattle.line.proofs.CountLaws.{count_append, count_none, first_below}
 use Rattle.line.proofs.JoinLaws.{Free, free_cons, take-before}
-use Rattle.map.specs.declared.error.MappingAnswer.TheVariants.{Accepted}
 use Rattle.map.specs.declared.mapping_data.MappingData.{MappingData}
 use Rattle.map.specs.Lists.{place_of}
 use Rattle.map.specs.Build.{filled_buttons, filled_axes, checks_of, ended, pair_text, pair_texts, built_line}
@@ -176,10 +175,10 @@ module _ (d : MappingData) (buttons axes name : List ℕ) (uuid : Uuid) where
       (count_none is_plain_byte (byte ",") refl (uuid_text uuid) (uuid_plain uuid))
 
   pub built_uuid : Small uuid → uuid_of (first_field (built_line d buttons axes name uuid))
-      ≡ Parsed (record { id = uuid; form = F.Simple })
+      ≡ Some (record { id = uuid; form = F.Simple })
   built_uuid small = rw built_first (uuid_back uuid small)
 
-  module _ (h : checks_of d buttons axes name ≡ Accepted) where
+  module _ (h : checks_of d buttons axes name ≡ Ok tt) where
     pub built_utf8 : is_utf8 (built_line d buttons axes name uuid) ≡ true
     built_utf8 =
         let p = passed d buttons axes name _ refl h in

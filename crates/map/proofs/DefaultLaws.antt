@@ -1,64 +1,37 @@
--- Laws of the default map: the rows of the axes in two tables, those of the buttons in the table of key codes, and the
+-- Laws of the default map: the rows of the axes, those of the buttons in the table of key codes, and the
 -- fold over the rows, one after the other.
 -- Assumes nothing.
 use Prim.Native.Nat.{ℕ, zero, suc, ◌+◌, ◌-◌, ◌≤◌, ◌<◌}
 use mathlib.Core.Path.{◌≡◌, refl, sym, ap, ◌∙◌}
 use mathlib.Core.Bool.{Bool, true, false}
 use mathlib.Core.List.{List, [], ◌∷◌, ◌++◌, map}
-use native.Mathlib.Numerals.{add-one}
 use native.Mathlib.Omega.{arith}
 use borrow.Author.Tests.{eq-eqb, ne_eqb}
 use lib.Dec.{eqb}
-use lib.ListN.{length, drop, get_or, length-map, get_or-map, get_or-replicate}
-use lib.Seq.{drop-cons}
+use lib.ListN.{length, get_or, get_or-map}
 use Rattle.text.specs.Bytes.{pick}
 use Rattle.line.specs.declared.ev.Code.{Code}
 use Rattle.line.specs.declared.ev.AxisOrBtn.{AxisOrBtn}
-use Rattle.line.specs.declared.ev.AxisOrBtn.TheVariants.{Btn}
 use Rattle.line.specs.declared.mapping.Entry.{Entry}
 use Rattle.line.specs.declared.mapping.Mapping.{Mapping}
-use Rattle.line.specs.Buttons as B
 use Rattle.line.specs.Elements.{code_of, button_last}
-use Rattle.line.specs.declared.parser.Ranges.{Ranges}
-use Rattle.line.specs.Maps.{full_ranges, ranged_entry, entry_of, unused_entry, put_entry, to_map, empty_map}
+use Rattle.line.specs.Maps.{codes_max, entry_of, put_entry, to_map, empty_map}
 use Rattle.line.specs.Tables.{as_button}
-use Rattle.line.proofs.TableLaws.{get_d_any}
 use Rattle.line.proofs.ViewLaws.{put_adds}
 use Rattle.map.specs.Keys.{key_first, key_count, key_number}
-use Rattle.map.specs.Default.{button_rows, axis_rows, axis_row_count, in_its_list, put_kept, flagged_map}
+use Rattle.map.specs.Default.{rows, button_rows, axis_rows, axis_row_count, in_its_list, put_kept, flagged_map}
+use Rattle.map.specs.Inner.{PutsListed}
 
--- ---- the rows
-abbrev code_part : Entry → Code
-code_part x = x.code
-
-abbrev element_part : Entry → AxisOrBtn
-element_part x = x.element
-
-abbrev ranges_part : Entry → Ranges
-ranges_part x = x.ranges
-
--- a row, which is full, from its two parts
-pub row_split : (xs : List Entry) (i : ℕ) (c : Code) (e : AxisOrBtn) → i < length xs
-    → (get_or xs i unused_entry).ranges ≡ full_ranges
-    → entry_of (get_or (map code_part xs) i c) (get_or (map element_part xs) i e) ≡ get_or xs i unused_entry
-row_split xs i c e h full =
-    let p : get_or (map code_part xs) i c ≡ (get_or xs i unused_entry).code =
-    get_d_any (map code_part xs) i c (code_of 0) (rw (length-map xs code_part) h)
-    ∙ get_or-map code_part xs i unused_entry in
-    let q : get_or (map element_part xs) i e ≡ (get_or xs i unused_entry).element =
-    get_d_any (map element_part xs) i e (Btn B.Unknown) (rw (length-map xs element_part) h)
-    ∙ get_or-map element_part xs i unused_entry in
-    let x = get_or xs i unused_entry in
-    rw (p, q) (ap (λ (r : Ranges). ranged_entry x.code x.element r) (sym full))
-
-pub rows_full : (i : ℕ) → i < axis_row_count → (get_or axis_rows i unused_entry).ranges ≡ full_ranges
+-- ---- the rows of the axes
+pub rows_long : length axis_rows ≡ axis_row_count
 unfolding axis_rows
-rows_full i h =
-    sym (get_or-map ranges_part axis_rows i unused_entry) ∙ get_or-replicate axis_row_count i full_ranges full_ranges h
+rows_long = refl
 
-pub rows_long : (i : ℕ) → i < axis_row_count → i < length axis_rows
-unfolding axis_rows
-rows_long i h = h
+pub row_of : (rs : List (Code × AxisOrBtn)) (xs : List Entry) (i : ℕ) (d : Code × AxisOrBtn) → i < length rs
+    → map (λ r. entry_of r.0 r.1) rs ≡ xs
+    → entry_of (get_or rs i d).0 (get_or rs i d).1 ≡ get_or xs i (entry_of d.0 d.1)
+row_of rs xs i d h e =
+    sym (get_or-map (λ r. entry_of r.0 r.1) rs i d) ∙ ap (λ (l : List Entry). get_or l i (entry_of d.0 d.1)) e
 
 -- ---- the table of key codes: its rows are those of the buttons
 abbrev pub key_row : ℕ → Entry
@@ -105,21 +78,6 @@ module _ (i : ℕ) (h : i < key_count) where
   rows-some e = rows_next ∙ rw (ne_eqb (key_number (key_first + i)) 0 e)
 
 -- ---- the fold
-module _ (b a : List ℕ) (es xs : List Entry) (i : ℕ) (d : Entry) (h : i < length xs) where
-  pub kept_put : in_its_list b a (get_or xs i d).code ≡ true
-      → put_kept b a es (drop i xs) ≡ put_kept b a (put_entry (get_or xs i d) es) (drop (i + 1) xs)
-  unfolding put_kept
-  kept_put e = rw (drop-cons xs i d h, e, add-one)
-
-  pub kept_not : in_its_list b a (get_or xs i d).code ≡ false
-      → put_kept b a es (drop i xs) ≡ put_kept b a es (drop (i + 1) xs)
-  unfolding put_kept
-  kept_not e = rw (drop-cons xs i d h, e, add-one)
-
-pub rows-done : (b a : List ℕ) (es : List Entry) (i : ℕ) → i ≡ axis_row_count → put_kept b a es (drop i axis_rows) ≡ es
-unfolding axis_rows put_kept
-rows-done b a es i e = rw e
-
 module _ (b a : List ℕ) where
   pub none_kept : (es : List Entry) → put_kept b a es [] ≡ es
   unfolding put_kept
@@ -159,6 +117,43 @@ module _ (b a : List ℕ) where
           → length (put_kept b a es (x ∷ xs)) ≤ length es + length (x ∷ xs)
       by true e p q = rw (row_kept es xs x e) (omega (arith, p, put_adds x es))
       by false e p q = rw (row_dropped es xs x e) (omega (arith, q))
+
+-- ---- a map that the kept rows of all are put into, of which those of `left` are still to come
+module _ (b a : List ℕ) (all : List Entry) where
+  pub record Filling (left : List Entry) (m : Mapping) : Type 0 where
+    pub es : List Entry
+    pub few : length es + length left ≤ codes_max
+    pub is : m ≡ to_map (flagged_map es)
+    pub rest : put_kept b a es left ≡ put_kept b a [] all
+
+  pub fill_none : (m : Mapping) → length all ≤ codes_max → m ≡ to_map (flagged_map []) → Filling all m
+  fill_none m h e = record { es = []; few = omega arith; is = e; rest = refl }
+
+  -- one more is put, if its code is in its list
+  pub fill_turn : (x : Entry) (left : List Entry) (m n : Mapping) → PutsListed b a x m n → Filling (x ∷ left) m
+      → Filling left n
+  fill_turn x left m n h p =
+      record {
+        es = put_kept b a p.es (x ∷ []);
+        few = omega (arith, kept_many b a p.es (x ∷ []), p.few);
+        is = h p.es (omega (arith, p.few)) p.is;
+        rest = sym (kept_append b a p.es (x ∷ []) left) ∙ p.rest;
+      }
+
+  pub fill_end : (m : Mapping) → Filling [] m → m ≡ to_map (flagged_map (put_kept b a [] all))
+  fill_end m p =
+      p.is ∙ ap (λ (es : List Entry). to_map (flagged_map es)) (sym (none_kept b a p.es) ∙ p.rest)
+
+-- after the buttons' rows, those of the axes
+pub fill_axes : (b a : List ℕ) (m : Mapping) → m ≡ to_map (flagged_map (put_kept b a [] button_rows))
+    → Filling b a rows axis_rows m
+fill_axes b a m e =
+    record {
+      es = put_kept b a [] button_rows;
+      few = omega (arith, kept_many b a [] button_rows, buttons_many, rows_long);
+      is = e;
+      rest = sym (kept_append b a [] button_rows axis_rows);
+    }
 
 -- the empty map with the default flag on
 abbrev flagged : Mapping → Mapping

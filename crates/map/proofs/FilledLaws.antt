@@ -1,155 +1,146 @@
--- Laws of the filled slots: how they are gathered, slot after slot, and read, entry after entry.
+-- Laws of the filled slots: how they are gathered, slot after slot, and how many there are.
 -- Assumes nothing.
-use Prim.Native.Nat.{ℕ, zero, suc, ◌+◌, ◌-◌, ◌<◌, ◌≤◌}
-use mathlib.Core.Path.{◌≡◌, refl, sym, ap, subst, ◌∙◌}
-use mathlib.Core.Logic.{⊎_elim}
-use mathlib.Core.List.{List, [], ◌∷◌, ◌++◌, append_assoc, append-nil}
-use native.Mathlib.Numerals.{add-one}
-use native.Mathlib.Omega.{arith}
-use borrow.Author.Tests.{lt-ltb}
-use lib.ListN.{length, drop, get_or, set, length-set, length-replicate}
-use lib.Seq.{drop-cons, get_or-take, take-suc-set, length-take-le, get_or-set_same, get_or-set_other}
-use Rattle.text.proofs.ListLaws.{lt_or_le}
+use Rattle.std.proofs.Common.{ℕ, zero, suc, ◌+◌, ◌-◌, ◌<◌, ◌≤◌, ◌≡◌, Bool, true, false, cond, Option, Some, None, List, [], ◌∷◌, ◌++◌, length, get_or, eqb, ltb, refl, sym, ◌∙◌, append_assoc, append-nil, add-one, arith, lt-ltb, position, is_some}
+use Rattle.std.specs.List.{position_or_len}
+use Rattle.std.proofs.lemmas.List.Recursion.{is_position_or_len}
+use Rattle.text.specs.Bytes.{pick, first_of}
 use Rattle.line.specs.declared.ev.Code.{Code}
 use Rattle.line.specs.declared.ev.AxisOrBtn.{AxisOrBtn}
 use Rattle.line.specs.declared.mapping.Entry.{Entry}
-use Rattle.line.specs.Maps.{unused_entry, entry_of}
+use Rattle.line.specs.Maps.{entry_of}
 use Rattle.line.specs.Tables.{as_button, as_axis}
 use Rattle.map.specs.declared.from_data.filled.Filled.{Filled}
+use Rattle.map.specs.declared.from_data.gather.Kind.{Kind}
+use Rattle.map.specs.declared.from_data.gather.Kind.TheVariants as Kd
 use Rattle.map.specs.declared.mapping_data.MappingData.{MappingData}
-use Rattle.map.specs.declared.mapping_data.SlotCode.{SlotCode}
-use Rattle.map.specs.declared.mapping_data.SlotCode.TheVariants.{Is, Nothing}
-use Rattle.map.specs.Slots.{button_slots, axis_slots, empty_slot, code_in, button_of, axis_of}
-use Rattle.map.specs.Build.{also, filled_from, filled_buttons, filled_axes}
-use Rattle.map.specs.Lists.{place_of}
-use Rattle.map.specs.Inner.{held_in, none_filled_of, PlacedIn}
+use Rattle.map.specs.Slots.{button_slots, axis_slots, empty_slot, button_of, axis_of}
+use Rattle.map.specs.Build.{also, filled_from, filled_buttons, filled_axes, missing_of}
+use Rattle.map.specs.Lists.{place_of, in_list}
+use Rattle.map.specs.Inner.{held_in, placed_at, placed_in, element_of, filled_after}
 
--- ---- one entry more, with its place
-abbrev pub grown : Filled → Entry → ℕ → Filled
-grown f e p =
-    record {
-      count = f.count + 1;
-      entries = set f.entries f.count e;
-      places = set f.places f.count p;
-    }
+-- ---- a code's first place
+place_turn : (t : Bool) (n : ℕ) → pick t 0 (suc n) ≡ cond t 0 (1 + n)
+place_turn true n = refl
+place_turn false n = omega arith
 
-grown_held : (f : Filled) (e : Entry) (p : ℕ) → f.count < length f.entries
-    → held_in (grown f e p) ≡ held_in f ++ e ∷ []
-grown_held f e p h = rw (add-one, take-suc-set f.entries f.count e h)
+pub place_is : (c : ℕ) (xs : List ℕ) → first_of c xs ≡ position_or_len (λ x. eqb x c) xs
+unfolding first_of
+place_is c xs = is_position_or_len (first_of c) (λ x. eqb x c) refl (λ x s. place_turn (eqb x c) (first_of c s)) xs
 
-module _ (codes : List ℕ) where
-  placed_none : PlacedIn codes none_filled_of
-  placed_none = record { at = λ i d h. absurd (omega arith) }
+module _ (c : Code) (codes : List ℕ) where
+  -- it is found, or it is not in the list
+  pub found : (k : ℕ) → position (λ x. eqb x c.0) codes ≡ Some k → (place_of c codes ≡ k) × (in_list c codes ≡ true)
+  found k h = by (ltb (place_of c codes) (length codes)) refl
+    where
+      e : cond (ltb (place_of c codes) (length codes)) (Some (place_of c codes)) None ≡ Some k
+      e = rw (place_is c.0 codes) h
 
-  module _ (f : Filled) (e : Entry) (p : ℕ) (w : PlacedIn codes f) (h : f.count < length f.entries)
-      (l : f.count < length f.places) (q : p ≡ place_of e.code codes) where
-    abbrev Here : Entry → ℕ → Type 0
-    Here d i =
-        get_or (set f.places f.count p) i 0
-        ≡ place_of (get_or (set f.entries f.count e) i d).code codes
+      by : (t : Bool) → in_list c codes ≡ t → (place_of c codes ≡ k) × (in_list c codes ≡ true)
+      by true p = let q : Some (place_of c codes) ≡ Some k = rw p at e in (cc, p)
+      by false p = let q : None ≡ Some k = rw p at e in absurd cc
 
-    before : (d : Entry) (i : ℕ) → i < f.count → Here d i
-    before d i k =
-        get_or-set_other f.places f.count i p 0 (λ z. omega arith) ∙ w.at i d k
-        ∙ ap (λ (x : Entry). place_of x.code codes)
-        (sym (get_or-set_other f.entries f.count i e d (λ z. omega arith)))
+  pub not_found : position (λ x. eqb x c.0) codes ≡ None → in_list c codes ≡ false
+  not_found h = by (ltb (place_of c codes) (length codes)) refl
+    where
+      e : cond (ltb (place_of c codes) (length codes)) (Some (place_of c codes)) None ≡ None
+      e = rw (place_is c.0 codes) h
 
-    here : (d : Entry) → Here d f.count
-    here d =
-        get_or-set_same f.places f.count p 0 l ∙ q
-        ∙ ap (λ (x : Entry). place_of x.code codes) (sym (get_or-set_same f.entries f.count e d h))
+      by : (t : Bool) → in_list c codes ≡ t → in_list c codes ≡ false
+      by true p = let q : Some (place_of c codes) ≡ None = rw p at e in absurd cc
+      by false p = p
 
-    pub placed_more : PlacedIn codes (grown f e p)
-    placed_more =
-        record {
-          at =
-              λ i d k. ⊎_elim (λ lt. before d i lt)
-              (λ ge. let z : f.count ≡ i = omega arith in subst (λ (j : ℕ). Here d j) z (here d))
-              (lt_or_le i f.count);
-        }
+  pub some_place : (o : Option ℕ) → o ≡ position (λ x. eqb x c.0) codes → is_some o ≡ in_list c codes
+  some_place None h = sym (not_found (sym h))
+  some_place (Some k) h = sym (found k (sym h)).1
 
--- ---- a slot that is read by its number
-module _ (d : MappingData) (i : ℕ) (s : SlotCode) where
-  pub button_at : i < button_slots → s ≡ code_in (get_or d.buttons i empty_slot) → s ≡ button_of d (record { 0 = i })
-  unfolding button_of
-  button_at h e = rw (lt-ltb _ _ h) e
-
-  pub axis_at : i < axis_slots → s ≡ code_in (get_or d.axes i empty_slot) → s ≡ axis_of d (record { 0 = i })
-  unfolding axis_of
-  axis_at h e = rw (lt-ltb _ _ h) e
-
--- ---- all slots, one after the other
-also_rest : (s : SlotCode) (to : AxisOrBtn) (rest : List Entry) → also s to rest ≡ also s to [] ++ rest
-also_rest (Is c) to rest = refl
-also_rest Nothing to rest = refl
-
-module _ (codes : List ℕ) (code : ℕ → SlotCode) (to : ℕ → AxisOrBtn) (n : ℕ) where
-  -- f has the filled ones of the slots before i, and those from i on are still to come
+-- ---- slots of one kind, of which those before i are gathered
+module _ (codes : List ℕ) (kind : Kind) (slots : List (Option Code)) where
   pub record Gathering (i : ℕ) (f : Filled) : Type 0 where
-    pub whole : held_in f ++ filled_from code to (n - i) i ≡ filled_from code to n 0
-    pub most : f.count ≤ i
-    pub placed : PlacedIn codes f
-    pub room : (length f.entries ≡ button_slots) × (length f.places ≡ button_slots)
+    pub few : f.count ≤ i
+    pub are : held_in f ++ placed_in codes (filled_after kind slots i) ≡ placed_in codes (filled_after kind slots 0)
+    pub listed : missing_of (filled_after kind slots i) codes ≡ missing_of (filled_after kind slots 0) codes
 
-  filled_next : (i : ℕ) → i < n
-      → filled_from code to (n - i) i ≡ also (code i) (to i) [] ++ filled_from code to (n - (i + 1)) (i + 1)
-  unfolding filled_from
-  filled_next i h =
-      let e : n - i ≡ suc (n - (i + 1)) = omega arith in
-      rw (e, add-one) (also_rest (code i) (to i) (filled_from code to (n - suc i) (suc i)))
+  pub gather_none : (f : Filled) → f.count ≡ 0 → held_in f ≡ [] → Gathering 0 f
+  gather_none f z e = record { few = omega arith; are = rw e; listed = refl }
 
-  pub gather_none : (f : Filled) → f ≡ none_filled_of → Gathering 0 f
-  gather_none f e =
-      let k : n - 0 ≡ n = omega arith in
-      rw e (record {
-        whole = rw k;
-        most = omega arith;
-        placed = placed_none codes;
-        room = (length-replicate button_slots unused_entry, length-replicate {A = ℕ} button_slots 0);
-      })
+  module _ (i : ℕ) (h : i < length slots) where
+    after_next : filled_after kind slots i
+        ≡ also (get_or slots i empty_slot) (element_of kind i) (filled_after kind slots (i + 1))
+    unfolding filled_from
+    after_next =
+        let e : length slots - i ≡ suc (length slots - (i + 1)) = omega arith in
+        rw (e, add-one)
 
-  module _ (i : ℕ) (f : Filled) (s : SlotCode) (h : i < n) (e : s ≡ code i) (p : Gathering i f) where
-    pub gather_empty : s ≡ Nothing → Gathering (i + 1) f
-    gather_empty q =
-        let o : filled_from code to (n - i) i ≡ filled_from code to (n - (i + 1)) (i + 1) =
-        filled_next i h ∙ rw (sym e ∙ q) in
-        record {
-          whole = ap (λ (l : List Entry). held_in f ++ l) (sym o) ∙ p.whole;
-          most = omega (arith, p.most);
-          placed = p.placed;
-          room = p.room;
-        }
+    module _ (f : Filled) (p : Gathering i f) where
+      pub gather_empty : get_or slots i empty_slot ≡ None → Gathering (i + 1) f
+      gather_empty q =
+          let n : filled_after kind slots i ≡ filled_after kind slots (i + 1) = after_next ∙ rw q in
+          record { few = omega (arith, p.few); are = rw n at p.are; listed = rw n at p.listed }
 
-    pub gather_filled : (c : Code) (x : Entry) (k : ℕ) → s ≡ Is c → x ≡ entry_of c (to i)
-        → k ≡ place_of c codes → i < button_slots → Gathering (i + 1) (grown f x k)
-    gather_filled c x k q r z m =
-        let j : f.count < length f.entries = omega (arith, p.most, p.room.0) in
-        let l : f.count < length f.places = omega (arith, p.most, p.room.1) in
-        let rest = filled_from code to (n - (i + 1)) (i + 1) in
-        let o : filled_from code to (n - i) i ≡ x ∷ rest = filled_next i h ∙ rw (sym e ∙ q, r) in
-        record {
-          whole =
-              ap (λ (es : List Entry). es ++ rest) (grown_held f x k j) ∙ append_assoc (held_in f) (x ∷ []) rest
-              ∙ ap (λ (es : List Entry). held_in f ++ es) (sym o)
-              ∙ p.whole;
-          most = omega (arith, p.most);
-          placed = placed_more codes f x k p.placed j l (z ∙ rw r);
-          room =
-              (length-set f.entries f.count x ∙ p.room.0, length-set f.places f.count k ∙ p.room.1);
-        }
+      module _ (c : Code) (q : get_or slots i empty_slot ≡ Some c) where
+        one_more : filled_after kind slots i ≡ entry_of c (element_of kind i) ∷ filled_after kind slots (i + 1)
+        one_more = after_next ∙ rw q
 
-  pub gather_end : (i : ℕ) (f : Filled) → n ≤ i → Gathering i f → held_in f ≡ filled_from code to n 0
-  unfolding filled_from
+        pub gather_filled : (k : ℕ) → position (λ x. eqb x c.0) codes ≡ Some k → (x : Entry)
+            → x ≡ entry_of c (element_of kind i) → (g : Filled)
+            → held_in g ≡ held_in f ++ record { entry = x; place = k } ∷ [] → g.count ≡ f.count + 1 → Gathering (i + 1) g
+        unfolding missing_of
+        gather_filled k s x y g e m =
+            let at = found c codes k s in
+            record {
+              few = omega (arith, p.few);
+              are = rw (e, y, sym at.0) (append_assoc (held_in f) (placed_at codes (entry_of c (element_of kind i)) ∷ [])
+                  (placed_in codes (filled_after kind slots (i + 1))) ∙ (rw one_more at p.are));
+              listed = rw at.1 at (rw one_more at p.listed);
+            }
+
+        pub gather_missing : position (λ x. eqb x c.0) codes ≡ None → missing_of (filled_after kind slots 0) codes ≡ Some c
+        unfolding missing_of
+        gather_missing s = sym p.listed ∙ rw (one_more, not_found c codes s)
+
+  pub gather_end : (i : ℕ) (f : Filled) → length slots ≤ i → Gathering i f
+      → (missing_of (filled_after kind slots 0) codes ≡ None)
+      × (held_in f ≡ placed_in codes (filled_after kind slots 0))
+  unfolding filled_from missing_of
   gather_end i f h p =
-      let e : n - i ≡ 0 = omega arith in
-      sym (append-nil (held_in f)) ∙ (rw e at p.whole)
+      let e : length slots - i ≡ 0 = omega arith in
+      (sym p.listed ∙ rw e, sym (append-nil (held_in f)) ∙ (rw e at p.are))
+
+-- ---- the slots of a mapping are those
+same_filled : (f g : ℕ → Option Code) (to : ℕ → AxisOrBtn) (m n k : ℕ) → k + n ≤ m → ((i : ℕ) → i < m → f i ≡ g i)
+    → filled_from f to n k ≡ filled_from g to n k
+unfolding filled_from
+same_filled f g to m zero k h e = refl
+same_filled f g to m (suc n) k h e =
+    rw (e k (omega arith), same_filled f g to m n (suc k) (omega arith) e)
+
+pub buttons_after : (d : MappingData) → length d.buttons ≡ button_slots
+    → filled_after Kd.Button d.buttons 0 ≡ filled_buttons d
+unfolding button_of
+buttons_after d n =
+    rw n
+    (same_filled (λ k. get_or d.buttons k empty_slot) (λ k. button_of d (record { 0 = k })) as_button button_slots
+    button_slots 0 (omega arith) here)
+  where
+    here : (i : ℕ) → i < button_slots → get_or d.buttons i empty_slot ≡ button_of d (record { 0 = i })
+    here i h = rw (lt-ltb i button_slots h)
+
+pub axes_after : (d : MappingData) → length d.axes ≡ axis_slots → filled_after Kd.Axis d.axes 0 ≡ filled_axes d
+unfolding axis_of
+axes_after d n =
+    rw n
+    (same_filled (λ k. get_or d.axes k empty_slot) (λ k. axis_of d (record { 0 = k })) as_axis axis_slots
+    axis_slots 0 (omega arith) here)
+  where
+    here : (i : ℕ) → i < axis_slots → get_or d.axes i empty_slot ≡ axis_of d (record { 0 = i })
+    here i h = rw (lt-ltb i axis_slots h)
 
 -- ---- there are no more than slots
-also_few : (s : SlotCode) (to : AxisOrBtn) (rest : List Entry) → length (also s to rest) ≤ suc (length rest)
-also_few (Is c) to rest = omega arith
-also_few Nothing to rest = omega arith
+also_few : (s : Option Code) (to : AxisOrBtn) (rest : List Entry) → length (also s to rest) ≤ suc (length rest)
+also_few (Some c) to rest = omega arith
+also_few None to rest = omega arith
 
-filled_few : (code : ℕ → SlotCode) (to : ℕ → AxisOrBtn) (n k : ℕ) → length (filled_from code to n k) ≤ n
+filled_few : (code : ℕ → Option Code) (to : ℕ → AxisOrBtn) (n k : ℕ) → length (filled_from code to n k) ≤ n
 unfolding filled_from
 filled_few code to zero k = omega arith
 filled_few code to (suc n) k =
@@ -160,11 +151,3 @@ buttons_few d = filled_few (λ k. button_of d (record { 0 = k })) as_button butt
 
 pub axes_few : (d : MappingData) → length (filled_axes d) ≤ axis_slots
 axes_few d = filled_few (λ k. axis_of d (record { 0 = k })) as_axis axis_slots 0
-
--- ---- the entries that were gathered
-module _ (f : Filled) (i : ℕ) (d : Entry) (h : i < f.count) (l : f.count ≤ length f.entries) where
-  pub held_next : drop i (held_in f) ≡ get_or f.entries i d ∷ drop (i + 1) (held_in f)
-  held_next =
-      let n : length (held_in f) ≡ f.count = length-take-le f.count f.entries l in
-      let k : i < length (held_in f) = omega arith in
-      rw (add-one, drop-cons (held_in f) i d k, get_or-take f.count f.entries i d h)

@@ -1,14 +1,17 @@
 -- Laws of lengths: of idents, of index numbers, of pairs and of the line.
 -- Assumes nothing.
-use Prim.Native.Nat.{ℕ, zero, suc, ◌+◌, ◌*◌, ◌/◌, ◌<◌, ◌≤◌}
+use Rattle.std.specs.Prelude.{Option, Some, None}
+use Prim.Native.Nat.{ℕ, zero, suc, ◌+◌, ◌*◌, ◌/◌, ◌^◌, ◌<◌, ◌≤◌}
 use mathlib.Core.Path.{◌≡◌, refl}
 use mathlib.Core.Bool.{Bool, true, false}
 use mathlib.Core.Logic.{⊎_elim}
-use mathlib.Core.List.{List, [], ◌∷◌}
+use mathlib.Core.List.{List, [], ◌∷◌, ◌++◌}
+use native.Mathlib.Numerals.{add-one}
 use native.Mathlib.Omega.{arith}
 use borrow.Author.Tests.{leb-true}
 use lib.Dec.{T, leb}
-use lib.ListN.{length, drop, get_or, drop_of_length-le, length-take, length-append}
+use lib.ListN.{length, take, get_or, length-append}
+use lib.Seq.{take-suc}
 use Rattle.text.specs.declared.uuid.Uuid.{Uuid}
 use Rattle.text.specs.Decimal.{digits, decimal}
 use Rattle.text.proofs.ListLaws.{lt_or_le}
@@ -17,19 +20,15 @@ use Rattle.text.proofs.DecimalLaws.{decimal_small, decimal_more_length, decimal_
 use Rattle.text.proofs.UuidLaws.{hex_text-length}
 use Rattle.line.specs.declared.ev.AxisOrBtn.{AxisOrBtn}
 use Rattle.line.specs.declared.mapping.Entry.{Entry}
-use Rattle.line.specs.declared.tables.KeyRow.{KeyRow}
-use Rattle.line.specs.declared.tables.KeyRow.TheVariants.{At, Nowhere}
 use Rattle.line.specs.Reading.{list_max}
 use Rattle.line.specs.Tables.{ident_max, axes_sdl, name_in_line, element_row, ident_text}
 use Rattle.line.proofs.KeyLaws.{element_bound}
 use Rattle.line.proofs.TableLaws.{every_at}
-use Rattle.map.specs.declared.from_data.filled.Filled.{Filled}
+use Rattle.map.specs.declared.from_data.filled.Placed.{Placed}
 use Rattle.map.specs.declared.mapping_data.MappingData.{MappingData}
 use Rattle.map.specs.Lists.{place_of}
-use Rattle.map.specs.Slots.{button_slots}
 use Rattle.map.specs.Build.{built_line}
-use Rattle.map.specs.Inner.{ListFits, held_in, pair_field, pair_fields, pair_length, pairs_length, line_length}
-use Rattle.map.proofs.FilledLaws.{held_next}
+use Rattle.map.specs.Inner.{ListFits, pair_field, pair_fields, pair_length, pairs_length, length_of, lengths_of, line_length}
 use Rattle.map.proofs.OutputLaws.{line_parts}
 
 -- ---- an ident
@@ -40,16 +39,16 @@ is_true : (t : Bool) → T t → t ≡ true
 is_true true h = refl
 is_true false h = absurd h
 
-name_short : (i : ℕ) → i < 35 → length (name_in_line (At i)) ≤ ident_max
+name_short : (i : ℕ) → i < 35 → length (name_in_line (Some i)) ≤ ident_max
 unfolding axes_sdl short
-name_short i h = leb-true (length (name_in_line (At i))) ident_max (is_true _ (every_at short [] axes_sdl tt i h))
+name_short i h = leb-true (length (name_in_line (Some i))) ident_max (is_true _ (every_at short [] axes_sdl tt i h))
 
 pub ident_short : (e : AxisOrBtn) → length (ident_text e) ≤ ident_max
 ident_short e = go (element_row e) refl
   where
-    go : (r : KeyRow) → element_row e ≡ r → length (name_in_line r) ≤ ident_max
-    go (At i) p = name_short i (element_bound e i p)
-    go Nowhere p = omega arith
+    go : (r : Option ℕ) → element_row e ≡ r → length (name_in_line r) ≤ ident_max
+    go (Some i) p = name_short i (element_bound e i p)
+    go None p = omega arith
 
 -- ---- an index number: a larger one has no fewer digits
 digits_grow : (k a b : ℕ) → a ≤ k → a ≤ b → length (decimal a) ≤ length (decimal b)
@@ -94,19 +93,34 @@ unfolding pairs_length
 pairs_short codes [] h = omega arith
 pairs_short codes (e ∷ es) h = omega (arith, pair_short codes e h, pairs_short codes es h)
 
--- f's pairs, of which the first i are counted
-module _ (codes : List ℕ) (f : Filled) (i : ℕ) where
-  pub lengths-next : (d : Entry) → i < f.count → f.count ≤ length f.entries
-      → pairs_length codes (drop i (held_in f))
-      ≡ pair_length codes (get_or f.entries i d) + pairs_length codes (drop (i + 1) (held_in f))
-  unfolding pairs_length
-  lengths-next d h l = rw (held_next f i d h l)
+-- ---- slots with their places: a place has no more digits than the greatest number of 64 bits
+abbrev tens : ℕ → ℕ
+tens zero = 10
+tens (suc k) = 10 * tens k
 
-  pub lengths_end : f.count ≤ i → pairs_length codes (drop i (held_in f)) ≡ 0
-  unfolding pairs_length
-  lengths_end h =
-      let l : length (held_in f) ≤ i = simp length-take (omega arith) in
-      rw (drop_of_length-le (held_in f) l)
+digits_few : (k n : ℕ) → n < tens k → length (decimal n) ≤ suc k
+digits_few zero n h = rw (decimal_small n h) (omega arith)
+digits_few (suc k) n h =
+    ⊎_elim
+    (λ s. rw (decimal_small n s) (omega arith))
+    (λ m. omega (arith, decimal_more_length n m, digits_few k (n / 10) (omega arith)))
+    (lt_or_le n 10)
+
+pub place_short : (n : ℕ) → n < 2 ^ 64 → length (decimal n) ≤ 20
+place_short n h = digits_few 19 n (omega arith)
+
+lengths_append : (xs ys : List Placed) → lengths_of (xs ++ ys) ≡ lengths_of xs + lengths_of ys
+unfolding lengths_of
+lengths_append [] ys = omega arith
+lengths_append (s ∷ xs) ys = omega (arith, lengths_append xs ys)
+
+-- one slot more is counted
+pub lengths_turn : (ss : List Placed) (i : ℕ) (d : Placed) (n p : ℕ) → i < length ss → n ≡ lengths_of (take i ss)
+    → p ≡ length_of (get_or ss i d) → n + p ≡ lengths_of (take (i + 1) ss)
+unfolding lengths_of
+lengths_turn ss i d n p h e f =
+    rw (add-one, take-suc ss i d h)
+    (omega (arith, lengths_append (take i ss) (get_or ss i d ∷ [])))
 
 -- ---- the line
 pub field-length : (letter : ℕ) (codes : List ℕ) (e : Entry) → length (pair_field letter codes e) ≡ pair_length codes e
@@ -129,6 +143,3 @@ pub line_length_lem : (d : MappingData) (buttons axes name : List ℕ) (uuid : U
 line_length_lem d buttons axes name uuid =
     rw (line_parts d buttons axes name uuid)
     (simp (length-append, fields_length, hex_text-length) (omega arith))
-
-pub held_few : (f : Filled) → f.count ≤ button_slots → length (held_in f) ≤ button_slots
-held_few f h = simp length-take (omega arith)

@@ -2,9 +2,7 @@ pub mod NumberedLaws
 pub mod KeyLaws
 pub mod DefaultLaws
 pub mod FilledLaws
-mod MissingLaws
 pub mod OutputLaws
-pub mod NameLaws
 pub mod LengthLaws
 pub mod PutsLaws
 pub mod ShapedLaws

@@ -1,29 +1,31 @@
 -- Laws of texts that are put one after the other into an output, and of the line in its parts.
 -- Assumes nothing.
+use Rattle.std.specs.Prelude.{Option}
+use Rattle.std.specs.Option.{unwrap_or}
 use Prim.Native.Nat.{ℕ, ◌+◌, ◌<◌, ◌≤◌}
 use mathlib.Core.Path.{◌≡◌, refl, sym, ap, ◌∙◌}
 use mathlib.Core.List.{List, [], ◌∷◌, ◌++◌, append_assoc, append-nil}
 use native.Mathlib.Numerals.{add-one}
 use native.Mathlib.Omega.{arith}
-use lib.ListN.{length, take, drop, get_or, length-append, length-take, take-append-drop}
-use lib.Seq.{take-suc, take_all, length-take-le, get_or-take}
+use lib.ListN.{length, take, drop, get_or, length-append, take-append-drop}
+use lib.Seq.{take-suc}
 use Rattle.text.specs.Bytes.{byte, written, Wrote}
 use Rattle.text.specs.Inner.{Put}
 use Rattle.text.specs.declared.uuid.Uuid.{Uuid}
-use Rattle.text.specs.declared.bytes.Written.{Written}
 use Rattle.text.proofs.BytesLaws.{answer_fits, buffer_fits, written-length, written-append, written_none}
 use Rattle.line.specs.declared.mapping.Entry.{Entry}
-use Rattle.map.specs.declared.from_data.filled.Filled.{Filled}
+use Rattle.map.specs.declared.from_data.filled.Pairs.{Pairs}
+use Rattle.map.specs.declared.from_data.filled.Placed.{Placed}
 use Rattle.map.specs.declared.mapping_data.MappingData.{MappingData}
 use Rattle.map.specs.Build.{ended, pair_text, pair_texts, filled_buttons, filled_axes, built_line}
-use Rattle.map.specs.Inner.{held_in, Holds, pair_field, pair_fields, head_text, line_text, line_length, length_of}
-use Rattle.map.specs.Inner.{Room, upto_of}
+use Rattle.map.specs.Inner.{placed_in, Gathered, pair_of, pairs_of, pair_fields, head_text, line_text, Room}
+use Rattle.map.specs.Inner.{lengths_of, pairs_length, line_length, line_len_of}
 
 -- ---- puts
 -- what a writer of the text layer leaves where there is room
-pub wrote_put : (l : List ℕ) (at : ℕ) (v : List ℕ) (w : Written) (m : List ℕ) (r : ℕ) → at + length v ≤ length l
-    → Wrote l at v w m → r ≡ upto_of w → Put l at v r m
-wrote_put l at v w m r h p e = (e ∙ ap upto_of (p.0 ∙ answer_fits l at v h), p.1 ∙ buffer_fits l at v h)
+pub wrote_put : (l : List ℕ) (at : ℕ) (v : List ℕ) (w : Option ℕ) (m : List ℕ) (r d : ℕ) → at + length v ≤ length l
+    → Wrote l at v w m → r ≡ unwrap_or w d → Put l at v r m
+wrote_put l at v w m r d h p e = (e ∙ ap (λ (o : Option ℕ). unwrap_or o d) (p.0 ∙ answer_fits l at v h), p.1 ∙ buffer_fits l at v h)
 
 module _ (l : List ℕ) (at : ℕ) (xs : List ℕ) (n : ℕ) (m : List ℕ) (p : Put l at xs n m) where
   pub put_length : at + length xs ≤ length l → length m ≡ length l
@@ -67,81 +69,59 @@ module _ (l : List ℕ) (at : ℕ) (xs ys zs : List ℕ) (h : Room l at ((xs ++ 
       three_put s o t = put_then l at (xs ++ ys) r k two_put zs h s o t
 
 -- ---- the pairs
-module _ (letter : ℕ) (codes : List ℕ) where
-  fields_append : (xs ys : List Entry)
-      → pair_fields letter codes (xs ++ ys) ≡ pair_fields letter codes xs ++ pair_fields letter codes ys
-  unfolding pair_fields
-  fields_append [] ys = refl
-  fields_append (e ∷ xs) ys =
-      rw (fields_append xs ys)
-      (sym (append_assoc (pair_field letter codes e) (pair_fields letter codes xs) (pair_fields letter codes ys)))
+module _ (letter : ℕ) where
+  pairs_append : (xs ys : List Placed) → pairs_of letter (xs ++ ys) ≡ pairs_of letter xs ++ pairs_of letter ys
+  unfolding pairs_of
+  pairs_append [] ys = refl
+  pairs_append (s ∷ xs) ys =
+      rw (pairs_append xs ys) (sym (append_assoc (pair_of letter s) (pairs_of letter xs) (pairs_of letter ys)))
 
-  fields_one : (e : Entry) → pair_fields letter codes (e ∷ []) ≡ pair_field letter codes e
-  unfolding pair_fields
-  fields_one e = append-nil (pair_field letter codes e)
+  pairs_part : (ss : List Placed) (j : ℕ) → length (pairs_of letter (take j ss)) ≤ length (pairs_of letter ss)
+  pairs_part ss j =
+      let e = pairs_append (take j ss) (drop j ss) in
+      let w : pairs_of letter ss ≡ pairs_of letter (take j ss) ++ pairs_of letter (drop j ss) =
+      rw (take-append-drop j ss) at e in
+      omega (arith, ap length w, length-append (pairs_of letter (take j ss)) (pairs_of letter (drop j ss)))
 
-  -- the first i of them, and one more
-  fields_next : (es : List Entry) (i : ℕ) (d : Entry) → i < length es
-      → pair_fields letter codes (take (i + 1) es)
-      ≡ pair_fields letter codes (take i es) ++ pair_field letter codes (get_or es i d)
-  fields_next es i d h =
-      rw (add-one, take-suc es i d h)
-      (fields_append (take i es) (get_or es i d ∷ [])
-      ∙ ap (λ (t : List ℕ). pair_fields letter codes (take i es) ++ t) (fields_one (get_or es i d)))
-
-  fields_part : (es : List Entry) (j : ℕ)
-      → length (pair_fields letter codes (take j es)) ≤ length (pair_fields letter codes es)
-  fields_part es j =
-      let e = fields_append (take j es) (drop j es) in
-      let w : pair_fields letter codes es
-      ≡ pair_fields letter codes (take j es) ++ pair_fields letter codes (drop j es) =
-      rw (take-append-drop j es) at e in
-      omega (
-        arith,
-        ap length w,
-        length-append (pair_fields letter codes (take j es)) (pair_fields letter codes (drop j es)),
-      )
-
-  -- f's pairs, of which the first i are put
-  module _ (f : Filled) (l : List ℕ) (at : ℕ) (room : at + length (pair_fields letter codes (held_in f)) ≤ length l)
-      (i n : ℕ) (m : List ℕ) (p : Put l at (pair_fields letter codes (take i (held_in f))) n m) where
+  -- the pairs of ss, of which the first i are put
+  module _ (ss : List Placed) (l : List ℕ) (at : ℕ) (room : at + length (pairs_of letter ss) ≤ length l) (i n : ℕ)
+      (m : List ℕ) (p : Put l at (pairs_of letter (take i ss)) n m) where
     pub pairs_length_lem : length m ≡ length l
-    pairs_length_lem =
-        put_length l at (pair_fields letter codes (take i (held_in f))) n m p
-        (omega (arith, fields_part (held_in f) i))
+    pairs_length_lem = put_length l at (pairs_of letter (take i ss)) n m p (omega (arith, pairs_part ss i))
 
-    module _ (d : Entry) (h : i < f.count) (long : f.count ≤ length f.entries) where
-      next_field : pair_fields letter codes (take (i + 1) (held_in f))
-          ≡ pair_fields letter codes (take i (held_in f)) ++ pair_field letter codes (get_or f.entries i d)
-      next_field =
-          let k : i < length (held_in f) = omega (arith, length-take-le f.count f.entries long) in
-          fields_next (held_in f) i d k
-          ∙ ap (λ (e : Entry). pair_fields letter codes (take i (held_in f)) ++ pair_field letter codes e)
-          (get_or-take f.count f.entries i d h)
+    module _ (d : Placed) (h : i < length ss) where
+      next_pair : pairs_of letter (take (i + 1) ss) ≡ pairs_of letter (take i ss) ++ pair_of letter (get_or ss i d)
+      unfolding pairs_of
+      next_pair =
+          rw (add-one, take-suc ss i d h)
+          (pairs_append (take i ss) (get_or ss i d ∷ [])
+          ∙ ap (λ (t : List ℕ). pairs_of letter (take i ss) ++ t) (append-nil (pair_of letter (get_or ss i d))))
 
-      next_fits : at + length
-          (pair_fields letter codes (take i (held_in f)) ++ pair_field letter codes (get_or f.entries i d))
-          ≤ length l
-      next_fits = omega (arith, ap length next_field, fields_part (held_in f) (i + 1))
+      next_fits : at + length (pairs_of letter (take i ss) ++ pair_of letter (get_or ss i d)) ≤ length l
+      next_fits = omega (arith, ap length next_pair, pairs_part ss (i + 1))
 
-      pub pairs_room : n + length (pair_field letter codes (get_or f.entries i d)) ≤ length m
-      pairs_room =
-          put_room l at (pair_fields letter codes (take i (held_in f))) n m p
-          (pair_field letter codes (get_or f.entries i d)) next_fits
+      pub pairs_room : n + length (pair_of letter (get_or ss i d)) ≤ length m
+      pairs_room = put_room l at (pairs_of letter (take i ss)) n m p (pair_of letter (get_or ss i d)) next_fits
 
-      pub pairs_turn : (r : ℕ) (k : List ℕ) → Put m n (pair_field letter codes (get_or f.entries i d)) r k
-          → Put l at (pair_fields letter codes (take (i + 1) (held_in f))) r k
+      pub pairs_turn : (r : ℕ) (k : List ℕ) → Put m n (pair_of letter (get_or ss i d)) r k
+          → Put l at (pairs_of letter (take (i + 1) ss)) r k
       pairs_turn r k q =
-          rw next_field
-          (put_then l at (pair_fields letter codes (take i (held_in f))) n m p
-          (pair_field letter codes (get_or f.entries i d)) next_fits r k q)
+          rw next_pair (put_then l at (pairs_of letter (take i ss)) n m p (pair_of letter (get_or ss i d)) next_fits r k q)
 
-  pub pairs_none : (f : Filled) (l : List ℕ) (at : ℕ) → Put l at (pair_fields letter codes (take 0 (held_in f))) at l
-  unfolding pair_fields
-  pairs_none f l at = (omega arith, written_none l at)
+  pub pairs_none : (ss : List Placed) (l : List ℕ) (at : ℕ) → Put l at (pairs_of letter (take 0 ss)) at l
+  unfolding pairs_of
+  pairs_none ss l at = (omega arith, written_none l at)
 
-  pub pairs_end : (f : Filled) (i : ℕ) → f.count ≤ i → take i (held_in f) ≡ held_in f
-  pairs_end f i h = take_all i (held_in f) (simp length-take (omega arith))
+  -- entries with their places, and entries
+  pub pairs_placed : (codes : List ℕ) (es : List Entry) → pairs_of letter (placed_in codes es) ≡ pair_fields letter codes es
+  unfolding pairs_of pair_fields
+  pairs_placed codes [] = refl
+  pairs_placed codes (e ∷ es) = rw (pairs_placed codes es)
+
+pub lengths_placed : (codes : List ℕ) (es : List Entry) → lengths_of (placed_in codes es) ≡ pairs_length codes es
+unfolding lengths_of pairs_length
+lengths_placed codes [] = refl
+lengths_placed codes (e ∷ es) = rw (lengths_placed codes es)
 
 -- ---- the line in its parts
 ended-append : (xs ys : List (List ℕ)) → ended (xs ++ ys) ≡ ended xs ++ ended ys
@@ -170,10 +150,17 @@ line_parts d buttons axes name uuid =
     )
     (simp append_assoc)
 
-module _ (d : MappingData) (buttons axes name : List ℕ) (uuid : Uuid) (f g : Filled)
-    (b : Holds buttons f (filled_buttons d)) (a : Holds axes g (filled_axes d)) where
-  pub line_held : line_text buttons f axes g name uuid ≡ built_line d buttons axes name uuid
-  line_held = rw (b.are, a.are) (sym (line_parts d buttons axes name uuid))
+module _ (d : MappingData) (buttons axes name : List ℕ) (uuid : Uuid) (p : Pairs) (g : Gathered d buttons axes p) where
+  pub line_held : line_text p name uuid ≡ built_line d buttons axes name uuid
+  line_held =
+      rw (
+        g.first,
+        g.last,
+        pairs_placed (byte "b") buttons (filled_buttons d),
+        pairs_placed (byte "a") axes (filled_axes d),
+      )
+      (sym (line_parts d buttons axes name uuid))
 
-  pub length-held : length_of buttons f axes g name ≡ line_length d buttons axes name
-  length-held = rw (b.are, a.are)
+  pub length-held : line_len_of p name ≡ line_length d buttons axes name
+  length-held =
+      rw (g.first, g.last, lengths_placed buttons (filled_buttons d), lengths_placed axes (filled_axes d))

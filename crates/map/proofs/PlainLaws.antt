@@ -1,5 +1,6 @@
 -- The elements that a built line can name: buttons 1 to 19 and axes 1 to 6. Where the checks pass, the filled slots are
 -- theirs. Assumes nothing.
+use Rattle.std.specs.Prelude.{Option, Some, None}
 use Prim.Native.Nat.{ℕ, zero, suc, ◌+◌, ◌-◌, ◌<◌, ◌≤◌}
 use mathlib.Core.Path.{◌≡◌, refl}
 use mathlib.Core.Bool.{Bool, true, false}
@@ -10,6 +11,7 @@ use lib.Dec.{T, eqb}
 use Rattle.text.specs.Bytes.{pick, both, byte}
 use Rattle.text.specs.Uuid.{is_from}
 use Rattle.text.specs.Inner.{every}
+use Rattle.line.specs.declared.ev.Code.{Code}
 use Rattle.line.specs.declared.ev.AxisOrBtn.{AxisOrBtn}
 use Rattle.line.specs.declared.mapping.Entry.{Entry}
 use Rattle.line.specs.Buttons as B
@@ -18,8 +20,6 @@ use Rattle.line.specs.Maps.{full_ranges}
 use Rattle.line.specs.Tables.{axes_sdl, axes_table, element_from, element_row, ident_text, as_button, as_axis}
 use Rattle.line.proofs.IdentLaws.{Named, button_named, axis_named}
 use Rattle.map.specs.declared.mapping_data.MappingData.{MappingData}
-use Rattle.map.specs.declared.mapping_data.SlotCode.{SlotCode}
-use Rattle.map.specs.declared.mapping_data.SlotCode.TheVariants.{Is, Nothing}
 use Rattle.map.specs.Slots.{button_of, axis_of}
 use Rattle.map.specs.Build.{also, filled_from, filled_buttons, filled_axes}
 
@@ -80,12 +80,12 @@ unfoldable pub AllPlain : List Entry → Type 0
 AllPlain [] = Unit {0}
 AllPlain (e ∷ es) = Plain e.element × (e.ranges ≡ full_ranges) × AllPlain es
 
-also-plain : (s : SlotCode) (to : AxisOrBtn) (rest : List Entry) → Plain to → AllPlain rest → AllPlain (also s to rest)
+also-plain : (s : Option Code) (to : AxisOrBtn) (rest : List Entry) → Plain to → AllPlain rest → AllPlain (also s to rest)
 unfolding AllPlain
-also-plain (Is c) to rest p q = (p, refl, q)
-also-plain Nothing to rest p q = q
+also-plain (Some c) to rest p q = (p, refl, q)
+also-plain None to rest p q = q
 
-plain-from : (code : ℕ → SlotCode) (to : ℕ → AxisOrBtn) (n k : ℕ) → ((j : ℕ) → k ≤ j → j < k + n → Plain (to j))
+plain-from : (code : ℕ → Option Code) (to : ℕ → AxisOrBtn) (n k : ℕ) → ((j : ℕ) → k ≤ j → j < k + n → Plain (to j))
     → AllPlain (filled_from code to n k)
 unfolding filled_from AllPlain
 plain-from code to zero k p = tt
@@ -100,12 +100,12 @@ named_buttons d = filled_from (λ k. button_of d (record { 0 = k })) as_button 1
 abbrev pub named_axes : MappingData → List Entry
 named_axes d = filled_from (λ k. axis_of d (record { 0 = k })) as_axis 6 1
 
-pub buttons_named : (d : MappingData) → button_of d B.Unknown ≡ Nothing → filled_buttons d ≡ named_buttons d
+pub buttons_named : (d : MappingData) → button_of d B.Unknown ≡ None → filled_buttons d ≡ named_buttons d
 unfolding filled_from
 buttons_named d h = rw h
 
-pub axes_named : (d : MappingData) → axis_of d A.Unknown ≡ Nothing → axis_of d A.DPadX ≡ Nothing
-    → axis_of d A.DPadY ≡ Nothing → filled_axes d ≡ named_axes d
+pub axes_named : (d : MappingData) → axis_of d A.Unknown ≡ None → axis_of d A.DPadX ≡ None
+    → axis_of d A.DPadY ≡ None → filled_axes d ≡ named_axes d
 unfolding filled_from
 axes_named d h x y = rw (h, x, y)
 

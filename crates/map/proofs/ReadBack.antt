@@ -1,5 +1,6 @@
 -- Built lines read back: reading a built line with the lists of its build gives the map of its build.
 -- Assumes nothing.
+use Rattle.std.specs.Prelude.{None, Ok}
 use Prim.Native.Nat.{ℕ, suc, ◌<◌, ◌≤◌}
 use mathlib.Core.Path.{◌≡◌, refl, sym, ap, ◌∙◌}
 use mathlib.Core.Bool.{Bool, true, false}
@@ -26,9 +27,7 @@ use Rattle.line.proofs.IdentLaws.{button_pair, axis_pair}
 use Rattle.line.specs.Tiles.{tiled}
 use Rattle.line.proofs.JoinLaws.{Free, AllFree, line_of}
 use Rattle.line.proofs.ReadBack as line-laws
-use Rattle.map.specs.declared.error.MappingAnswer.TheVariants.{Accepted}
 use Rattle.map.specs.declared.mapping_data.MappingData.{MappingData}
-use Rattle.map.specs.declared.mapping_data.SlotCode.TheVariants.{Nothing}
 use Rattle.map.specs.Lists.{place_of}
 use Rattle.map.specs.Build.{filled_buttons, filled_axes, missing_of, checks_of, ended, pair_text, pair_texts}
 use Rattle.map.specs.Build.{built_line, built_view, built_map}
@@ -83,7 +82,7 @@ module _ (buttons axes : List ℕ) where
       (pair : (e : Entry) → Plain e.element → e.ranges ≡ full_ranges → place_of e.code codes < length codes
       → effect_of (pair_text letter codes e) buttons axes ≡ does (e ∷ []) (0 ∷ [])) where
     reads_pairs : (es : List Entry) (fs : List (List ℕ)) (gs : List Entry) → AllPlain es
-        → missing_of es codes ≡ Nothing → Reads fs gs → Reads (pair_texts letter codes es ++ fs) (es ++ gs)
+        → missing_of es codes ≡ None → Reads fs gs → Reads (pair_texts letter codes es ++ fs) (es ++ gs)
     unfolding pair_texts AllPlain
     reads_pairs [] fs gs p l r = r
     reads_pairs (e ∷ es) fs gs p l r =
@@ -156,7 +155,7 @@ module _ (d : MappingData) (buttons axes name : List ℕ) (uuid : Uuid) where
         ≡ built_view d name
     view_read = rw (pairs_read.puts, pairs_read.flags, uuid_text-length uuid)
 
-  pub reads_back : Small uuid → checks_of d buttons axes name ≡ Accepted
+  pub reads_back : Small uuid → checks_of d buttons axes name ≡ Ok tt
       → reading_of (built_line d buttons axes name uuid) buttons axes ≡ accepted_of (built_map d name)
   unfolding built_map
   reads_back small h =

@@ -1,5 +1,6 @@
 -- Document 01's sample lines (a) to (l), with buttons 10130, 10131 and axes 30000, in one list; and the default map of
 -- four pairs of lists. Assumes nothing.
+use Rattle.std.specs.Prelude.{Ok}
 use Prim.Native.Nat.{ℕ}
 use mathlib.Core.Path.{◌≡◌, refl}
 use mathlib.Core.Bool.{false}
@@ -16,7 +17,6 @@ use Rattle.line.specs.Maps.{MapView, entry_of, put_entry, puts_into, to_map}
 use Rattle.line.specs.Reading.{reading_of}
 use Rattle.line.specs.Tables.{axes_sdl, axes_table, element_from, element_row, as_axis}
 use Rattle.line.proofs.Samples.{Sample, Gives, Holds, samples, samples_hold, U, button}
-use Rattle.map.specs.declared.error.MappingAnswer.TheVariants.{Accepted}
 use Rattle.map.specs.declared.mapping_data.MappingData.{MappingData}
 use Rattle.map.specs.Slots.{no_slots, button_of, axis_of, insert_btn_of}
 use Rattle.map.specs.Build.{filled_from, missing_of, axis_checks, slot_checks, checks_of, ended, pair_texts, built_line}
@@ -43,14 +43,14 @@ Shown [] = Unit {0}
 Shown (read s ∷ xs) = Gives (reading_of s.line buttons axis_list) s.outcome × Shown xs
 Shown (build slots name line view ∷ xs) =
     (build_of slots buttons axis_list name nil (length line)
-    ≡ record { answer = Accepted; map = to_map view; len = length line })
+    ≡ record { answer = Ok tt; map = to_map view; len = length line })
     × (output_of slots buttons axis_list name nil (replicate (length line) 0) ≡ line)
     × Shown xs
 
 -- (l) build, name T, South at 10131: `U,T,a:b1,`
 abbrev sample_l : Example
 sample_l =
-    build (insert_btn_of no_slots (code_of 0x10131) B.South).slots (ascii "T") (U ++ ascii ",T,a:b1,")
+    build (insert_btn_of no_slots (code_of 0x10131) B.South).1 (ascii "T") (U ++ ascii ",T,a:b1,")
     (record { list = button 0x10131 B.South ∷ []; name_start_of = 33; name_len_of = 1; is_default = false; hat_flags = 0 })
 
 abbrev pub followed : List Sample → List Example → List Example
@@ -73,24 +73,24 @@ all_shown = followed_shown samples (sample_l ∷ []) samples_hold l_shown
 
 -- ---- the default map
 -- two empty lists: an empty map with the default flag on
-pub none-listed : default_of [] [] ≡ record { answer = Accepted; map = to_map (flagged_map []) }
+pub none-listed : default_of [] [] ≡ record { answer = Ok tt; map = to_map (flagged_map []) }
 unfolding default_of button_rows axis_rows put_kept in_its_list first_of
 none-listed = refl
 
 -- 10131 among the axes is no button's code
-pub east_among_axes : default_of [] (0x10131 ∷ []) ≡ record { answer = Accepted; map = to_map (flagged_map []) }
+pub east_among_axes : default_of [] (0x10131 ∷ []) ≡ record { answer = Ok tt; map = to_map (flagged_map []) }
 unfolding default_of button_rows axis_rows put_kept in_its_list first_of
 east_among_axes = refl
 
 pub east_listed : default_of (0x10131 ∷ []) []
-    ≡ record { answer = Accepted; map = to_map (flagged_map (button_row 2 ∷ [])) }
+    ≡ record { answer = Ok tt; map = to_map (flagged_map (button_row 2 ∷ [])) }
 unfolding default_of button_rows axis_rows put_kept in_its_list first_of put_entry
 east_listed = refl
 
 -- South and AXIS_DPADY listed
 pub two-listed : default_of (0x10130 ∷ []) (0x30011 ∷ [])
     ≡ record {
-      answer = Accepted;
+      answer = Ok tt;
       map = to_map (flagged_map (button_row 1 ∷ entry_of axis_dpady (as_axis 8) ∷ []));
     }
 unfolding default_of button_rows axis_rows put_kept in_its_list first_of put_entry

@@ -1,5 +1,6 @@
 -- The maps of build and of `default` have document 01's shape: they are made by puts, and hold 29 or 31 entries at most.
 -- Assumes nothing.
+use Rattle.std.specs.Prelude.{Result, Ok, Err, ⊤}
 use Prim.Native.Nat.{ℕ, ◌≤◌}
 use mathlib.Core.Path.{◌≡◌, refl}
 use mathlib.Core.List.{List, [], ◌∷◌, ◌++◌}
@@ -13,9 +14,8 @@ use Rattle.line.specs.Shapes.{Shaped}
 use Rattle.line.proofs.PickLaws.{picked}
 use Rattle.line.proofs.PutLaws.{put_ascending}
 use Rattle.line.proofs.ShapeLaws.{shaped_empty}
+use Rattle.map.specs.declared.error.MappingError.{MappingError}
 use Rattle.map.specs.declared.default.DefaultMap.{DefaultMap}
-use Rattle.map.specs.declared.error.MappingAnswer.{MappingAnswer}
-use Rattle.map.specs.declared.error.MappingAnswer.TheVariants.{Accepted, Refused}
 use Rattle.map.specs.declared.mapping_data.MappingData.{MappingData}
 use Rattle.map.specs.Build.{filled_buttons, filled_axes, built_view, built_map, built_line, answer_of, returned, build_of}
 use Rattle.map.specs.Default.{button_rows, axis_rows, axis_row_count, rows, in_its_list, put_kept, kept_map, default_of}
@@ -40,9 +40,9 @@ unfolding built_map
 built_shaped d name =
     record { view = built_view d name; is = refl; few = built_few d name; ascends = built_ascending d name }
 
-returned_shaped : (a : MappingAnswer) (m : Mapping) (n : ℕ) → Shaped m → Shaped (returned a m n).map
-returned_shaped Accepted m n s = s
-returned_shaped (Refused e) m n s = shaped_empty
+returned_shaped : (a : Result ⊤ MappingError) (m : Mapping) (n : ℕ) → Shaped m → Shaped (returned a m n).map
+returned_shaped (Ok tt) m n s = s
+returned_shaped (Err e) m n s = shaped_empty
 
 pub build_shaped : BuildShaped
 unfolding build_of

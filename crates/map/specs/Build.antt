@@ -1,11 +1,12 @@
 -- Build (document 01, 'Build'; its refusals in 'Refusals by number'): the line and the map of the filled slots.
 -- Public contracts rest on these definitions; they assume nothing.
-use Rattle.std.specs.Prelude.{ℕ, zero, suc, ◌≡◌, Bool, false, List, [], ◌∷◌, ◌++◌, map, leb, eqb, length}
+use Rattle.std.specs.Prelude.{ℕ, zero, suc, ◌≡◌, Bool, false, List, [], ◌∷◌, ◌++◌, map, leb, eqb, length, Option, Some, None, Result, Ok, Err, ⊤}
 use Rattle.text.specs.Bytes.{pick, byte, first_of, written}
 use Rattle.text.specs.Utf8.{valid_run, is_utf8}
 use Rattle.text.specs.Decimal.{decimal}
 use Rattle.text.specs.Uuid.{uuid_text}
 use Rattle.text.specs.declared.uuid.Uuid.{Uuid}
+use Rattle.line.specs.declared.ev.Code.{Code}
 use Rattle.line.specs.declared.ev.AxisOrBtn.{AxisOrBtn}
 use Rattle.line.specs.declared.mapping.Entry.{Entry}
 use Rattle.line.specs.declared.mapping.Mapping.{Mapping}
@@ -17,23 +18,19 @@ use Rattle.line.specs.Refusals.{refusal, refusal_at, refusal_of}
 use Rattle.line.specs.declared.refusal.Refusal.{Refusal}
 use Rattle.line.specs.Tables.{as_button, as_axis, ident_text}
 use Rattle.map.specs.declared.error.MappingError.{MappingError}
-use Rattle.map.specs.declared.error.MappingAnswer.{MappingAnswer}
-use Rattle.map.specs.declared.error.MappingAnswer.TheVariants.{Accepted, Refused}
 use Rattle.map.specs.declared.from_data.Built.{Built}
 use Rattle.map.specs.declared.mapping_data.MappingData.{MappingData}
-use Rattle.map.specs.declared.mapping_data.SlotCode.{SlotCode}
-use Rattle.map.specs.declared.mapping_data.SlotCode.TheVariants.{Is, Nothing}
 use Rattle.map.specs.Lists.{place_of, in_list}
 use Rattle.map.specs.Refusals.{refused_by}
 use Rattle.map.specs.Slots.{button_slots, axis_slots, has_code_in, button_of, axis_of}
 
 -- ---- "per filled slot ..; buttons ascending, then axes": a filled slot is an entry of its code and its element
-abbrev pub also : SlotCode → AxisOrBtn → List Entry → List Entry
-also (Is c) to rest = entry_of c to ∷ rest
-also Nothing to rest = rest
+abbrev pub also : Option Code → AxisOrBtn → List Entry → List Entry
+also (Some c) to rest = entry_of c to ∷ rest
+also None to rest = rest
 
 -- the filled ones of n slots from number k on
-unfoldable pub filled_from : (ℕ → SlotCode) → (ℕ → AxisOrBtn) → ℕ → ℕ → List Entry
+unfoldable pub filled_from : (ℕ → Option Code) → (ℕ → AxisOrBtn) → ℕ → ℕ → List Entry
 filled_from code to zero k = []
 filled_from code to (suc n) k = also (code k) (to k) (filled_from code to n (suc k))
 
@@ -90,10 +87,10 @@ abbrev pub name_max : ℕ
 name_max = 8192
 
 -- a check: refused as r says unless (when) the test holds, else as the rest says
-abbrev pub unless : Bool → Refusal → MappingAnswer → MappingAnswer
+abbrev pub unless : Bool → Refusal → Result ⊤ MappingError → Result ⊤ MappingError
 unless t r rest = pick t rest (refused_by r)
 
-abbrev pub when : Bool → Refusal → MappingAnswer → MappingAnswer
+abbrev pub when : Bool → Refusal → Result ⊤ MappingError → Result ⊤ MappingError
 when t r rest = pick t (refused_by r) rest
 
 -- 13: "comma in name"
@@ -101,33 +98,33 @@ abbrev pub comma_free : List ℕ → Bool
 comma_free name = eqb (first_of (byte ",") name) (length name)
 
 -- 15: "code not in its list; carries it": that of the first entry for which it holds
-unfoldable pub missing_of : List Entry → List ℕ → SlotCode
-missing_of [] codes = Nothing
-missing_of (e ∷ es) codes = pick (in_list e.code codes) (missing_of es codes) (Is e.code)
+unfoldable pub missing_of : List Entry → List ℕ → Option Code
+missing_of [] codes = None
+missing_of (e ∷ es) codes = pick (in_list e.code codes) (missing_of es codes) (Some e.code)
 
 -- 15 when a code is missing
-abbrev pub when_missing : SlotCode → MappingAnswer → MappingAnswer
-when_missing (Is c) rest = refused_by (refusal_of 15 c)
-when_missing Nothing rest = rest
+abbrev pub when_missing : Option Code → Result ⊤ MappingError → Result ⊤ MappingError
+when_missing (Some c) rest = refused_by (refusal_of 15 c)
+when_missing None rest = rest
 
 -- "14 for the axis, 15 ascending, 16": "Unknown slot filled", "axis slot 7 or 8"
-unfoldable pub axis_checks : MappingData → List ℕ → MappingAnswer
+unfoldable pub axis_checks : MappingData → List ℕ → Result ⊤ MappingError
 axis_checks d axes =
     when (has_code_in (axis_of d A.Unknown)) (refusal 14)
     (when_missing (missing_of (filled_axes d) axes)
     (when (has_code_in (axis_of d A.DPadX)) (refusal 16)
     (when (has_code_in (axis_of d A.DPadY)) (refusal 16)
-    Accepted)))
+    (Ok tt))))
 
 -- "14 for the button, 15 for buttons ascending", then the axes'
-unfoldable pub slot_checks : MappingData → List ℕ → List ℕ → MappingAnswer
+unfoldable pub slot_checks : MappingData → List ℕ → List ℕ → Result ⊤ MappingError
 slot_checks d buttons axes =
     when (has_code_in (button_of d B.Unknown)) (refusal 14)
     (when_missing (missing_of (filled_buttons d) buttons)
     (axis_checks d axes))
 
 -- "10, 17, 12, 13", then the slots'
-unfoldable pub checks_of : MappingData → List ℕ → List ℕ → List ℕ → MappingAnswer
+unfoldable pub checks_of : MappingData → List ℕ → List ℕ → List ℕ → Result ⊤ MappingError
 checks_of d buttons axes name =
     unless (is_utf8 name) (refusal_at 10 (valid_run name))
     (unless (leb (length name) name_max) (refusal 17)
@@ -137,32 +134,32 @@ checks_of d buttons axes name =
 
 -- ---- what build answers and leaves, room being the length of the output
 -- a refusal of the earlier checks stays
-abbrev pub after : MappingAnswer → MappingAnswer → MappingAnswer
-after Accepted rest = rest
-after (Refused e) rest = Refused e
+abbrev pub after : Result ⊤ MappingError → Result ⊤ MappingError → Result ⊤ MappingError
+after (Ok tt) rest = rest
+after (Err e) rest = Err e
 
 -- 18: "output shorter than the line", after all others
-unfoldable pub answer_of : MappingData → List ℕ → List ℕ → List ℕ → Uuid → ℕ → MappingAnswer
+unfoldable pub answer_of : MappingData → List ℕ → List ℕ → List ℕ → Uuid → ℕ → Result ⊤ MappingError
 answer_of d buttons axes name uuid room =
     after (checks_of d buttons axes name)
-    (unless (leb (length (built_line d buttons axes name uuid)) room) (refusal 18) Accepted)
+    (unless (leb (length (built_line d buttons axes name uuid)) room) (refusal 18) (Ok tt))
 
 -- "Returned: map, length"; "A refused .. build .. returns the empty map, flags and lengths 0"
 abbrev pub refused_build : MappingError → Built
-refused_build e = record { answer = Refused e; map = empty_map; len = 0 }
+refused_build e = record { answer = Err e; map = empty_map; len = 0 }
 
-abbrev pub returned : MappingAnswer → Mapping → ℕ → Built
-returned Accepted m n = record { answer = Accepted; map = m; len = n }
-returned (Refused e) m n = refused_build e
+abbrev pub returned : Result ⊤ MappingError → Mapping → ℕ → Built
+returned (Ok tt) m n = record { answer = Ok tt; map = m; len = n }
+returned (Err e) m n = refused_build e
 
 unfoldable pub build_of : MappingData → List ℕ → List ℕ → List ℕ → Uuid → ℕ → Built
 build_of d buttons axes name uuid room =
     returned (answer_of d buttons axes name uuid room) (built_map d name) (length (built_line d buttons axes name uuid))
 
 -- "the line stands at the output's start, later bytes unchanged"; after a refusal all of them
-abbrev pub left : MappingAnswer → List ℕ → List ℕ → List ℕ
-left Accepted out line = written out 0 line
-left (Refused e) out line = out
+abbrev pub left : Result ⊤ MappingError → List ℕ → List ℕ → List ℕ
+left (Ok tt) out line = written out 0 line
+left (Err e) out line = out
 
 unfoldable pub output_of : MappingData → List ℕ → List ℕ → List ℕ → Uuid → List ℕ → List ℕ
 output_of d buttons axes name uuid out =

@@ -1,6 +1,6 @@
 -- The default map of two lists of codes (document 01, 'Also', with request P1).
 -- Public contracts rest on these definitions; they assume nothing.
-use Rattle.std.specs.Prelude.{ℕ, zero, suc, List, [], ◌∷◌, ◌++◌, Bool, true, ltb}
+use Rattle.std.specs.Prelude.{ℕ, zero, suc, List, [], ◌∷◌, ◌++◌, Bool, true, ltb, Ok}
 use Rattle.text.specs.Bytes.{pick}
 use Rattle.line.specs.declared.ev.Code.{Code}
 use Rattle.line.specs.declared.ev.AxisOrBtn.TheVariants.{Axis, Btn}
@@ -13,7 +13,6 @@ use Rattle.line.specs.Maps.{MapView, entry_of, put_entry, to_map, empty_map}
 use Rattle.line.specs.Reading.{lists_fit}
 use Rattle.line.specs.Refusals.{refusal}
 use Rattle.line.specs.Tables.{as_button, as_axis}
-use Rattle.map.specs.declared.error.MappingAnswer.TheVariants.{Accepted}
 use Rattle.map.specs.declared.default.DefaultMap.{DefaultMap}
 use Rattle.map.specs.Lists.{in_list}
 use Rattle.map.specs.Refusals.{refused_by}
@@ -74,5 +73,5 @@ kept_map buttons axes = flagged_map (put_kept buttons axes [] rows)
 unfoldable pub default_of : List ℕ → List ℕ → DefaultMap
 default_of buttons axes =
     pick (lists_fit buttons axes)
-    (record { answer = Accepted; map = to_map (kept_map buttons axes) })
+    (record { answer = Ok tt; map = to_map (kept_map buttons axes) })
     (record { answer = refused_by (refusal 12); map = empty_map })

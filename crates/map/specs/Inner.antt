@@ -1,47 +1,70 @@
 -- What the contracts of private functions say.
 -- No public contract rests on these: a reader may leave them out.
-use Rattle.std.specs.Prelude.{ℕ, zero, suc, ◌+◌, ◌-◌, ◌<◌, ◌≤◌, ◌≡◌, Bool, false, List, [], ◌∷◌, ◌++◌, map, leb, ltb, length, take, get_or, replicate}
+use Rattle.std.specs.Prelude.{ℕ, zero, suc, ◌+◌, ◌-◌, ◌<◌, ◌≤◌, ◌≡◌, Bool, false, List, [], ◌∷◌, ◌++◌, map, leb, ltb, length, take, get_or, Option, Result, MatchResult, None, Ok, Err, ⊤}
 use Rattle.text.specs.Bytes.{byte, pick}
 use Rattle.text.specs.Decimal.{decimal}
 use Rattle.text.specs.Uuid.{uuid_text}
-use Rattle.text.specs.Inner.{Put}
-use Rattle.text.specs.declared.bytes.Written.{Written}
-use Rattle.text.specs.declared.bytes.Written.TheVariants.{Upto, TooShort}
 use Rattle.text.specs.declared.uuid.Uuid.{Uuid}
+use Rattle.line.specs.declared.ev.Code.{Code}
 use Rattle.line.specs.declared.mapping.Entry.{Entry}
 use Rattle.line.specs.declared.mapping.Mapping.{Mapping}
-use Rattle.line.specs.Maps.{unused_entry, puts_into, to_map}
-use Rattle.line.specs.Numbers.{entry_in}
+use Rattle.line.specs.Maps.{codes_max, puts_into, to_map}
 use Rattle.line.specs.Reading.{list_max}
 use Rattle.line.specs.declared.ev.AxisOrBtn.{AxisOrBtn}
 use Rattle.line.specs.Tables.{ident_text, as_button, as_axis}
+use Rattle.map.specs.declared.error.MappingError.{MappingError}
 use Rattle.map.specs.declared.from_data.filled.Filled.{Filled}
+use Rattle.map.specs.declared.from_data.filled.Pairs.{Pairs}
+use Rattle.map.specs.declared.from_data.filled.Placed.{Placed}
+use Rattle.map.specs.declared.from_data.gather.Kind.{Kind}
+use Rattle.map.specs.declared.from_data.gather.Kind.TheVariants as Kd
 use Rattle.map.specs.declared.mapping_data.MappingData.{MappingData}
 use Rattle.map.specs.Lists.{place_of}
-use Rattle.map.specs.Slots.{button_slots}
-use Rattle.map.specs.Build.{name_max, filled_buttons, filled_axes, name_start_of}
+use Rattle.map.specs.Slots.{empty_slot}
+use Rattle.map.specs.Build.{name_max, filled_from, filled_buttons, filled_axes, missing_of, when_missing, name_start_of}
+use Rattle.map.specs.Default.{flagged_map, put_kept}
 
 -- ---- the filled slots that the program has gathered
-abbrev pub held_in : Filled → List Entry
-held_in f = take f.count f.entries
+abbrev pub held_in : Filled → List Placed
+held_in f = take f.count f.slots
 
-abbrev pub none_filled_of : Filled
-none_filled_of =
-    record { count = 0; entries = replicate button_slots unused_entry; places = replicate button_slots 0 }
+-- an entry with the place of its code, and several
+abbrev pub placed_at : List ℕ → Entry → Placed
+placed_at codes e = record { entry = e; place = place_of e.code codes }
 
--- there are no more than slots
-abbrev pub Few : Filled → Type 0
-Few f = f.count ≤ button_slots
+abbrev pub placed_in : List ℕ → List Entry → List Placed
+placed_in codes es = map (placed_at codes) es
 
--- each has its place in the list
-pub record PlacedIn (codes : List ℕ) (f : Filled) : Type 0 where
-  pub at : (i : ℕ) (d : Entry) → i < f.count → get_or f.places i 0 ≡ place_of (get_or f.entries i d).code codes
+-- what slots are for: the element of a number, and what stands before an index
+abbrev pub element_of : Kind → ℕ → AxisOrBtn
+element_of Kd.Button n = as_button n
+element_of Kd.Axis n = as_axis n
 
--- they are these, each with its place in the list
-pub record Holds (codes : List ℕ) (f : Filled) (es : List Entry) : Type 0 where
-  pub are : held_in f ≡ es
-  pub most : Few f
-  pub placed : PlacedIn codes f
+abbrev pub letter_of : Kind → ℕ
+letter_of Kd.Button = byte "b"
+letter_of Kd.Axis = byte "a"
+
+-- the filled ones from number i on
+abbrev pub filled_after : Kind → List (Option Code) → ℕ → List Entry
+filled_after kind slots i =
+    filled_from (λ k. get_or slots k empty_slot) (element_of kind) (length slots - i) i
+
+-- they are gathered, each with its place in the list, or the first code that is missing there is refused
+abbrev pub Gathers : List ℕ → Kind → List (Option Code) → Result Filled MappingError → Type 0
+Gathers codes kind slots r =
+    MatchResult r
+    (λ f. (missing_of (filled_after kind slots 0) codes ≡ None)
+    × (held_in f ≡ placed_in codes (filled_after kind slots 0)))
+    (λ e. (rest : Result ⊤ MappingError) → when_missing (missing_of (filled_after kind slots 0) codes) rest ≡ Err e)
+
+-- a check hands back what P says where it passes, and the refusal else
+abbrev pub Passes : {A : Type 0} → Result A MappingError → Result ⊤ MappingError → (A → Type 0) → Type 0
+Passes r checks P = MatchResult r (λ x. (checks ≡ Ok tt) × P x) (λ e. checks ≡ Err e)
+
+-- the pairs are those of the slots
+pub record Gathered (d : MappingData) (buttons axes : List ℕ) (p : Pairs) : Type 0 where
+  pub first : held_in p.buttons ≡ placed_in buttons (filled_buttons d)
+  pub last : held_in p.axes ≡ placed_in axes (filled_axes d)
 
 -- ---- the line in parts
 abbrev pub with_comma : List ℕ → List ℕ
@@ -61,29 +84,29 @@ unfoldable pub pair_fields : ℕ → List ℕ → List Entry → List ℕ
 pair_fields letter codes [] = []
 pair_fields letter codes (e ∷ es) = pair_field letter codes e ++ pair_fields letter codes es
 
+-- the same of slots that have their places
+abbrev pub pair_of : ℕ → Placed → List ℕ
+pair_of letter s = pair_at letter s.place s.entry
+
+unfoldable pub pairs_of : ℕ → List Placed → List ℕ
+pairs_of letter [] = []
+pairs_of letter (s ∷ ss) = pair_of letter s ++ pairs_of letter ss
+
 -- what stands before the pairs
 abbrev pub head_text : Uuid → List ℕ → List ℕ
 head_text uuid name = with_comma (uuid_text uuid) ++ with_comma name
 
-abbrev pub line_text : List ℕ → Filled → List ℕ → Filled → List ℕ → Uuid → List ℕ
-line_text buttons first axes last name uuid =
-    (head_text uuid name ++ pair_fields (byte "b") buttons (held_in first)) ++ pair_fields (byte "a") axes (held_in last)
+abbrev pub line_text : Pairs → List ℕ → Uuid → List ℕ
+line_text p name uuid =
+    (head_text uuid name ++ pairs_of (byte "b") (held_in p.buttons)) ++ pairs_of (byte "a") (held_in p.axes)
 
--- ---- what the writers of parts need and leave
 -- a text fits from a place on
 abbrev pub Room : List ℕ → ℕ → List ℕ → Type 0
 Room out at v = at + length v ≤ length out
 
-abbrev pub WritesPairs : ℕ → List ℕ → Filled → List ℕ → ℕ → ℕ → List ℕ → Type 0
-WritesPairs letter codes f out at next after = Put out at (pair_fields letter codes (held_in f)) next after
-
 -- ---- lengths
 abbrev pub ListFits : List ℕ → Type 0
 ListFits codes = length codes ≤ list_max
-
--- the filled slots can be counted
-abbrev pub Ready : List ℕ → Filled → Type 0
-Ready codes f = Few f × PlacedIn codes f × ListFits codes
 
 abbrev pub length_at : ℕ → Entry → ℕ
 length_at n e = length (ident_text e.element) + 2 + length (decimal n) + 1
@@ -95,13 +118,20 @@ unfoldable pub pairs_length : List ℕ → List Entry → ℕ
 pairs_length codes [] = 0
 pairs_length codes (e ∷ es) = pair_length codes e + pairs_length codes es
 
+-- the same of slots that have their places
+abbrev pub length_of : Placed → ℕ
+length_of s = length_at s.place s.entry
+
+unfoldable pub lengths_of : List Placed → ℕ
+lengths_of [] = 0
+lengths_of (s ∷ ss) = length_of s + lengths_of ss
+
 abbrev pub line_length : MappingData → List ℕ → List ℕ → List ℕ → ℕ
 line_length d buttons axes name =
     name_start_of + length name + 1 + pairs_length buttons (filled_buttons d) + pairs_length axes (filled_axes d)
 
-abbrev pub length_of : List ℕ → Filled → List ℕ → Filled → List ℕ → ℕ
-length_of buttons first axes last name =
-    name_start_of + length name + 1 + pairs_length buttons (held_in first) + pairs_length axes (held_in last)
+abbrev pub line_len_of : Pairs → List ℕ → ℕ
+line_len_of p name = name_start_of + length name + 1 + lengths_of (held_in p.buttons) + lengths_of (held_in p.axes)
 
 -- an output of `room` bytes is too short for n, unless it holds every line
 abbrev pub built_line_max : ℕ
@@ -110,22 +140,11 @@ built_line_max = 8544
 abbrev pub short_of : ℕ → ℕ → Bool
 short_of room n = pick (leb built_line_max room) false (ltb room n)
 
--- ---- the place after what was written
-abbrev pub upto_of : Written → ℕ
-upto_of (Upto n) = n
-upto_of TooShort = 0
-
--- ---- the filled slots as numbers after the first n of xs: r numbers in all, and ys has them
-pub record Adds (n : ℕ) (xs : List ℕ) (f : Filled) (r : ℕ) (ys : List ℕ) : Type 0 where
-  pub many : r ≡ n + f.count
-  pub are : map entry_in (take r ys) ≡ map entry_in (take n xs) ++ held_in f
-  pub long : length ys ≡ length xs
-
--- the map of both
-unfoldable pub put_map_of : Filled → Filled → ℕ → Mapping
-put_map_of first last n =
+-- ---- the map of both
+unfoldable pub put_map_of : Pairs → ℕ → Mapping
+put_map_of p n =
     to_map (record {
-      list = puts_into (held_in first ++ held_in last) [];
+      list = puts_into (map (λ s. s.entry) (held_in p.buttons) ++ map (λ s. s.entry) (held_in p.axes)) [];
       name_start_of = name_start_of;
       name_len_of = n;
       is_default = false;
@@ -145,3 +164,10 @@ pairs_max to (suc n) k = pair_max (to k) + pairs_max to n (suc k)
 -- the UUID and the longest name, each with a comma, and the 19 buttons and six axes that have an ident
 unfoldable pub built_max : ℕ
 built_max = name_start_of + name_max + 1 + pairs_max as_button 19 1 + pairs_max as_axis 6 1
+
+-- ---- the default map
+-- into a map with the default flag that has room, an entry is put if its code is in its list
+abbrev pub PutsListed : List ℕ → List ℕ → Entry → Mapping → Mapping → Type 0
+PutsListed buttons axes e before after =
+    (es : List Entry) → length es < codes_max → before ≡ to_map (flagged_map es)
+    → after ≡ to_map (flagged_map (put_kept buttons axes es (e ∷ [])))

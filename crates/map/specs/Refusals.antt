@@ -1,20 +1,14 @@
 -- Document 01's number and values of each refusal of this layer, and the cases back from them:
 -- `mapping_one_to_one` in ../proofs/NumberedLaws.antt.
 -- Public contracts rest on these definitions; they assume nothing.
-use Rattle.std.specs.Prelude.{ℕ, ◌≡◌, List, [], ◌∷◌, map, eqb}
+use Rattle.std.specs.Prelude.{ℕ, ◌≡◌, List, [], ◌∷◌, map, eqb, Result, Ok, Err, ⊤, Option, Some, None}
 use Rattle.text.specs.Bytes.{pick}
 use Rattle.line.specs.declared.ev.Code.{Code}
-use Rattle.line.specs.declared.refusal.Carried.{Carried}
-use Rattle.line.specs.declared.refusal.Carried.TheVariants.{Carries, NoCode}
 use Rattle.line.specs.Elements.{code_of}
 use Rattle.line.specs.Refusals.{refusal, refusal_at, refusal_of, place_told}
 use Rattle.line.specs.declared.refusal.Refusal.{Refusal}
-use Rattle.line.specs.declared.refusal.Outcome.{Outcome}
-use Rattle.line.specs.declared.refusal.Outcome.TheVariants.{Passes, Refuses}
 use Rattle.map.specs.declared.error.MappingError.{MappingError}
 use Rattle.map.specs.declared.error.MappingError.TheVariants as Me
-use Rattle.map.specs.declared.error.MappingAnswer.{MappingAnswer}
-use Rattle.map.specs.declared.error.MappingAnswer.TheVariants as Ma
 
 -- "10 at the length of the longest valid run of whole characters from the first byte on; the rest none";
 -- "15: code not in its list; carries it"
@@ -28,14 +22,14 @@ mapping_refusal Me.NotSdl2Compatible = refusal 16
 mapping_refusal Me.NameTooLong = refusal 17
 mapping_refusal Me.OutputTooShort = refusal 18
 
-abbrev pub mapping_outcome : MappingAnswer → Outcome
-mapping_outcome Ma.Accepted = Passes
-mapping_outcome (Ma.Refused e) = Refuses (mapping_refusal e)
+abbrev pub mapping_outcome : Result ⊤ MappingError → Result ⊤ Refusal
+mapping_outcome (Ok tt) = Ok tt
+mapping_outcome (Err e) = Err (mapping_refusal e)
 
 -- ---- the table back: the case of a refusal, so that it is made by document 01's number
-abbrev pub code_told : Carried → Code
-code_told (Carries c) = c
-code_told NoCode = code_of 0
+abbrev pub code_told : Option Code → Code
+code_told (Some c) = c
+code_told None = code_of 0
 
 abbrev pub mapping_error_of : Refusal → MappingError
 mapping_error_of r =
@@ -48,8 +42,8 @@ mapping_error_of r =
     (pick (eqb r.number 17) Me.NameTooLong
     Me.OutputTooShort))))))
 
-abbrev pub refused_by : Refusal → MappingAnswer
-refused_by r = Ma.Refused (mapping_error_of r)
+abbrev pub refused_by : Refusal → Result ⊤ MappingError
+refused_by r = Err (mapping_error_of r)
 
 -- this layer's refusals: 10 at p, 15 with the code c
 abbrev pub mapping_refusals : ℕ → Code → List Refusal

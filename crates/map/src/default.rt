@@ -1,69 +1,40 @@
 // The default map of a pad: those of its codes that have a usual meaning.
-ghost use Rattle.std.specs.Prelude.{◌≡◌, [], ◌+◌, ◌<◌, get_or};
+ghost use Rattle.std.specs.Prelude.{◌≡◌, [], ◌+◌, ◌<◌};
 ghost use Rattle.line.specs.Elements.{code_of};
-ghost use Rattle.line.specs.Maps.{unused_entry, entry_of, to_map};
+ghost use Rattle.line.specs.Maps.{entry_of, to_map};
 ghost use Rattle.line.specs.Tables.{as_button};
 ghost use Rattle.map.specs.Keys.{key_count, key_first};
-ghost use Rattle.map.specs.Default.{button_rows, axis_rows, axis_row_count, in_its_list, put_kept, flagged_map, kept_map};
+ghost use Rattle.map.specs.Default.{button_rows, in_its_list, put_kept, flagged_map, kept_map};
 ghost use Rattle.map.specs.Default.{default_of};
+ghost use Rattle.map.specs.Inner.{PutsListed};
 
-use crate::error::{MappingAnswer, MappingError};
-use crate::keys::{KEY_FIRST, KEYS, key_table};
+use crate::error::MappingError;
+use crate::keys::{KEY_FIRST, key_table};
 use crate::lists::{in_list, lists_fit};
 use line::ev::{Axis, AxisOrBtn, Button, Code};
 use line::mapping::{Entry, Mapping};
-use line::parser::Ranges;
 
-const ROWS: usize = 12;
-
-// The codes of axes, and the element of each beside it.
-const CODES: [Code; ROWS] = [
-    Code::AXIS_LSTICKX,
-    Code::AXIS_LSTICKY,
-    Code::AXIS_LEFTZ,
-    Code::AXIS_RSTICKX,
-    Code::AXIS_RSTICKY,
-    Code::AXIS_RIGHTZ,
-    Code::AXIS_DPADX,
-    Code::AXIS_DPADY,
-    Code::AXIS_LT,
-    Code::AXIS_RT,
-    Code::AXIS_LT2,
-    Code::AXIS_RT2,
-];
-
-const ELEMENTS: [AxisOrBtn; ROWS] = [
-    AxisOrBtn::Axis(Axis::LeftStickX),
-    AxisOrBtn::Axis(Axis::LeftStickY),
-    AxisOrBtn::Axis(Axis::LeftZ),
-    AxisOrBtn::Axis(Axis::RightStickX),
-    AxisOrBtn::Axis(Axis::RightStickY),
-    AxisOrBtn::Axis(Axis::RightZ),
-    AxisOrBtn::Axis(Axis::DPadX),
-    AxisOrBtn::Axis(Axis::DPadY),
-    AxisOrBtn::Btn(Button::LeftTrigger),
-    AxisOrBtn::Btn(Button::RightTrigger),
-    AxisOrBtn::Btn(Button::LeftTrigger2),
-    AxisOrBtn::Btn(Button::RightTrigger2),
+// The codes of axes, each with its usual element.
+const AXIS_ROWS: [(Code, AxisOrBtn); 12] = [
+    (Code::AXIS_LSTICKX, AxisOrBtn::Axis(Axis::LeftStickX)),
+    (Code::AXIS_LSTICKY, AxisOrBtn::Axis(Axis::LeftStickY)),
+    (Code::AXIS_LEFTZ, AxisOrBtn::Axis(Axis::LeftZ)),
+    (Code::AXIS_RSTICKX, AxisOrBtn::Axis(Axis::RightStickX)),
+    (Code::AXIS_RSTICKY, AxisOrBtn::Axis(Axis::RightStickY)),
+    (Code::AXIS_RIGHTZ, AxisOrBtn::Axis(Axis::RightZ)),
+    (Code::AXIS_DPADX, AxisOrBtn::Axis(Axis::DPadX)),
+    (Code::AXIS_DPADY, AxisOrBtn::Axis(Axis::DPadY)),
+    (Code::AXIS_LT, AxisOrBtn::Btn(Button::LeftTrigger)),
+    (Code::AXIS_RT, AxisOrBtn::Btn(Button::RightTrigger)),
+    (Code::AXIS_LT2, AxisOrBtn::Btn(Button::LeftTrigger2)),
+    (Code::AXIS_RT2, AxisOrBtn::Btn(Button::RightTrigger2)),
 ];
 
 // A refused one has the empty map.
 #[derive(Clone, Copy)]
 pub struct DefaultMap {
-    pub answer: MappingAnswer,
+    pub answer: Result<(), MappingError>,
     pub map: Mapping,
-}
-
-// A row of the two tables.
-fn row(i: usize) -> Entry
-    requires { i < axis_row_count }
-    ensures { result ≡ get_or axis_rows i unused_entry }
-{
-    Entry {
-        code: CODES[i],
-        element: ELEMENTS[i],
-        ranges: Ranges::FULL,
-    }
 }
 
 // The code of a button is sought among the buttons, that of an axis among the axes.
@@ -84,6 +55,15 @@ fn key_row(i: usize, n: u8) -> Entry
     Entry::new(Code(KEY_FIRST + i as u32), AxisOrBtn::Btn(Button(n as u16)))
 }
 
+// An entry put into a map, which has room, if its code is in its list.
+fn put_listed(map: &mut Mapping, buttons: &[u32], axes: &[u32], e: Entry)
+    ensures { PutsListed buttons.now axes.now e map.old map.new }
+{
+    if in_its_list(buttons, axes, e.code) {
+        let _ = map.put(e);
+    }
+}
+
 // The map of the buttons whose code is in its list, by the table of key codes.
 fn kept_buttons(buttons: &[u32], axes: &[u32]) -> Mapping
     ensures { result ≡ to_map (flagged_map (put_kept buttons.now axes.now [] button_rows)) }
@@ -91,17 +71,10 @@ fn kept_buttons(buttons: &[u32], axes: &[u32]) -> Mapping
     let table = key_table();
     let mut map = Mapping::new();
     map.is_default = true;
-    let mut i: usize = 0;
-    while i < KEYS {
-        let n = table.buttons[i];
-        if n != 0 {
-            let e = key_row(i, n);
-            if in_its_list(buttons, axes, e.code) {
-                let a = map.put(e);
-                map = a.map;
-            }
+    for (i, n) in table.buttons.iter().enumerate() {
+        if *n != 0 {
+            put_listed(&mut map, buttons, axes, key_row(i, *n));
         }
-        i += 1;
     }
     map
 }
@@ -111,14 +84,8 @@ fn kept_map(buttons: &[u32], axes: &[u32]) -> Mapping
     ensures { result ≡ to_map (kept_map buttons.now axes.now) }
 {
     let mut map = kept_buttons(buttons, axes);
-    let mut i: usize = 0;
-    while i < ROWS {
-        let e = row(i);
-        if in_its_list(buttons, axes, e.code) {
-            let a = map.put(e);
-            map = a.map;
-        }
-        i += 1;
+    for (code, element) in AXIS_ROWS {
+        put_listed(&mut map, buttons, axes, Entry::new(code, element));
     }
     map
 }
@@ -128,14 +95,14 @@ pub fn default(buttons: &[u32], axes: &[u32]) -> DefaultMap
     ensures { result ≡ default_of buttons.now axes.now }
 {
     if lists_fit(buttons, axes) {
-        let map = kept_map(buttons, axes);
-        return DefaultMap {
-            answer: MappingAnswer::Accepted,
-            map,
-        };
-    }
-    DefaultMap {
-        answer: MappingAnswer::Refused(MappingError::ListTooLong),
-        map: Mapping::new(),
+        DefaultMap {
+            answer: Ok(()),
+            map: kept_map(buttons, axes),
+        }
+    } else {
+        DefaultMap {
+            answer: Err(MappingError::ListTooLong),
+            map: Mapping::new(),
+        }
     }
 }

@@ -3,9 +3,9 @@ ghost use Rattle.std.specs.Prelude.{◌≡◌};
 ghost use Rattle.map.specs.Refusals.{mapping_refusal, mapping_outcome};
 
 use line::ev::Code;
-use line::refusal::{Outcome, Refusal};
+use line::refusal::Refusal;
 
-#[derive(Clone, Copy)]
+#[derive(Clone, Copy, PartialEq, Eq)]
 pub enum MappingError {
     // The code of a filled slot is not in its list.
     InvalidCode(Code),
@@ -20,12 +20,6 @@ pub enum MappingError {
     NameTooLong,
     ListTooLong,
     OutputTooShort,
-}
-
-#[derive(Clone, Copy)]
-pub enum MappingAnswer {
-    Accepted,
-    Refused(MappingError),
 }
 
 impl MappingError {
@@ -46,14 +40,9 @@ impl MappingError {
     }
 }
 
-impl MappingAnswer {
-    // The answer of a build or a default map.
-    pub fn outcome(self) -> Outcome
-        ensures { result ≡ mapping_outcome self }
-    {
-        match self {
-            MappingAnswer::Accepted => Outcome::Passes,
-            MappingAnswer::Refused(e) => Outcome::Refuses(e.refusal()),
-        }
-    }
+// The answer of a build or a default map, with the refusal's number, place and code.
+pub fn mapping_outcome(answer: Result<(), MappingError>) -> Result<(), Refusal>
+    ensures { result ≡ mapping_outcome answer }
+{
+    answer.map_err(MappingError::refusal)
 }

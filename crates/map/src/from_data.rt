@@ -1,15 +1,15 @@
 // Build: the line and the map of the filled slots.
 mod checks;
 mod filled;
+mod gather;
 mod output;
 mod puts;
 
 ghost use Rattle.std.specs.Prelude.{◌≡◌};
 ghost use Rattle.map.specs.Build.{refused_build, Builds};
 
-use crate::error::{MappingAnswer, MappingError};
+use crate::error::MappingError;
 use crate::from_data::checks::checked;
-use crate::from_data::filled::{filled_axes, filled_buttons};
 use crate::from_data::output::{put_line, too_short};
 use crate::from_data::puts::built_map;
 use crate::mapping_data::MappingData;
@@ -31,7 +31,7 @@ pub const BUILT_MAX: usize = NAME_START + NAME_MAX + 1 + PAIRS_MAX;
 // A refused build has the empty map and length 0.
 #[derive(Clone, Copy)]
 pub struct Built {
-    pub answer: MappingAnswer,
+    pub answer: Result<(), MappingError>,
     pub map: Mapping,
     // The length of the line, which stands at the output's start.
     pub len: usize,
@@ -41,7 +41,7 @@ fn refused(e: MappingError) -> Built
     ensures { result ≡ refused_build e }
 {
     Built {
-        answer: MappingAnswer::Refused(e),
+        answer: Err(e),
         map: Mapping::new(),
         len: 0,
     }
@@ -59,18 +59,16 @@ pub fn from_data(
     ensures { Builds «data» buttons.now axes.now name.now uuid
         out.old result out.new }
 {
-    let first = filled_buttons(data, buttons);
-    let last = filled_axes(data, axes);
-    match checked(data, first, last, buttons, axes, name) {
-        MappingAnswer::Refused(e) => refused(e),
-        MappingAnswer::Accepted => {
-            if too_short(out.len(), first, last, buttons, axes, name) {
+    match checked(&data, buttons, axes, name) {
+        Err(e) => refused(e),
+        Ok(pairs) => {
+            if too_short(out.len(), &pairs, name) {
                 return refused(MappingError::OutputTooShort);
             }
-            let len = put_line(out, first, last, buttons, axes, name, uuid);
+            let len = put_line(out, &pairs, name, uuid);
             Built {
-                answer: MappingAnswer::Accepted,
-                map: built_map(first, last, name.len()),
+                answer: Ok(()),
+                map: built_map(&pairs, name.len()),
                 len,
             }
         }

@@ -1,6 +1,5 @@
 // The lists of a pad's button and axis codes.
-ghost use Rattle.std.specs.Prelude.{◌≡◌};
-ghost use Rattle.text.specs.Bytes.{first_of};
+ghost use Rattle.std.specs.Prelude.{◌≡◌, ◌==◌, position};
 ghost use Rattle.line.specs.Reading.{lists_fit};
 ghost use Rattle.map.specs.Lists.{in_list};
 
@@ -11,28 +10,18 @@ use line::reading::LIST_MAX;
 pub fn lists_fit(buttons: &[u32], axes: &[u32]) -> bool
     ensures { result ≡ lists_fit buttons.now axes.now }
 {
-    if LIST_MAX < buttons.len() {
-        return false;
-    }
-    axes.len() <= LIST_MAX
+    buttons.len() <= LIST_MAX && axes.len() <= LIST_MAX
 }
 
-// The first place of a code, or the list's length where it has none.
-pub fn find_code(list: &[u32], code: Code) -> usize
-    ensures { result ≡ first_of code.0 list.now }
+// The first place of a code, if the list has it.
+pub fn find_code(list: &[u32], code: Code) -> Option<usize>
+    ensures { result ≡ position (λ x. x == code.0) list.now }
 {
-    let mut i = 0;
-    while i < list.len() {
-        if list[i] == code.0 {
-            return i;
-        }
-        i += 1;
-    }
-    i
+    list.iter().position(|x| *x == code.0)
 }
 
 pub fn in_list(list: &[u32], code: Code) -> bool
     ensures { result ≡ in_list code list.now }
 {
-    find_code(list, code) < list.len()
+    find_code(list, code).is_some()
 }

@@ -1,7 +1,7 @@
 // The slots from which a mapping is built: one optional code per button and per axis.
-ghost use Rattle.std.specs.Prelude.{◌≡◌};
-ghost use Rattle.map.specs.Slots.{filled_with, code_in, has_code_in, no_slots, button_of, axis_of, insert_btn_of};
-ghost use Rattle.map.specs.Slots.{insert_axis_of, remove_button_of, remove_axis_of};
+ghost use Rattle.std.specs.Prelude.{◌≡◌, length};
+ghost use Rattle.map.specs.Slots.{code_at, slots_with, no_slots, button_of, axis_of, insert_btn_of, insert_axis_of};
+ghost use Rattle.map.specs.Slots.{remove_button_of, remove_axis_of};
 
 use line::ev::{Axis, Button, Code};
 
@@ -10,68 +10,10 @@ pub const BUTTONS: usize = 20;
 
 pub const AXES: usize = 9;
 
-// The code counts only where the slot is filled.
-#[derive(Clone, Copy)]
-pub struct Slot {
-    pub filled: bool,
-    pub code: Code,
-}
-
-#[derive(Clone, Copy)]
+#[derive(Clone, Copy, PartialEq, Eq)]
 pub struct MappingData {
-    pub buttons: [Slot; BUTTONS],
-    pub axes: [Slot; AXES],
-}
-
-// The code of a slot, if it has one.
-#[derive(Clone, Copy)]
-pub enum SlotCode {
-    Is(Code),
-    Nothing,
-}
-
-// What an insert or a remove hands back: the former code, and the changed slots.
-#[derive(Clone, Copy)]
-pub struct Changed {
-    pub former: SlotCode,
-    pub slots: MappingData,
-}
-
-impl Slot {
-    pub const EMPTY: Slot = Slot {
-        filled: false,
-        code: Code(0),
-    };
-
-    // The one place where a filled slot is made.
-    pub fn new(code: Code) -> Slot
-        ensures { result ≡ filled_with code }
-    {
-        Slot { filled: true, code }
-    }
-
-    // The code of a filled slot.
-    pub fn code(self) -> SlotCode
-        ensures { result ≡ code_in self }
-    {
-        if self.filled {
-            let c = self.code;
-            return SlotCode::Is(c);
-        }
-        SlotCode::Nothing
-    }
-}
-
-impl SlotCode {
-    // Whether there is a code.
-    pub fn is_some(self) -> bool
-        ensures { result ≡ has_code_in self }
-    {
-        match self {
-            SlotCode::Is(_) => true,
-            SlotCode::Nothing => false,
-        }
-    }
+    pub buttons: [Option<Code>; BUTTONS],
+    pub axes: [Option<Code>; AXES],
 }
 
 impl MappingData {
@@ -80,84 +22,76 @@ impl MappingData {
         ensures { result ≡ no_slots }
     {
         MappingData {
-            buttons: [Slot::EMPTY; BUTTONS],
-            axes: [Slot::EMPTY; AXES],
+            buttons: [None; BUTTONS],
+            axes: [None; AXES],
         }
     }
 
     // The code of a button.
-    pub fn button(self, idx: Button) -> SlotCode
-        ensures { result ≡ button_of self idx }
+    #[tactic(auto, unfolding(crate::specs::Slots::button_of))]
+    pub fn button(&self, idx: Button) -> Option<Code>
+        ensures { result ≡ button_of self.now idx }
     {
-        let i = idx.0 as usize;
-        if i < BUTTONS {
-            let s = self.buttons[i];
-            return s.code();
-        }
-        SlotCode::Nothing
+        code_at(&self.buttons, idx.0)
     }
 
     // The code of an axis.
-    pub fn axis(self, idx: Axis) -> SlotCode
-        ensures { result ≡ axis_of self idx }
+    #[tactic(auto, unfolding(crate::specs::Slots::axis_of))]
+    pub fn axis(&self, idx: Axis) -> Option<Code>
+        ensures { result ≡ axis_of self.now idx }
     {
-        let i = idx.0 as usize;
-        if i < AXES {
-            let s = self.axes[i];
-            return s.code();
-        }
-        SlotCode::Nothing
+        code_at(&self.axes, idx.0)
     }
 
-    // Fills a button's slot.
-    pub fn insert_btn(self, from: Code, to: Button) -> Changed
-        ensures { result ≡ insert_btn_of self from to }
+    // Fills a button's slot; the former code.
+    #[tactic(auto, unfolding(crate::specs::Slots::insert_btn_of, crate::specs::Slots::button_of))]
+    pub fn insert_btn(&mut self, from: Code, to: Button) -> Option<Code>
+        ensures { (result, self.new) ≡ insert_btn_of self.old from to }
     {
-        let former = self.button(to);
-        let i = to.0 as usize;
-        let mut slots = self;
-        if i < BUTTONS {
-            slots.buttons[i] = Slot::new(from);
-        }
-        Changed { former, slots }
+        replace(&mut self.buttons, to.0, Some(from))
     }
 
-    // Fills an axis's slot.
-    pub fn insert_axis(self, from: Code, to: Axis) -> Changed
-        ensures { result ≡ insert_axis_of self from to }
+    // Fills an axis's slot; the former code.
+    #[tactic(auto, unfolding(crate::specs::Slots::insert_axis_of, crate::specs::Slots::axis_of))]
+    pub fn insert_axis(&mut self, from: Code, to: Axis) -> Option<Code>
+        ensures { (result, self.new) ≡ insert_axis_of self.old from to }
     {
-        let former = self.axis(to);
-        let i = to.0 as usize;
-        let mut slots = self;
-        if i < AXES {
-            slots.axes[i] = Slot::new(from);
-        }
-        Changed { former, slots }
+        replace(&mut self.axes, to.0, Some(from))
     }
 
-    // Empties a button's slot.
-    pub fn remove_button(self, idx: Button) -> Changed
-        ensures { result ≡ remove_button_of self idx }
+    // Empties a button's slot; the former code.
+    #[tactic(auto, unfolding(crate::specs::Slots::remove_button_of, crate::specs::Slots::button_of))]
+    pub fn remove_button(&mut self, idx: Button) -> Option<Code>
+        ensures { (result, self.new) ≡ remove_button_of self.old idx }
     {
-        let former = self.button(idx);
-        let i = idx.0 as usize;
-        let mut slots = self;
-        if i < BUTTONS {
-            slots.buttons[i] = Slot::EMPTY;
-        }
-        Changed { former, slots }
+        replace(&mut self.buttons, idx.0, None)
     }
 
-    // Empties an axis's slot.
-    pub fn remove_axis(self, idx: Axis) -> Changed
-        ensures { result ≡ remove_axis_of self idx }
+    // Empties an axis's slot; the former code.
+    #[tactic(auto, unfolding(crate::specs::Slots::remove_axis_of, crate::specs::Slots::axis_of))]
+    pub fn remove_axis(&mut self, idx: Axis) -> Option<Code>
+        ensures { (result, self.new) ≡ remove_axis_of self.old idx }
     {
-        let former = self.axis(idx);
-        let i = idx.0 as usize;
-        let mut slots = self;
-        if i < AXES {
-            slots.axes[i] = Slot::EMPTY;
-        }
-        Changed { former, slots }
+        replace(&mut self.axes, idx.0, None)
     }
+}
+
+// The code of a slot; a number past the last has none.
+fn code_at(slots: &[Option<Code>], number: u16) -> Option<Code>
+    ensures { result ≡ code_at (length slots.now) slots.now number }
+{
+    slots.get(number as usize).copied().flatten()
+}
+
+// Another code, or none, put into a slot; the former one. A number past the last changes nothing.
+fn replace(slots: &mut [Option<Code>], number: u16, code: Option<Code>) -> Option<Code>
+    ensures former { result ≡ code_at (length slots.old) slots.old number }
+    ensures held { slots.new ≡ slots_with (length slots.old) slots.old number code }
+{
+    let former = code_at(slots, number);
+    let i = number as usize;
+    if i < slots.len() {
+        slots[i] = code;
+    }
+    former
 }

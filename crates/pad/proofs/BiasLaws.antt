@@ -1,6 +1,7 @@
 -- A value counted from the least one, and back. Assumes nothing.
+use Rattle.std.specs.Prelude.{Some, None, Option}
 use Prim.Native.Nat.{ℕ, zero, suc, ◌+◌, ◌-◌, ◌<◌, ◌≤◌}
-use mathlib.Core.Path.{◌≡◌, refl, ap}
+use mathlib.Core.Path.{◌≡◌, refl, ap, subst}
 use native.Mathlib.Omega.{arith}
 use mathlib.Core.Logic.{◌⊎◌, inl, inr, ⊎_elim}
 use mathlib.Core.Bool.{Bool, true, false}
@@ -13,7 +14,6 @@ use Rattle.pad.specs.Values.{part_of}
 use Rattle.pad.specs.Inner.{shifted, unshifted, share_of, Proper}
 use Rattle.line.specs.declared.parser.AxisRange.{AxisRange}
 use Rattle.line.specs.declared.parser.AxisRange.TheVariants as Ar
-use Rattle.pad.specs.declared.numbers.Part.TheVariants as Pt
 
 pub lt_or_le : (a b : ℕ) → (a < b) ⊎ (b ≤ a)
 lt_or_le a b = by (ltb a b) refl
@@ -50,10 +50,10 @@ unshifted-shifted (negsuc k) f =
 
 pub share_is : (v : ℤ) (i : AxisRange) → SFits w16 v → part_of v i ≡ share_of (shifted v) i
 share_is (pos k) Ar.Full f = refl
-share_is (negsuc k) Ar.Full f = ap (λ (n : ℕ). Pt.Of n 65535) (omega arith)
+share_is (negsuc k) Ar.Full f = ap (λ (n : ℕ). Some (n, 65535)) (omega arith)
 share_is (pos k) Ar.UpperHalf f =
     let l : 32768 ≤ 32768 + k = omega arith in
-    rw (le-ltb (32768 + k) 32768 l) (ap (λ (n : ℕ). Pt.Of n 32767) (omega arith))
+    rw (le-ltb (32768 + k) 32768 l) (ap (λ (n : ℕ). Some (n, 32767)) (omega arith))
 share_is (negsuc k) Ar.UpperHalf f =
     let l : 32767 - k < 32768 = omega arith in
     rw (lt-ltb (32767 - k) 32768 l)
@@ -63,7 +63,7 @@ share_is (pos k) Ar.LowerHalf f = at_zero (eqb k 0) refl
     at_zero true e =
         let z = eqb-true k 0 e in
         let l : 32768 + k ≤ 32768 = omega arith in
-        rw (e, le-ltb 32768 (32768 + k) l) (ap (λ (n : ℕ). Pt.Of n 32768) (omega arith))
+        rw (e, le-ltb 32768 (32768 + k) l) (ap (λ (n : ℕ). Some (n, 32768)) (omega arith))
     at_zero false e =
         let z = eqb-false k 0 e in
         let l : 32768 < 32768 + k = ⊎_elim (λ h. absurd (z h)) (λ h. omega arith) (zero_or_more k) in
@@ -71,7 +71,7 @@ share_is (pos k) Ar.LowerHalf f = at_zero (eqb k 0) refl
 share_is (negsuc k) Ar.LowerHalf f =
     let h : k < 32768 = f.sfits in
     let l : 32767 - k ≤ 32768 = omega arith in
-    rw (le-ltb 32768 (32767 - k) l) (ap (λ (n : ℕ). Pt.Of n 32768) (omega arith))
+    rw (le-ltb 32768 (32767 - k) l) (ap (λ (n : ℕ). Some (n, 32768)) (omega arith))
 
 pub unshifted_fits : (x : ℕ) → x < 65536 → SFits w16 (unshifted x)
 unshifted_fits x h =
@@ -81,30 +81,31 @@ unshifted_fits x h =
     (lt_or_le x 32768)
 
 -- shares are proper
-pub share_proper : (x : ℕ) (i : AxisRange) (n d : ℕ) → x < 65536 → share_of x i ≡ Pt.Of n d → Proper n d
-share_proper x Ar.Full n d h e =
-    let a : x ≡ n = cc in
-    let b : 65535 ≡ d = cc in
-    record { within = omega arith; some = omega arith; most = omega arith }
+parts : (m k n d : ℕ) → Proper m k → ◌≡◌ {A = Option (ℕ × ℕ)} (Some (m, k)) (Some (n, d))
+    → Proper n d
+parts m k n d p q =
+    let r : ◌≡◌ {A = ℕ × ℕ} (m, k) (n, d) = cc in
+    subst (λ (t : ℕ × ℕ). Proper t.0 t.1) r p
+
+no_part : {A : Type 0} (n d : ℕ) → ◌≡◌ {A = Option (ℕ × ℕ)} None (Some (n, d)) → A
+no_part n d e = absurd cc
+
+pub share_proper : (x : ℕ) (i : AxisRange) (n d : ℕ) → x < 65536 → share_of x i ≡ Some (n, d) → Proper n d
+share_proper x Ar.Full n d h e = parts x 65535 n d (record { within = omega arith; some = omega arith; most = omega arith }) e
 share_proper x Ar.UpperHalf n d h e = by (ltb x 32768) refl
   where
     by : (t : Bool) → ltb x 32768 ≡ t → Proper n d
-    by true q = let no : Pt.Nothing ≡ Pt.Of n d = rw q at e in let z : ◌≡◌ {A = ℕ} 0 1 = cc in absurd (omega arith)
+    by true q = no_part n d (rw q at e)
     by false q =
-        let e' : Pt.Of (x - 32768) 32767 ≡ Pt.Of n d = rw q at e in
-        let a : x - 32768 ≡ n = cc in
-        let b : 32767 ≡ d = cc in
         let l = ltb-false x 32768 q in
-        record { within = omega arith; some = omega arith; most = omega arith }
+        parts (x - 32768) 32767 n d (record { within = omega arith; some = omega arith; most = omega arith }) (rw q at e)
 share_proper x Ar.LowerHalf n d h e = by (ltb 32768 x) refl
   where
     by : (t : Bool) → ltb 32768 x ≡ t → Proper n d
-    by true q = let no : Pt.Nothing ≡ Pt.Of n d = rw q at e in let z : ◌≡◌ {A = ℕ} 0 1 = cc in absurd (omega arith)
+    by true q = no_part n d (rw q at e)
     by false q =
-        let e' : Pt.Of (32768 - x) 32768 ≡ Pt.Of n d = rw q at e in
-        let a : 32768 - x ≡ n = cc in
-        let b : 32768 ≡ d = cc in
-        record { within = omega arith; some = omega arith; most = omega arith }
+        let l = ltb-false 32768 x q in
+        parts (32768 - x) 32768 n d (record { within = omega arith; some = omega arith; most = omega arith }) (rw q at e)
 
 pub turned_proper : (n d : ℕ) → Proper n d → Proper (d - n) d
 turned_proper n d p = record { within = omega arith; some = p.some; most = p.most }

@@ -1,42 +1,40 @@
 -- The events of a raw value that was put: at most one, of the element of its code. Assumes nothing.
+use Rattle.std.specs.Prelude.{Option, Some, None}
 use Prim.Native.Nat.{ℕ, ◌<◌, ◌≤◌}
 use mathlib.Core.Path.{◌≡◌, refl, sym, ap, subst, ◌∙◌}
 use mathlib.Core.Bool.{Bool, true, false}
 use mathlib.Core.List.{List, [], ◌∷◌}
 use mathlib.Core.Logic.{⊎_elim}
 use native.Mathlib.Omega.{arith}
-use borrow.Author.Tests.{eqb-true, eqb-false, eq-eqb, lt-ltb, le-ltb}
-use lib.Dec.{eqb, ltb}
+use borrow.Author.Tests.{lt-ltb, le-ltb}
 use lib.IntN.{ℤ, pos}
 use lib.ListN.{length}
 use Rattle.text.specs.Bytes.{pick}
 use Rattle.line.specs.declared.ev.Code.{Code}
 use Rattle.line.specs.declared.ev.AxisOrBtn.{AxisOrBtn}
 use Rattle.line.specs.declared.mapping.Entry.{Entry}
-use Rattle.line.specs.declared.mapping.Entered.{Entered}
-use Rattle.line.specs.declared.mapping.Entered.TheVariants as En
 use Rattle.line.specs.Maps.{entry_at}
 use Rattle.pad.specs.declared.events.Held.{Held}
 use Rattle.pad.specs.declared.events.Event.{Event}
-use Rattle.pad.specs.Pads.{element_count, put_held, choose, value_in, value_of, values_of, element_at, place_of, sameℤ}
+use Rattle.pad.specs.Pads.{put_held, choose, value_in, value_of, values_of, element_at, place_of, sameℤ}
 use Rattle.pad.specs.Pads.{changes}
-use Rattle.pad.specs.declared.telling.Change.{Change}
-use Rattle.pad.specs.Inner.{shifted, unshifted, one_event, OnlyOf, Touched}
+use Rattle.pad.specs.declared.state.Pad.{Pad}
+use Rattle.pad.specs.States.{held_of, entries_of, pad_values, pad_value}
+use Rattle.pad.specs.Inner.{one_event, OnlyOf, Touched, caught, event_by}
 use Rattle.pad.proofs.BiasLaws.{lt_or_le}
 use Rattle.pad.proofs.PlaceLaws.{element_place, other_element, place_most}
-use Rattle.pad.proofs.ReaderLaws.{same_value}
-use Rattle.pad.proofs.TouchLaws.{is_of, untouched, same_refl, none-changed, one_changed}
+use Rattle.pad.proofs.TouchLaws.{is_of, untouched, none-changed, one_changed}
 
 -- ---- a code that was put changes its element alone, or none
-put_only : (hs : List Held) (es : List Entry) (h : Held) (el : AxisOrBtn) (w : Entered) → entry_at es h.code ≡ w
+put_only : (hs : List Held) (es : List Entry) (h : Held) (el : AxisOrBtn) (w : Option Entry) → entry_at es h.code ≡ w
     → is_of w el ≡ false → choose (put_held h hs) es el ≡ choose hs es el
-put_only hs es h el w e q = untouched hs es h el (ap (λ (x : Entered). is_of x el) e ∙ q)
+put_only hs es h el w e q = untouched hs es h el (ap (λ (x : Option Entry). is_of x el) e ∙ q)
 
 module _ (hs ks : List Held) (es : List Entry) (c : Code) (t : Touched hs ks c) where
-  entry_is : (w : Entered) → w ≡ entry_at es c → entry_at es t.put.code ≡ w
+  entry_is : (w : Option Entry) → w ≡ entry_at es c → entry_at es t.put.code ≡ w
   entry_is w e = ap (λ (x : Code). entry_at es x) t.of ∙ sym e
 
-  pub only_of : (w : Entered) → w ≡ entry_at es c → (other : AxisOrBtn) → is_of w other ≡ false
+  pub only_of : (w : Option Entry) → w ≡ entry_at es c → (other : AxisOrBtn) → is_of w other ≡ false
       → choose ks es other ≡ choose hs es other
   only_of w e other q =
       ap (λ (l : List Held). choose l es other) t.is ∙ put_only hs es t.put other w (entry_is w e) q
@@ -95,74 +93,54 @@ module _ (hs ks : List Held) (es : List Entry) (c : Code) (t : Touched hs ks c) 
   pub few_changes : length events ≤ 1
   few_changes = by (entry_at es c) refl
     where
-      by : (w : Entered) → w ≡ entry_at es c → length events ≤ 1
-      by (En.Is e) q = of_element e.element (λ other r. only_of hs ks es c t (En.Is e) q other r)
-      by En.Absent q =
-          none_at_all events (no_change hs ks es (λ other. only_of hs ks es c t En.Absent q other refl))
+      by : (w : Option Entry) → w ≡ entry_at es c → length events ≤ 1
+      by (Some e) q = of_element e.element (λ other r. only_of hs ks es c t (Some e) q other r)
+      by None q =
+          none_at_all events (no_change hs ks es (λ other. only_of hs ks es c t None q other refl))
 
--- ---- values by their numbers
-pub back : (x : ℕ) → x < 65536 → shifted (unshifted x) ≡ x
-back x h =
-    ⊎_elim (λ l. rw (lt-ltb x 32768 l) (omega arith)) (λ l. rw (le-ltb x 32768 l) (omega arith)) (lt_or_le x 32768)
+-- ---- the change of a pad, told by the element's values before and after
+caught-pick : (t : Bool) (e : Event) → pick t [] (e ∷ []) ≡ caught (pick t None (Some e)) []
+caught-pick true e = refl
+caught-pick false e = refl
 
-module _ (el : AxisOrBtn) (v w : ℤ) (x y : ℕ) (ex : unshifted x ≡ v) (ey : unshifted y ≡ w) where
-  pub equal_numbers : x ≡ y → change_of el v w ≡ []
-  equal_numbers e =
-      let q : v ≡ w = sym ex ∙ ap (λ (k : ℕ). unshifted k) e ∙ ey in
-      rw (q, same_refl w)
+pub value_away : (p : Pad) (el : AxisOrBtn) → place_of el ≡ 27 → pad_value p el ≡ pos 0
+unfolding pad_value
+value_away p el e = let l : 27 ≤ place_of el = omega (arith, e) in rw (le-ltb (place_of el) 27 l)
 
-  pub unlike_numbers : x < 65536 → y < 65536 → (x ≡ y → ⊥) → change_of el v w ≡ one_event el (unshifted y) ∷ []
-  unlike_numbers hx hy d = by (sameℤ v w) refl
-    where
-      by : (t : Bool) → sameℤ v w ≡ t → change_of el v w ≡ one_event el (unshifted y) ∷ []
-      by true e =
-          let q : unshifted x ≡ unshifted y = ex ∙ same_value v w e ∙ sym ey in
-          absurd (d (sym (back x hx) ∙ ap (λ (z : ℤ). shifted z) q ∙ back y hy))
-      by false e = rw (e, ey)
+pub value_there : (p : Pad) (el : AxisOrBtn) → place_of el < 27 → value_of (held_of p) (entries_of p) el ≡ pad_value p el
+unfolding pad_value
+value_there p el l = rw (lt-ltb (place_of el) 27 l)
 
-  pub told_numbers : x < 65536 → y < 65536 → change_of el v w ≡ pick (eqb x y) [] (one_event el (unshifted y) ∷ [])
-  told_numbers hx hy = by (eqb x y) refl
-    where
-      by : (t : Bool) → eqb x y ≡ t → change_of el v w ≡ pick t [] (one_event el (unshifted y) ∷ [])
-      by true e = equal_numbers (eqb-true x y e)
-      by false e = unlike_numbers hx hy (eqb-false x y e)
+module _ (p q : Pad) (c : Code) (t : Touched (held_of p) (held_of q) c) (same : entries_of q ≡ entries_of p) where
+  abbrev told : List Event
+  told = changes 0 (pad_values p) (pad_values q)
 
--- ---- a change by its numbers
-pub unchanged : (es fs : List Event) (x y : ℕ) → es ≡ [] → x ≡ y → es ≡ pick (eqb x y) [] fs
-unchanged es fs x y e q = e ∙ sym (ap (λ (t : Bool). pick t [] fs) (eq-eqb x y q))
+  told_is : told ≡ changes 0 (values_of (held_of p) (entries_of p)) (values_of (held_of q) (entries_of p))
+  told_is = rw same
 
-module _ (hs ks : List Held) (es : List Entry) (r : Change) where
-  -- it is the one from hs to ks
-  abbrev pub Tells : Type 0
-  Tells =
-      (changes 0 (values_of hs es) (values_of ks es)
-      ≡ pick (eqb r.before r.later) [] (one_event r.element (unshifted r.later) ∷ []))
-      × (unshifted r.before ≡ pick (ltb (place_of r.element) element_count) (value_of hs es r.element) (pos 0))
-      × (r.before < 65536)
-      × (r.later < 65536)
+  value_q : (el : AxisOrBtn) → place_of el < 27 → value_of (held_of q) (entries_of p) el ≡ pad_value q el
+  value_q el l = rw (sym same) (value_there q el l)
 
-  pub still : changes 0 (values_of hs es) (values_of ks es) ≡ [] → place_of r.element ≡ element_count → r.before ≡ 32768
-      → r.later ≡ 32768 → Tells
-  still e at b l = (
-    unchanged (changes 0 (values_of hs es) (values_of ks es)) _ r.before r.later e (b ∙ sym l),
-    ap (λ (k : ℕ). unshifted k) b
-        ∙ sym
-        (ap (λ (t : Bool). pick t (value_of hs es r.element) (pos 0))
-        (le-ltb (place_of r.element) 27 (omega (arith, at)))),
-    omega (arith, b),
-    omega (arith, l),
-  )
+  pub none_told : None ≡ entry_at (entries_of p) c → told ≡ []
+  none_told w =
+      told_is
+      ∙ no_change (held_of p) (held_of q) (entries_of p)
+      (λ other. only_of (held_of p) (held_of q) (entries_of p) c t None w other refl)
 
-  pub moved : OnlyOf hs ks es r.element → place_of r.element < 27
-      → unshifted r.before ≡ value_of hs es r.element → unshifted r.later ≡ value_of ks es r.element
-      → r.before < 65536 → r.later < 65536 → Tells
-  moved only at b l hb hl = (
-    at_place hs ks es r.element only at
-        ∙ told_numbers r.element (value_of hs es r.element) (value_of ks es r.element) r.before r.later
-        b l hb hl,
-    b
-        ∙ sym
-        (ap (λ (t : Bool). pick t (value_of hs es r.element) (pos 0)) (lt-ltb (place_of r.element) 27 at)),
-    hb,
-    hl,
-  )
+  pub some_told : (e : Entry) → Some e ≡ entry_at (entries_of p) c → (b l : ℤ) → b ≡ pad_value p e.element
+      → l ≡ pad_value q e.element
+      → told ≡ caught (event_by (Some (record { element = e.element; before = b; later = l }))) []
+  some_told e w b l eb el =
+      let el' = e.element in
+      let only : OnlyOf (held_of p) (held_of q) (entries_of p) el' =
+      λ other r. only_of (held_of p) (held_of q) (entries_of p) c t (Some e) w other r in
+      ⊎_elim
+      (λ h.
+      told_is ∙ at_place (held_of p) (held_of q) (entries_of p) el' only h
+      ∙ rw (value_there p el' h ∙ sym eb, value_q el' h ∙ sym el)
+      (caught-pick (sameℤ b l) (one_event el' l)))
+      (λ h.
+      let at : place_of el' ≡ 27 = omega (arith, place_most el') in
+      let z : sameℤ b l ≡ true = rw (eb, el, value_away p el' at, value_away q el' at) in
+      told_is ∙ left_out (held_of p) (held_of q) (entries_of p) el' only at ∙ rw z)
+      (lt_or_le (place_of el') 27)

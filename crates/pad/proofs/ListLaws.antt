@@ -1,14 +1,14 @@
 -- Lists that the program writes one place after the other: the values, the events, the numbers of entries. Assumes
 -- nothing.
 use Prim.Native.Nat.{ℕ, zero, suc, ◌+◌, ◌-◌, ◌<◌, ◌≤◌}
-use mathlib.Core.Path.{◌≡◌, refl, sym, ap, subst, ◌∙◌}
+use mathlib.Core.Path.{◌≡◌, refl, sym, ap, ◌∙◌}
 use mathlib.Core.Bool.{Bool, true, false}
-use mathlib.Core.List.{List, [], ◌∷◌, ◌++◌, map, append_assoc}
+use mathlib.Core.List.{List, [], ◌∷◌, ◌++◌, map, append_assoc, append-nil}
 use native.Mathlib.Omega.{arith}
 use native.Mathlib.Numerals.{add-one}
 use lib.ListN.{length, take, drop, get_or, set, replicate, length-map, length-set, take-append-drop, get_or-map}
 use lib.ListN.{drop_of_length-le, length-replicate}
-use lib.Seq.{drop-cons, length-take-le, take-suc-set}
+use lib.Seq.{drop-cons, length-take-le, take-suc-set, take_all}
 use lib.IntN.{ℤ}
 use Rattle.line.specs.declared.mapping.Entry.{Entry}
 use Rattle.line.specs.Numbers.{entry_number}
@@ -16,8 +16,7 @@ use Rattle.line.proofs.PlaceLaws.{copied_more}
 use Rattle.pad.specs.declared.events.Event.{Event}
 use Rattle.pad.specs.Pads.{element_at, sameℤ, changes, tabulate}
 use Rattle.pad.specs.States.{unused_event, events_in, entry_numbers}
-use Rattle.pad.specs.Inner.{shifted, unshifted, Small, one_event, Filled, Filling, Listed}
-use Rattle.pad.proofs.EventLaws.{back}
+use Rattle.pad.specs.Inner.{one_event, Filled, Filling, Listed}
 use Rattle.pad.proofs.ReaderLaws.{same_value}
 use Rattle.pad.proofs.TouchLaws.{same_refl}
 
@@ -45,50 +44,18 @@ tabulate_snoc f (suc n) k =
     let e : suc k + n ≡ k + suc n = omega arith in
     ap (λ (l : List ℤ). f k ∷ l) (tabulate_snoc f n (suc k) ∙ ap (λ (j : ℕ). tabulate f n (suc k) ++ f j ∷ []) e)
 
-small_snoc : (xs : List ℕ) (x : ℕ) → Small xs → x < 65536 → Small (xs ++ x ∷ [])
-unfolding Small
-small_snoc [] x s h = (h, tt)
-small_snoc (y ∷ xs) x s h = (s.0, small_snoc xs x s.1 h)
-
-pub none_filled : (f : ℕ → ℤ) (out : List ℕ) → Filled f 0 out
-unfolding tabulate Small
-none_filled f out = record { values = refl; small = tt }
-
-pub filled_more : (f : ℕ → ℤ) (k x : ℕ) (out : List ℕ) → Filled f k out → k < length out → unshifted x ≡ f k → x < 65536
+pub filled_more : (f : ℕ → ℤ) (k : ℕ) (x : ℤ) (out : List ℤ) → Filled f k out → k < length out → x ≡ f k
     → Filled f (k + 1) (set out k x)
-filled_more f k x out h l e s =
-    let t : take (k + 1) (set out k x) ≡ take k out ++ x ∷ [] = rw (add-one k) (take-suc-set out k x l) in
+filled_more f k x out h l e =
     let z : tabulate f (k + 1) 0 ≡ tabulate f k 0 ++ f (0 + k) ∷ [] = rw (add-one k) (tabulate_snoc f k 0) in
     let q : 0 + k ≡ k = omega arith in
-    record {
-      values =
-          ap (λ (l : List ℕ). map unshifted l) t ∙ map_snoc unshifted (take k out) x
-          ∙ ap (λ (vs : List ℤ). vs ++ unshifted x ∷ []) h.values
-          ∙ ap (λ (v : ℤ). tabulate f k 0 ++ v ∷ []) (e ∙ ap f (sym q)) ∙ sym z;
-      small = subst Small (sym t) (small_snoc (take k out) x h.small s);
-    }
+    rw (add-one k) (take-suc-set out k x l)
+    ∙ ap (λ (vs : List ℤ). vs ++ x ∷ []) h
+    ∙ ap (λ (v : ℤ). tabulate f k 0 ++ v ∷ []) (e ∙ ap f (sym q)) ∙ sym z
 
-take_whole : (n : ℕ) (xs : List ℕ) → length xs ≡ n → take n xs ≡ xs
-take_whole zero [] h = refl
-take_whole zero (x ∷ xs) h = absurd (omega arith)
-take_whole (suc n) [] h = refl
-take_whole (suc n) (x ∷ xs) h = ap (λ (l : List ℕ). x ∷ l) (take_whole n xs (omega arith))
-
-pub all_filled : (f : ℕ → ℤ) (out : List ℕ) → length out ≡ 27 → Filled f 27 out
-    → (map unshifted out ≡ tabulate f 27 0) × Small out
-all_filled f out l h =
-    let t = take_whole 27 out l in
-    (ap (λ (l : List ℕ). map unshifted l) (sym t) ∙ h.values, subst Small t h.small)
-
--- ---- the events
-small_at : (xs : List ℕ) (k : ℕ) → Small xs → k < length xs → get_or xs k 0 < 65536
-unfolding Small
-small_at [] k s h = absurd (omega arith)
-small_at (x ∷ xs) zero s h = s.0
-small_at (x ∷ xs) (suc k) s h = small_at xs k s.1 (omega arith)
-
-pub small_nth : (xs : List ℕ) (k : ℕ) → Small xs → k < length xs → get_or xs k 0 < 65536
-small_nth = small_at
+pub all_filled : (f : ℕ → ℤ) (k : ℕ) (out : List ℤ) → length out ≡ 27 → k ≡ 27 → Filled f k out → out ≡ tabulate f 27 0
+all_filled f k out l e h =
+    sym (take_all 27 out (omega arith)) ∙ ap (λ (j : ℕ). take j out) (sym e) ∙ h ∙ ap (λ (j : ℕ). tabulate f j 0) e
 
 -- ---- a list of events that is filled
 pub filling_none : Filling (replicate 27 unused_event) 0
@@ -120,50 +87,37 @@ filling_shape list count h few =
     ∙ ap (λ (j : ℕ). record { count = j; list = take count list ++ replicate (27 - j) unused_event }) (sym n)
 
 -- ---- the events between values
-module _ (bs cs : List ℕ) (k : ℕ) (lb : length bs ≡ 27) (la : length cs ≡ 27) (lt : k < 27) where
-  next_of : (xs : List ℕ) → length xs ≡ 27
-      → drop k (map unshifted xs) ≡ unshifted (get_or xs k 0) ∷ drop (k + 1) (map unshifted xs)
-  next_of xs l =
-      let h : k < length (map unshifted xs) = omega (arith, length-map xs unshifted) in
-      rw (drop-cons (map unshifted xs) k (unshifted 0) h, ← add-one k)
-      (ap (λ (v : ℤ). v ∷ drop (k + 1) (map unshifted xs)) (get_or-map unshifted xs k 0))
-
-  both-next : changes k (drop k (map unshifted bs)) (drop k (map unshifted cs))
-      ≡ changes k (unshifted (get_or bs k 0) ∷ drop (k + 1) (map unshifted bs))
-      (unshifted (get_or cs k 0) ∷ drop (k + 1) (map unshifted cs))
+module _ (bs cs : List ℤ) (k : ℕ) (lb : length bs ≡ 27) (la : length cs ≡ 27) (lt : k < 27) (d : ℤ) where
+  both-next : changes k (drop k bs) (drop k cs)
+      ≡ changes k (get_or bs k d ∷ drop (k + 1) bs) (get_or cs k d ∷ drop (k + 1) cs)
   both-next =
-      ap (λ (l : List ℤ). changes k l (drop k (map unshifted cs))) (next_of bs lb)
-      ∙ ap (λ (l : List ℤ). changes k (unshifted (get_or bs k 0) ∷ drop (k + 1) (map unshifted bs)) l) (next_of cs la)
+      let hb : k < length bs = omega arith in
+      let hc : k < length cs = omega arith in
+      rw (drop-cons bs k d hb, drop-cons cs k d hc, add-one)
 
   -- the same value
-  changes-same : get_or bs k 0 ≡ get_or cs k 0
-      → changes k (drop k (map unshifted bs)) (drop k (map unshifted cs))
-      ≡ changes (k + 1) (drop (k + 1) (map unshifted bs)) (drop (k + 1) (map unshifted cs))
+  changes-same : get_or bs k d ≡ get_or cs k d
+      → changes k (drop k bs) (drop k cs) ≡ changes (k + 1) (drop (k + 1) bs) (drop (k + 1) cs)
   unfolding changes
   changes-same e =
-      let s : sameℤ (unshifted (get_or bs k 0)) (unshifted (get_or cs k 0)) ≡ true =
-      ap (λ (x : ℕ). sameℤ (unshifted x) (unshifted (get_or cs k 0))) e ∙ same_refl (unshifted (get_or cs k 0)) in
-      both-next ∙ rw (s, add-one k)
+      let s : sameℤ (get_or bs k d) (get_or cs k d) ≡ true =
+      ap (λ (x : ℤ). sameℤ x (get_or cs k d)) e ∙ same_refl (get_or cs k d) in
+      both-next ∙ rw (s, add-one)
 
   -- another value
-  changes_other : get_or bs k 0 < 65536 → get_or cs k 0 < 65536 → (get_or bs k 0 ≡ get_or cs k 0 → ⊥)
-      → changes k (drop k (map unshifted bs)) (drop k (map unshifted cs))
-      ≡ one_event (element_at k) (unshifted (get_or cs k 0))
-      ∷ changes (k + 1) (drop (k + 1) (map unshifted bs)) (drop (k + 1) (map unshifted cs))
+  changes_other : (get_or bs k d ≡ get_or cs k d → ⊥)
+      → changes k (drop k bs) (drop k cs)
+      ≡ one_event (element_at k) (get_or cs k d) ∷ changes (k + 1) (drop (k + 1) bs) (drop (k + 1) cs)
   unfolding changes
-  changes_other hb ha d = both-next ∙ by (sameℤ (unshifted (get_or bs k 0)) (unshifted (get_or cs k 0))) refl
+  changes_other d' = both-next ∙ by (sameℤ (get_or bs k d) (get_or cs k d)) refl
     where
-      by : (t : Bool) → sameℤ (unshifted (get_or bs k 0)) (unshifted (get_or cs k 0)) ≡ t
-          → changes k (unshifted (get_or bs k 0) ∷ drop (k + 1) (map unshifted bs))
-          (unshifted (get_or cs k 0) ∷ drop (k + 1) (map unshifted cs))
-          ≡ one_event (element_at k) (unshifted (get_or cs k 0))
-          ∷ changes (k + 1) (drop (k + 1) (map unshifted bs)) (drop (k + 1) (map unshifted cs))
-      by true e =
-          let q = same_value (unshifted (get_or bs k 0)) (unshifted (get_or cs k 0)) e in
-          absurd (d (sym (back (get_or bs k 0) hb) ∙ ap (λ (z : ℤ). shifted z) q ∙ back (get_or cs k 0) ha))
-      by false e = rw (e, add-one k)
+      by : (t : Bool) → sameℤ (get_or bs k d) (get_or cs k d) ≡ t
+          → changes k (get_or bs k d ∷ drop (k + 1) bs) (get_or cs k d ∷ drop (k + 1) cs)
+          ≡ one_event (element_at k) (get_or cs k d) ∷ changes (k + 1) (drop (k + 1) bs) (drop (k + 1) cs)
+      by true e = absurd (d' (same_value (get_or bs k d) (get_or cs k d) e))
+      by false e = rw (e, add-one)
 
-  pub listed_same : (list : List Event) (count : ℕ) → Listed bs cs list count k → get_or bs k 0 ≡ get_or cs k 0
+  pub listed_same : (list : List Event) (count : ℕ) → Listed bs cs list count k → get_or bs k d ≡ get_or cs k d
       → Listed bs cs list count (k + 1)
   listed_same list count h e =
       record {
@@ -173,12 +127,12 @@ module _ (bs cs : List ℕ) (k : ℕ) (lb : length bs ≡ 27) (la : length cs �
         told = ap (λ (l : List Event). take count list ++ l) (sym (changes-same e)) ∙ h.told;
       }
 
-  pub listed_other : (list : List Event) (count : ℕ) (v : Event) → Listed bs cs list count k → get_or bs k 0 < 65536
-      → get_or cs k 0 < 65536 → (get_or bs k 0 ≡ get_or cs k 0 → ⊥) → v ≡ one_event (element_at k) (unshifted (get_or cs k 0))
+  pub listed_other : (list : List Event) (count : ℕ) (v : Event) → Listed bs cs list count k
+      → (get_or bs k d ≡ get_or cs k d → ⊥) → v ≡ one_event (element_at k) (get_or cs k d)
       → Listed bs cs (set list count v) (count + 1) (k + 1)
-  listed_other list count v h hb ha d ev =
+  listed_other list count v h n ev =
       let few : count < 27 = omega (arith, h.few) in
-      let more : List Event = changes (k + 1) (drop (k + 1) (map unshifted bs)) (drop (k + 1) (map unshifted cs)) in
+      let more : List Event = changes (k + 1) (drop (k + 1) bs) (drop (k + 1) cs) in
       record {
         within = omega arith;
         few = omega (arith, h.few);
@@ -187,10 +141,10 @@ module _ (bs cs : List ℕ) (k : ℕ) (lb : length bs ≡ 27) (la : length cs �
             ap (λ (l : List Event). l ++ more) (filling_taken list count v h.fill few)
             ∙ append_assoc (take count list) (v ∷ []) more
             ∙ ap (λ (w : Event). take count list ++ w ∷ more) ev
-            ∙ ap (λ (l : List Event). take count list ++ l) (sym (changes_other hb ha d)) ∙ h.told;
+            ∙ ap (λ (l : List Event). take count list ++ l) (sym (changes_other n)) ∙ h.told;
       }
 
-pub none-listed : (bs cs : List ℕ) → Listed bs cs (replicate 27 unused_event) 0 0
+pub none-listed : (bs cs : List ℤ) → Listed bs cs (replicate 27 unused_event) 0 0
 none-listed bs cs = record { within = omega arith; few = omega arith; fill = filling_none; told = refl }
 
 nothing_left : (xs ys : List ℤ) → length xs ≡ 27 → changes 27 (drop 27 xs) ys ≡ []
@@ -200,20 +154,14 @@ nothing_left xs ys l = ap (λ (z : List ℤ). changes 27 z ys) (none_after xs l)
     none_after : (xs : List ℤ) → length xs ≡ 27 → drop 27 xs ≡ []
     none_after xs l = let h : length xs ≤ 27 = omega arith in drop_of_length-le xs h
 
-pub all_listed : (bs cs : List ℕ) (list : List Event) (count k : ℕ) → length bs ≡ 27 → k ≡ 27
-    → Listed bs cs list count k
-    → record { count = count; list = list } ≡ events_in (changes 0 (map unshifted bs) (map unshifted cs))
+pub all_listed : (bs cs : List ℤ) (list : List Event) (count k : ℕ) → length bs ≡ 27 → k ≡ 27
+    → Listed bs cs list count k → record { count = count; list = list } ≡ events_in (changes 0 bs cs)
 all_listed bs cs list count k lb e h =
-    let none : changes k (drop k (map unshifted bs)) (drop k (map unshifted cs)) ≡ [] =
-    ap (λ (j : ℕ). changes j (drop j (map unshifted bs)) (drop j (map unshifted cs))) e
-    ∙ nothing_left (map unshifted bs) (drop 27 (map unshifted cs)) (length-map bs unshifted ∙ lb) in
-    let all : take count list ≡ changes 0 (map unshifted bs) (map unshifted cs) =
+    let none : changes k (drop k bs) (drop k cs) ≡ [] =
+    ap (λ (j : ℕ). changes j (drop j bs) (drop j cs)) e ∙ nothing_left bs (drop 27 cs) lb in
+    let all : take count list ≡ changes 0 bs cs =
     sym (append-nil (take count list)) ∙ ap (λ (l : List Event). take count list ++ l) (sym none) ∙ h.told in
     filling_shape list count h.fill (omega (arith, h.few, h.within)) ∙ ap (λ (l : List Event). events_in l) all
-  where
-    append-nil : (l : List Event) → l ++ [] ≡ l
-    append-nil [] = refl
-    append-nil (x ∷ l) = ap (λ (r : List Event). x ∷ r) (append-nil l)
 
 -- ---- the numbers of entries
 abbrev zeros : ℕ → List ℕ

@@ -1,198 +1,103 @@
--- Held codes and entries as numbers, one after the other. Assumes nothing.
-use Prim.Native.Nat.{ℕ, suc, ◌+◌, ◌-◌, ◌/◌, ◌%◌, ◌<◌, ◌≤◌}
-use mathlib.Core.Path.{◌≡◌, refl, sym, ap, subst, ◌∙◌}
-use mathlib.Core.Bool.{Bool, true, false}
-use mathlib.Core.List.{List, ◌∷◌, map}
-use native.Mathlib.Omega.{arith}
-use native.Mathlib.Numerals.{add-one}
-use borrow.Author.Tests.{eq-eqb, ne_eqb, lt-ltb, le-ltb}
-use lib.Dec.{eqb, ltb}
-use lib.ListN.{length, take, drop, get_or, length-map, get_or-map, drop_of_length-le}
-use lib.Seq.{drop-cons, get_or-take, length-take-le}
-use lib.IntN.{ℤ, pos, negsuc, nat_abs}
-use mir.Syntax.{w16}
-use mir.Val.{SFits}
+-- Laws of held codes and entries as numbers, one after the other. Assumes nothing.
+use Rattle.std.proofs.Common.{ℕ, suc, ◌+◌, ◌/◌, ◌<◌, ◌≤◌, ◌≡◌, Bool, true, false, cond, Option, Some, None, List, [], ◌∷◌, map, length, drop, get_or, eqb, ltb, refl, sym, ◌∙◌, add-one, arith, position}
+use borrow.Author.Tests.{ltb-true, ltb-false}
+use lib.ListN.{drop_of_length-le}
+use lib.Seq.{drop-cons}
+use lib.IntN.{ℤ}
+use Rattle.std.specs.List.{position_or_len}
+use Rattle.std.proofs.lemmas.List.Recursion.{is_position_or_len}
 use Rattle.text.specs.Bytes.{pick}
 use Rattle.line.specs.declared.ev.Code.{Code}
 use Rattle.line.specs.declared.ev.AxisOrBtn.{AxisOrBtn}
 use Rattle.line.specs.declared.mapping.Entry.{Entry}
-use Rattle.line.specs.declared.mapping.Entered.{Entered}
-use Rattle.line.specs.declared.mapping.Entered.TheVariants as En
-use Rattle.line.specs.Elements.{same_element}
 use Rattle.line.specs.Maps.{entry_at}
 use Rattle.line.specs.Numbers.{code_unit, entry_in, shaped_entry}
-use Rattle.pad.specs.declared.value.ElementValue.{ElementValue}
-use Rattle.pad.specs.declared.value.ElementValue.TheVariants as Ev
-use Rattle.pad.specs.declared.events.Raw.{Raw}
-use Rattle.pad.specs.declared.events.Raw.TheVariants as Rw
 use Rattle.pad.specs.declared.events.Held.{Held}
-use Rattle.pad.specs.declared.choice.Best.{Best}
-use Rattle.pad.specs.Values.{entry_value}
-use Rattle.pad.specs.Pads.{given_by, gives, Chosen, none, chosen, prefer, choose, value_in}
-use Rattle.pad.specs.States.{raw_in, held_in}
-use Rattle.pad.specs.Inner.{shifted, unshifted, value_number, helds_in, entries_in, distance_of, prefer_number}
-use Rattle.pad.specs.Inner.{Holds}
-use Rattle.pad.proofs.BiasLaws.{shifted_small, unshifted_fits, unshifted-shifted}
-use Rattle.pad.proofs.ValueLaws.{ValueFits, RawFits, value_fits}
+use Rattle.pad.specs.Pads.{gives, Chosen, none, preferred, prefer, choose}
+use Rattle.pad.specs.States.{held_in}
+use Rattle.pad.specs.Inner.{place_in}
+use Rattle.pad.proofs.PlaceLaws.{place_within}
 
--- ---- the next of the first n
-module _ {A : Type 0} (f : ℕ → A) (xs : List ℕ) (n i : ℕ) (h : i < n) (l : n ≤ length xs) where
-  within : i < length (take n (map f xs))
-  within =
-      let k : n ≤ length (map f xs) = omega (arith, length-map xs f) in
-      omega (arith, length-take-le n (map f xs) k)
+-- ---- the first place of a code
+place_turn : (t : Bool) (n : ℕ) → pick t 0 (suc n) ≡ cond t 0 (1 + n)
+place_turn true n = refl
+place_turn false n = omega arith
 
-  pub next : drop i (take n (map f xs)) ≡ f (get_or xs i 0) ∷ drop (i + 1) (take n (map f xs))
-  next =
-      rw (drop-cons (take n (map f xs)) i (f 0) within, ← add-one i)
-      (ap (λ (x : A). x ∷ drop (i + 1) (take n (map f xs)))
-      (get_or-take n (map f xs) i (f 0) h ∙ get_or-map f xs i 0))
+place_is : (c : ℕ) (ys : List ℕ) → place_in c ys ≡ position_or_len (λ y. eqb (y / code_unit) c) ys
+unfolding place_in
+place_is c ys =
+    is_position_or_len (place_in c) (λ y. eqb (y / code_unit) c) refl
+    (λ y xs. place_turn (eqb (y / code_unit) c) (place_in c xs)) ys
 
-pub many : {A : Type 0} (f : ℕ → A) (xs : List ℕ) (n : ℕ) → n ≤ length xs → length (take n (map f xs)) ≡ n
-many f xs n l =
-    let k : n ≤ length (map f xs) = omega (arith, length-map xs f) in
-    length-take-le n (map f xs) k
+module _ (c : ℕ) (ys : List ℕ) where
+  abbrev pub found_at : Option ℕ
+  found_at = position (λ y. eqb (y / code_unit) c) ys
+
+  told : found_at ≡ cond (ltb (place_in c ys) (length ys)) (Some (place_in c ys)) None
+  told = rw (place_is c ys)
+
+  pub place_some : (i : ℕ) → found_at ≡ Some i → (place_in c ys ≡ i) × (i < length ys)
+  place_some i h = by (ltb (place_in c ys) (length ys)) refl (sym told ∙ h)
+    where
+      by : (t : Bool) → ltb (place_in c ys) (length ys) ≡ t
+          → ◌≡◌ {A = Option ℕ} (cond t (Some (place_in c ys)) None) (Some i) → (place_in c ys ≡ i) × (i < length ys)
+      by true p q =
+          let e : place_in c ys ≡ i = cc in
+          let l = ltb-true (place_in c ys) (length ys) p in
+          (e, omega arith)
+      by false p q = absurd cc
+
+  pub place_none : found_at ≡ None → place_in c ys ≡ length ys
+  place_none h = by (ltb (place_in c ys) (length ys)) refl (sym told ∙ h)
+    where
+      by : (t : Bool) → ltb (place_in c ys) (length ys) ≡ t
+          → ◌≡◌ {A = Option ℕ} (cond t (Some (place_in c ys)) None) None → place_in c ys ≡ length ys
+      by true p q = absurd cc
+      by false p q = omega (arith, ltb-false (place_in c ys) (length ys) p, place_within c ys)
 
 -- ---- the first entry of a code
 code_in : (x : ℕ) → (entry_in x).code.0 ≡ x / code_unit
 unfolding entry_in shaped_entry
 code_in x = refl
 
-at_here : (e : Entry) (es : List Entry) (c : Code) → e.code.0 ≡ c.0 → entry_at (e ∷ es) c ≡ En.Is e
-unfolding entry_at
-at_here e es c q = rw (eq-eqb e.code.0 c.0 q)
-
-at_later : (e : Entry) (es : List Entry) (c : Code) → (e.code.0 ≡ c.0 → ⊥) → entry_at (e ∷ es) c ≡ entry_at es c
-unfolding entry_at
-at_later e es c q = rw (ne_eqb e.code.0 c.0 q)
-
-module _ (ys : List ℕ) (m k : ℕ) (c : Code) (l : m ≤ length ys) where
-  module _ (lt : k < m) (inv : entry_at (drop k (entries_in m ys)) c ≡ entry_at (entries_in m ys) c) where
-    front : entry_at (entry_in (get_or ys k 0) ∷ drop (k + 1) (entries_in m ys)) c ≡ entry_at (entries_in m ys) c
-    front = ap (λ (es : List Entry). entry_at es c) (sym (next entry_in ys m k lt l)) ∙ inv
-
-    pub found : get_or ys k 0 / code_unit ≡ c.0 → entry_at (entries_in m ys) c ≡ En.Is (entry_in (get_or ys k 0))
-    found q =
-        sym front
-        ∙ at_here (entry_in (get_or ys k 0)) (drop (k + 1) (entries_in m ys)) c (code_in (get_or ys k 0) ∙ q)
-
-    pub passed : (get_or ys k 0 / code_unit ≡ c.0 → ⊥) → entry_at (drop (k + 1) (entries_in m ys)) c
-        ≡ entry_at (entries_in m ys) c
-    passed q =
-        sym (at_later (entry_in (get_or ys k 0)) (drop (k + 1) (entries_in m ys)) c
-        (λ e. q (sym (code_in (get_or ys k 0)) ∙ e))) ∙ front
-
-  pub none_left : m ≤ k → entry_at (drop k (entries_in m ys)) c ≡ En.Absent
-  unfolding entry_at
-  none_left h' =
-      let n : length (entries_in m ys) ≤ k = omega (arith, many entry_in ys m l) in
-      rw (drop_of_length-le (entries_in m ys) n)
-
--- ---- what an entry gives
-pub given_here : (w : Entered) (e : Entry) (raw : Raw) (el : AxisOrBtn) → w ≡ En.Is e
-    → same_element e.element el ≡ true → given_by w raw el ≡ entry_value e raw
-given_here w e raw el p q = ap (λ (x : Entered). given_by x raw el) p ∙ rw q
-
-pub given_other : (w : Entered) (e : Entry) (raw : Raw) (el : AxisOrBtn) → w ≡ En.Is e
-    → same_element e.element el ≡ false → given_by w raw el ≡ Ev.Nothing
-given_other w e raw el p q = ap (λ (x : Entered). given_by x raw el) p ∙ rw q
-
--- ---- every value fits
-raw_in_fits : (y : ℕ) → RawFits (raw_in y)
-raw_in_fits y = by (eqb y 0) (eqb y 1)
+pub entry_of_place : (c : Code) (ys : List ℕ) (d : ℕ) → place_in c.0 ys < length ys
+    → entry_at (map entry_in ys) c ≡ Some (entry_in (get_or ys (place_in c.0 ys) d))
+unfolding entry_at place_in
+entry_of_place c [] d h = absurd (omega arith)
+entry_of_place c (y ∷ ys) d h = by (eqb (y / code_unit) c.0) refl h (λ l. entry_of_place c ys d l)
   where
-    by : (a b : Bool) → RawFits
-        (pick a Rw.ButtonReleased (pick b Rw.ButtonPressed (Rw.AxisValueChanged (unshifted ((y - 2) % 65536)))))
-    by true b = tt
-    by false true = tt
-    by false false = unshifted_fits ((y - 2) % 65536) (omega arith)
+    by : (t : Bool) → eqb (y / code_unit) c.0 ≡ t → pick t 0 (suc (place_in c.0 ys)) < suc (length ys)
+        → (place_in c.0 ys < length ys
+        → entry_at (map entry_in ys) c ≡ Some (entry_in (get_or ys (place_in c.0 ys) d)))
+        → pick (eqb (entry_in y).code.0 c.0) (Some (entry_in y)) (entry_at (map entry_in ys) c)
+        ≡ Some (entry_in (get_or (y ∷ ys) (pick t 0 (suc (place_in c.0 ys))) d))
+    by true e l ih = rw (code_in y, e)
+    by false e l ih = rw (code_in y, e) (ih (omega arith))
 
-given_fit : (w : Entered) (raw : Raw) (el : AxisOrBtn) → RawFits raw → ValueFits (given_by w raw el)
-given_fit (En.Is e) raw el f = by (same_element e.element el)
+pub entry_none : (c : Code) (ys : List ℕ) → place_in c.0 ys ≡ length ys → entry_at (map entry_in ys) c ≡ None
+unfolding entry_at place_in
+entry_none c [] h = refl
+entry_none c (y ∷ ys) h = by (eqb (y / code_unit) c.0) refl h (λ l. entry_none c ys l)
   where
-    by : (t : Bool) → ValueFits (pick t (entry_value e raw) Ev.Nothing)
-    by true = value_fits e.element e.ranges raw f
-    by false = tt
-given_fit En.Absent raw el f = tt
+    by : (t : Bool) → eqb (y / code_unit) c.0 ≡ t → pick t 0 (suc (place_in c.0 ys)) ≡ suc (length ys)
+        → (place_in c.0 ys ≡ length ys → entry_at (map entry_in ys) c ≡ None)
+        → pick (eqb (entry_in y).code.0 c.0) (Some (entry_in y)) (entry_at (map entry_in ys) c) ≡ None
+    by true e l ih = absurd (omega arith)
+    by false e l ih = rw (code_in y, e) (ih (omega arith))
 
-gives_fit : (es : List Entry) (x : ℕ) (el : AxisOrBtn) → ValueFits (gives es (held_in x) el)
-unfolding held_in
-gives_fit es x el =
-    given_fit (entry_at es (held_in x).code) (raw_in (x % code_unit)) el (raw_in_fits (x % code_unit))
+-- ---- one held code more, from the last one on
+module _ (xs : List ℕ) (i k : ℕ) (es : List Entry) (el : AxisOrBtn) (h : Held) (l : k < length xs) (one : i ≡ k + 1)
+    (is : h ≡ held_in (get_or xs k 0)) (r : Chosen) (rest : r ≡ choose (map held_in (drop i xs)) es el) where
+  step : choose (map held_in (drop k xs)) es el ≡ prefer h.code.0 (gives es h el) r
+  unfolding choose
+  step = rw (drop-cons xs k 0 l, is, rest, one, add-one)
 
--- ---- the preferred of two
-pub far : (v : ℤ) → SFits w16 v → distance_of (shifted v) ≡ nat_abs v
-far (pos k) f =
-    let l : 32768 ≤ 32768 + k = omega arith in
-    let e : 32768 + k - 32768 ≡ k = omega arith in
-    rw (le-ltb (32768 + k) 32768 l) e
-far (negsuc k) f =
-    let h : k < 32768 = f.sfits in
-    let l : 32767 - k < 32768 = omega arith in
-    let e : 32768 - (32767 - k) ≡ suc k = omega arith in
-    rw (lt-ltb (32767 - k) 32768 l) e
+  pub one_more : (v : ℤ) → gives es h el ≡ Some v → preferred h.code.0 v r ≡ choose (map held_in (drop k xs)) es el
+  one_more v e = sym (step ∙ rw e)
 
-not_none : (v : ℤ) → SFits w16 v → eqb (shifted v) 65536 ≡ false
-not_none v f = ne_eqb (shifted v) 65536 (λ e. omega (arith, shifted_small v f))
+  pub none_more : gives es h el ≡ None → r ≡ choose (map held_in (drop k xs)) es el
+  none_more e = sym (step ∙ rw e)
 
-pub prefers : (c : ℕ) (w : ElementValue) (b : Best) (r : Chosen) → ValueFits w → Holds b r
-    → Holds (prefer_number c (value_number w) b) (prefer c w r)
-prefers c Ev.Nothing b r f h = h
-prefers c (Ev.Is v) b none f h =
-    let n = not_none v f in
-    let z = eq-eqb b.number 65536 h in
-    rw (n, z) (record { code = refl; number = refl; fits = f })
-prefers c (Ev.Is v) b (chosen d w) f h =
-    let n = not_none v f in
-    let z : eqb b.number 65536 ≡ false = ap (λ (x : ℕ). eqb x 65536) h.number ∙ not_none w h.fits in
-    let p : distance_of b.number ≡ nat_abs w = ap (λ (x : ℕ). distance_of x) h.number ∙ far w h.fits in
-    let q : ltb c d ≡ ltb c b.code = ap (λ (x : ℕ). ltb c x) (sym h.code) in
-    rw (n, z, p, far v f, q)
-    (by (ltb (nat_abs w) (nat_abs v)) (ltb (nat_abs v) (nat_abs w)) (ltb c b.code))
-  where
-    by : (x y z : Bool)
-        → Holds
-        (pick x (record { code = c; number = shifted v })
-        (pick y b (pick z (record { code = c; number = shifted v }) b)))
-        (pick x (chosen c v) (pick y (chosen d w) (pick z (chosen c v) (chosen d w))))
-    by true y z = record { code = refl; number = refl; fits = f }
-    by false true z = h
-    by false false true = record { code = refl; number = refl; fits = f }
-    by false false false = h
-
--- ---- one held code more
-module _ (xs : List ℕ) (n k : ℕ) (es : List Entry) (el : AxisOrBtn) (h : Held) (b : Best) (lt : k < n)
-    (l : n ≤ length xs) (is : h ≡ held_in (get_or xs k 0)) (inv : Holds b (choose (drop (k + 1) (helds_in n xs)) es el))
-  where
-    whole : prefer h.code.0 (gives es h el) (choose (drop (k + 1) (helds_in n xs)) es el)
-        ≡ choose (drop k (helds_in n xs)) es el
-    unfolding choose
-    whole = rw (next held_in xs n k lt l, is)
-
-    pub one_more : (w : ℕ) → w ≡ value_number (gives es h el)
-        → Holds (prefer_number h.code.0 w b) (choose (drop k (helds_in n xs)) es el)
-    one_more w q =
-        let f : ValueFits (gives es h el) =
-        subst (λ (x : Held). ValueFits (gives es x el)) (sym is) (gives_fit es (get_or xs k 0) el) in
-        subst (λ (r : Chosen). Holds (prefer_number h.code.0 w b) r) whole
-        (rw q (prefers h.code.0 (gives es h el) b (choose (drop (k + 1) (helds_in n xs)) es el) f inv))
-
-pub none_yet : (xs : List ℕ) (n : ℕ) (es : List Entry) (el : AxisOrBtn) → n ≤ length xs
-    → Holds (record { code = 0; number = 65536 }) (choose (drop n (helds_in n xs)) es el)
+pub none_yet : (xs : List ℕ) (es : List Entry) (el : AxisOrBtn) → none ≡ choose (map held_in (drop (length xs) xs)) es el
 unfolding choose
-none_yet xs n es el l =
-    let k : length (helds_in n xs) ≤ n = omega (arith, many held_in xs n l) in
-    rw (drop_of_length-le (helds_in n xs) k) refl
-
--- ---- what was chosen, as a number
-pub none_value : (b : Best) (r : Chosen) → Holds b r → b.number ≡ 65536 → unshifted 32768 ≡ value_in r
-none_value b none h e = refl
-none_value b (chosen c v) h e = absurd (omega (arith, h.number, shifted_small v h.fits))
-
-pub some_value : (b : Best) (r : Chosen) → Holds b r → (b.number ≡ 65536 → ⊥)
-    → (unshifted b.number ≡ value_in r) × (b.number < 65536)
-some_value b none h e = absurd (e h)
-some_value b (chosen c v) h e = (
-  ap (λ (x : ℕ). unshifted x) h.number ∙ unshifted-shifted v h.fits,
-  omega (arith, h.number, shifted_small v h.fits),
-)
+none_yet xs es el = let h : length xs ≤ length xs = omega arith in rw (drop_of_length-le xs h)

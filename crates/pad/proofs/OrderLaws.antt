@@ -1,4 +1,5 @@
 -- Two claims of the request: full to full gives v back, and larger values never give smaller results. Assumes nothing.
+use Rattle.std.specs.Prelude.{Some, None}
 use Prim.Native.Nat.{ℕ, suc, ◌+◌, ◌-◌, ◌*◌, ◌/◌, ◌<◌, ◌≤◌}
 use mathlib.Core.Path.{◌≡◌, refl, ap, subst, ◌∙◌}
 use mathlib.Core.Bool.{Bool, true, false}
@@ -20,21 +21,19 @@ use Rattle.line.specs.declared.ev.AxisOrBtn.{AxisOrBtn}
 use Rattle.line.specs.declared.ev.AxisOrBtn.TheVariants as El
 use Rattle.line.specs.declared.parser.AxisRange.{AxisRange}
 use Rattle.line.specs.declared.parser.AxisRange.TheVariants as Ar
-use Rattle.pad.specs.declared.numbers.Part.TheVariants as Pt
-use Rattle.pad.specs.declared.value.ElementValue.TheVariants as Ev
 use Rattle.pad.proofs.BiasLaws.{unshifted-shifted}
 use Rattle.pad.proofs.ShareLaws.{scaled_mono}
 use Rattle.pad.proofs.ValueLaws.{within_fits}
 
 -- "An axis full to full without inversion gives v back."
-back : (a : Axis) (v : ℤ) → SFits w16 v → raw_value (El.Axis a) full_ranges (Rw.AxisValueChanged v) ≡ Ev.Is v
+back : (a : Axis) (v : ℤ) → SFits w16 v → raw_value (El.Axis a) full_ranges (Rw.AxisValueChanged v) ≡ Some v
 unfolding raw_value
 back a (pos k) f =
-    ap (λ (z : ℤ). Ev.Is z)
+    ap (λ (z : ℤ). Some z)
     (ap (λ (x : ℕ). unshifted x) (mul-div_cancel (32768 + k) (omega arith)) ∙ unshifted-shifted (pos k) f)
 back a (negsuc k) f =
     let e : 32768 - suc k ≡ 32767 - k = omega arith in
-    ap (λ (z : ℤ). Ev.Is z)
+    ap (λ (z : ℤ). Some z)
     (ap (λ (x : ℕ). unshifted x) (mul-div_cancel (32768 - suc k) (omega arith) ∙ e) ∙ unshifted-shifted (negsuc k) f)
 
 pub gives_back : GivesBack
@@ -46,7 +45,7 @@ abbrev whole : ℤ → ℕ
 whole (pos k) = 32768 + k
 whole (negsuc k) = 32768 - suc k
 
-whole_is : (v : ℤ) → part_of v Ar.Full ≡ Pt.Of (whole v) 65535
+whole_is : (v : ℤ) → part_of v Ar.Full ≡ Some ((whole v), 65535)
 whole_is (pos k) = refl
 whole_is (negsuc k) = refl
 
@@ -79,10 +78,10 @@ output_mono (El.Axis a) Ar.UpperHalf m n d r p h = record { le = le→leb _ _ (s
 output_mono (El.Axis a) Ar.Full m n d r p h = below_or (m * 65535 / d) (n * 65535 / d) (scaled_mono m n d 65535 p h)
 output_mono (El.Axis a) Ar.LowerHalf m n d r p h = absurd r
 
-same_is : (x y : ℤ) → Ev.Is x ≡ Ev.Is y → x ≡ y
+same_is : (x y : ℤ) → Some x ≡ Some y → x ≡ y
 same_is x y e = cc
 
-not_there : {A : Type 0} (x : ℤ) → Ev.Nothing ≡ Ev.Is x → A
+not_there : {A : Type 0} (x : ℤ) → None ≡ Some x → A
 not_there x e = let z : ◌≡◌ {A = ℕ} 0 1 = cc in absurd (omega arith)
 
 pub never_smaller : NeverSmaller

@@ -1,4 +1,6 @@
 -- The entries that count for an element give what all entries give. Assumes nothing.
+use Rattle.std.specs.Prelude.{ℤ, Some, None}
+use Rattle.std.specs.Prelude.{Option}
 use Prim.Native.Nat.{ℕ, suc, ◌+◌, ◌/◌, ◌<◌, ◌≤◌}
 use mathlib.Core.Path.{◌≡◌, refl, sym, ap, ◌∙◌}
 use mathlib.Core.Bool.{Bool, true, false}
@@ -7,22 +9,21 @@ use native.Mathlib.Omega.{arith}
 use native.Mathlib.Numerals.{add-one}
 use borrow.Author.Tests.{eq-eqb, ne_eqb, eqb-true, eqb-false}
 use lib.Dec.{eqb}
-use lib.ListN.{length, take, drop, get_or, set, replicate, length-set, drop_of_length-le}
-use lib.Seq.{drop-cons, get_or-take, length-take-le, take-suc, take-suc-set}
+use lib.ListN.{length, take, drop, get_or, drop_of_length-le}
+use lib.Seq.{drop-cons, take-suc}
 use Rattle.text.specs.Bytes.{pick, both}
 use Rattle.line.specs.declared.ev.AxisOrBtn.{AxisOrBtn}
 use Rattle.line.specs.declared.mapping.Entry.{Entry}
-use Rattle.line.specs.declared.mapping.Entered.{Entered}
-use Rattle.line.specs.declared.mapping.Entered.TheVariants as En
 use Rattle.line.specs.Elements.{code_of, same_element}
 use Rattle.line.specs.Maps.{entry_at}
 use Rattle.line.specs.Numbers.{code_unit, shaped_entry, entry_in}
 use Rattle.pad.specs.declared.events.Raw.{Raw}
 use Rattle.pad.specs.declared.events.Held.{Held}
-use Rattle.pad.specs.declared.value.ElementValue.{ElementValue}
 use Rattle.pad.specs.Pads.{given_by, gives, Chosen, prefer, choose}
-use Rattle.pad.specs.Inner.{entries_in, place_in, unseen, counted, own_from, Gathered}
-use Rattle.pad.proofs.StateLaws.{map-take}
+use Rattle.std.proofs.Common.{is_none, is_some, not}
+use Rattle.pad.specs.declared.own.Own.{Own}
+use Rattle.pad.specs.Inner.{place_in, unseen, counted, own_from, own_numbers}
+use Rattle.pad.proofs.NumberLaws.{found_at, place_some, place_none}
 
 -- ---- numbers that were seen
 unseen_more : (c : ℕ) (seen : List ℕ) (x : ℕ)
@@ -66,7 +67,7 @@ unfolding entry_at
 at_other x c es e = rw (code_in x, e)
 
 at_this : (x c : ℕ) (es : List Entry) → eqb (x / code_unit) c ≡ true
-    → entry_at (entry_in x ∷ es) (code_of c) ≡ En.Is (entry_in x)
+    → entry_at (entry_in x ∷ es) (code_of c) ≡ Some (entry_in x)
 unfolding entry_at
 at_this x c es e = rw (code_in x, e)
 
@@ -87,33 +88,31 @@ module _ (el : AxisOrBtn) (ys : List ℕ) (x : ℕ) (e : Entry) (is : e ≡ entr
       place-unseen (x / code_unit) ys
       ∙ ap (λ (c : ℕ). eqb (place_in c ys) (length ys)) (sym (ap (λ (y : Entry). y.code.0) is ∙ code_in x))
 
-  pub counted-first : (p j : ℕ) → same_element e.element el ≡ true → p ≡ place_in e.code.0 ys → p ≡ j
-      → length ys ≡ j → counted el ys x ≡ true
+  pub counted_is : (o : Option ℕ) → o ≡ found_at e.code.0 ys → counted el ys x ≡ both (same_element e.element el) (is_none o)
   unfolding counted
-  counted-first p j s q f l =
-      let a : same_element (entry_in x).element el ≡ true = sym element_is ∙ s in
+  counted_is None q =
       let b : unseen (x / code_unit) ys ≡ true =
-      first_is ∙ eq-eqb (place_in e.code.0 ys) (length ys) (sym q ∙ f ∙ sym l) in
-      rw (a, b)
-
-  pub counted-later : (p j : ℕ) → same_element e.element el ≡ true → p ≡ place_in e.code.0 ys → (p ≡ j → ⊥)
-      → length ys ≡ j → counted el ys x ≡ false
-  unfolding counted
-  counted-later p j s q f l =
-      let a : same_element (entry_in x).element el ≡ true = sym element_is ∙ s in
+      first_is ∙ eq-eqb (place_in e.code.0 ys) (length ys) (place_none e.code.0 ys (sym q)) in
+      rw (sym element_is, b)
+  counted_is (Some i) q =
+      let p = place_some e.code.0 ys i (sym q) in
       let b : unseen (x / code_unit) ys ≡ false =
-      first_is ∙ ne_eqb (place_in e.code.0 ys) (length ys) (λ w. f (q ∙ w ∙ l)) in
-      rw (a, b)
+      first_is ∙ ne_eqb (place_in e.code.0 ys) (length ys) (λ w. omega (arith, p.0, p.1)) in
+      rw (sym element_is, b)
 
   pub counted_other : same_element e.element el ≡ false → counted el ys x ≡ false
   unfolding counted
-  counted_other s =
-      let a : same_element (entry_in x).element el ≡ false = sym element_is ∙ s in
-      rw a
+  counted_other s = let a : same_element (entry_in x).element el ≡ false = sym element_is ∙ s in rw a
+
+pub none_is : (o : Option ℕ) (t : Bool) → is_some o ≡ not t → t ≡ is_none o
+none_is None true e = refl
+none_is None false e = absurd cc
+none_is (Some i) true e = absurd cc
+none_is (Some i) false e = refl
 
 -- a code that was seen is not among them
 own_absent : (el : AxisOrBtn) (seen xs : List ℕ) (c : ℕ) → unseen c seen ≡ false
-    → entry_at (map entry_in (own_from el seen xs)) (code_of c) ≡ En.Absent
+    → entry_at (map entry_in (own_from el seen xs)) (code_of c) ≡ None
 unfolding own_from entry_at counted
 own_absent el seen [] c s = refl
 own_absent el seen (x ∷ xs) c s =
@@ -126,10 +125,10 @@ own_absent el seen (x ∷ xs) c s =
     kept false = refl
 
     by : (t u : Bool) → unseen (x / code_unit) seen ≡ u
-        → entry_at (map entry_in (own_from el (seen ++ x ∷ []) xs)) (code_of c) ≡ En.Absent
+        → entry_at (map entry_in (own_from el (seen ++ x ∷ []) xs)) (code_of c) ≡ None
         → entry_at
         (map entry_in (pick (both t u) (x ∷ own_from el (seen ++ x ∷ []) xs) (own_from el (seen ++ x ∷ []) xs)))
-        (code_of c) ≡ En.Absent
+        (code_of c) ≡ None
     by true true e ih =
         at_other x c (map entry_in (own_from el (seen ++ x ∷ []) xs)) (seen_other x c seen s e) ∙ ih
     by true false e ih = ih
@@ -149,7 +148,7 @@ module _ (el : AxisOrBtn) (seen : List ℕ) (x : ℕ) (xs : List ℕ) where
   own_passed e = rw e
 
   module _ (c : ℕ) (raw : Raw) where
-    abbrev given : List ℕ → ElementValue
+    abbrev given : List ℕ → Option ℤ
     given ys = given_by (entry_at (map entry_in ys) (code_of c)) raw el
 
     -- another code: it is passed over on both sides
@@ -158,7 +157,7 @@ module _ (el : AxisOrBtn) (seen : List ℕ) (x : ℕ) (xs : List ℕ) where
     gives_other e ih = by (counted el seen x) refl ∙ ih ∙ sym (skip xs)
       where
         skip : (ys : List ℕ) → given (x ∷ ys) ≡ given ys
-        skip ys = ap (λ (r : Entered). given_by r raw el) (at_other x c (map entry_in ys) e)
+        skip ys = ap (λ (r : Option Entry). given_by r raw el) (at_other x c (map entry_in ys) e)
 
         by : (t : Bool) → counted el seen x ≡ t → given (own_from el seen (x ∷ xs)) ≡ given later
         by true q = ap given (own_taken q) ∙ skip later
@@ -173,14 +172,14 @@ module _ (el : AxisOrBtn) (seen : List ℕ) (x : ℕ) (xs : List ℕ) where
         first : unseen (x / code_unit) seen ≡ true
         first = ap (λ (k : ℕ). unseen k seen) (eqb-true (x / code_unit) c e) ∙ u
 
-        here : (ys : List ℕ) → given (x ∷ ys) ≡ given_by (En.Is (entry_in x)) raw el
-        here ys = ap (λ (r : Entered). given_by r raw el) (at_this x c (map entry_in ys) e)
+        here : (ys : List ℕ) → given (x ∷ ys) ≡ given_by (Some (entry_in x)) raw el
+        here ys = ap (λ (r : Option Entry). given_by r raw el) (at_this x c (map entry_in ys) e)
 
         seen_now : unseen c (seen ++ x ∷ []) ≡ false
         seen_now = unseen_more c seen x ∙ ap (λ (t : Bool). pick t false (unseen c seen)) e
 
         nothing : same_element (entry_in x).element el ≡ false
-            → given_by (En.Is (entry_in x)) raw el ≡ given_by En.Absent raw el
+            → given_by (Some (entry_in x)) raw el ≡ given_by None raw el
         nothing q = rw q
 
         by : (t : Bool) → same_element (entry_in x).element el ≡ t
@@ -190,7 +189,7 @@ module _ (el : AxisOrBtn) (seen : List ℕ) (x : ℕ) (xs : List ℕ) where
             ∙ here later ∙ sym (here xs)
         by false q =
             ap given (own_passed (ap (λ (t : Bool). both t (unseen (x / code_unit) seen)) q))
-            ∙ ap (λ (r : Entered). given_by r raw el) (own_absent el (seen ++ x ∷ []) xs c seen_now)
+            ∙ ap (λ (r : Option Entry). given_by r raw el) (own_absent el (seen ++ x ∷ []) xs c seen_now)
             ∙ sym (here xs ∙ nothing q)
 
 own_gives : (el : AxisOrBtn) (seen xs : List ℕ) (c : ℕ) (raw : Raw) → unseen c seen ≡ true
@@ -216,78 +215,53 @@ pub own_choose : (hs : List Held) (xs : List ℕ) (el : AxisOrBtn)
 unfolding choose unseen
 own_choose [] xs el = refl
 own_choose (h ∷ hs) xs el =
-    ap (λ (v : ElementValue). prefer h.code.0 v (choose hs (map entry_in (own_from el [] xs)) el))
+    ap (λ (v : Option ℤ). prefer h.code.0 v (choose hs (map entry_in (own_from el [] xs)) el))
     (own_gives el [] xs h.code.0 h.raw refl)
     ∙ ap (λ (r : Chosen). prefer h.code.0 (gives (map entry_in xs) h el) r) (own_choose hs xs el)
 
-pub own_chosen : (hs : List Held) (es list : List ℕ) (m count : ℕ) (el : AxisOrBtn)
-    → take count list ≡ own_from el [] (take m es)
-    → choose hs (entries_in count list) el ≡ choose hs (entries_in m es) el
-own_chosen hs es list m count el e =
-    ap (λ (l : List Entry). choose hs l el)
-    (sym (map-take entry_in count list) ∙ ap (λ (l : List ℕ). map entry_in l) e)
-    ∙ own_choose hs (take m es) el
-    ∙ ap (λ (l : List Entry). choose hs l el) (map-take entry_in m es)
+-- ---- they are gathered one after the other, of which those before j are passed
+module _ (el : AxisOrBtn) (es : List ℕ) where
+  pub record Gathering (j : ℕ) (own : Own) : Type 0 where
+    pub few : own.count ≤ j
+    pub are : own_numbers own ++ own_from el (take j es) (drop j es) ≡ own_from el [] es
 
--- ---- they are gathered one after the other
-pub gathered_none : (el : AxisOrBtn) (es : List ℕ) (m : ℕ) → Gathered el es m (replicate 256 0) 0 0
-gathered_none el es m = record { within = omega arith; few = omega arith; long = refl; told = refl }
+  pub gathered_none : (own : Own) → own_numbers own ≡ [] → own.count ≡ 0 → Gathering 0 own
+  gathered_none own e z = record { few = omega arith; are = rw e }
 
-module _ (el : AxisOrBtn) (es : List ℕ) (m : ℕ) (list : List ℕ) (count j : ℕ) (h : Gathered el es m list count j)
-    (lt : j < m) (lm : m ≤ length es) where
-  abbrev next : ℕ
-  next = get_or es j 0
+  module _ (j : ℕ) (own : Own) (h : Gathering j own) (lt : j < length es) (d : ℕ) where
+    step : own_from el (take j es) (drop j es) ≡ own_from el (take j es) (get_or es j d ∷ drop (j + 1) es)
+    step = rw (drop-cons es j d lt, add-one)
 
-  left : drop j (take m es) ≡ next ∷ drop (suc j) (take m es)
-  left =
-      let k : j < length (take m es) = omega (arith, length-take-le m es lm) in
-      drop-cons (take m es) j 0 k ∙ ap (λ (x : ℕ). x ∷ drop (suc j) (take m es)) (get_or-take m es j 0 lt)
+    more : own_from el (take j es ++ get_or es j d ∷ []) (drop (j + 1) es) ≡ own_from el (take (j + 1) es) (drop (j + 1) es)
+    more = ap (λ (l : List ℕ). own_from el l (drop (j + 1) es)) (sym (rw add-one (take-suc es j d lt)))
 
-  done : take (suc j) es ≡ take j es ++ next ∷ []
-  done = take-suc es j 0 (omega arith)
+    pub gathered_passed : counted el (take j es) (get_or es j d) ≡ false → Gathering (j + 1) own
+    gathered_passed e =
+        record {
+          few = omega (arith, h.few);
+          are =
+              ap (λ (l : List ℕ). own_numbers own ++ l)
+              (sym (step ∙ own_passed el (take j es) (get_or es j d) (drop (j + 1) es) e ∙ more))
+              ∙ h.are;
+        }
 
-  step : own_from el (take j es) (drop j (take m es)) ≡ own_from el (take j es) (next ∷ drop (suc j) (take m es))
-  step = ap (λ (l : List ℕ). own_from el (take j es) l) left
+    pub gathered_taken : counted el (take j es) (get_or es j d) ≡ true → (new : Own)
+        → own_numbers new ≡ own_numbers own ++ get_or es j d ∷ [] → new.count ≡ own.count + 1 → Gathering (j + 1) new
+    gathered_taken e new n c =
+        let rest : List ℕ = own_from el (take (j + 1) es) (drop (j + 1) es) in
+        record {
+          few = omega (arith, h.few);
+          are =
+              ap (λ (l : List ℕ). l ++ rest) n ∙ append_assoc (own_numbers own) (get_or es j d ∷ []) rest
+              ∙ ap (λ (l : List ℕ). own_numbers own ++ l)
+              (sym (step ∙ own_taken el (take j es) (get_or es j d) (drop (j + 1) es) e
+              ∙ ap (λ (l : List ℕ). get_or es j d ∷ l) more))
+              ∙ h.are;
+        }
 
-  more : own_from el (take j es ++ next ∷ []) (drop (suc j) (take m es))
-      ≡ own_from el (take (j + 1) es) (drop (j + 1) (take m es))
-  more = rw (add-one j, done)
-
-  pub gathered_passed : counted el (take j es) next ≡ false → Gathered el es m list count (j + 1)
-  gathered_passed e =
-      record {
-        within = omega arith;
-        few = omega (arith, h.few);
-        long = h.long;
-        told =
-            ap (λ (l : List ℕ). take count list ++ l)
-            (sym (step ∙ own_passed el (take j es) next (drop (suc j) (take m es)) e ∙ more))
-            ∙ h.told;
-      }
-
-  pub gathered_taken : counted el (take j es) next ≡ true → m ≤ 256
-      → Gathered el es m (set list count next) (count + 1) (j + 1)
-  gathered_taken e few =
-      let t : take (count + 1) (set list count next) ≡ take count list ++ next ∷ [] =
-      rw (add-one count) (take-suc-set list count next (omega (arith, h.long, h.few))) in
-      let rest : List ℕ = own_from el (take (j + 1) es) (drop (j + 1) (take m es)) in
-      record {
-        within = omega arith;
-        few = omega (arith, h.few);
-        long = length-set list count next ∙ h.long;
-        told =
-            ap (λ (l : List ℕ). l ++ rest) t ∙ append_assoc (take count list) (next ∷ []) rest
-            ∙ ap (λ (l : List ℕ). take count list ++ l)
-            (sym (step ∙ own_taken el (take j es) next (drop (suc j) (take m es)) e
-            ∙ ap (λ (l : List ℕ). next ∷ l) more))
-            ∙ h.told;
-      }
-
-pub gathered_all : (el : AxisOrBtn) (es : List ℕ) (m : ℕ) (list : List ℕ) (count j : ℕ) → Gathered el es m list count j
-    → j ≡ m → m ≤ length es → take count list ≡ own_from el [] (take m es)
-unfolding own_from
-gathered_all el es m list count j h e l =
-    let k : length (take m es) ≤ j = omega (arith, e, length-take-le m es l) in
-    let none : own_from el (take j es) (drop j (take m es)) ≡ [] =
-    ap (λ (ys : List ℕ). own_from el (take j es) ys) (drop_of_length-le (take m es) k) in
-    sym (append-nil (take count list)) ∙ ap (λ (ys : List ℕ). take count list ++ ys) (sym none) ∙ h.told
+  pub gathered_all : (j : ℕ) (own : Own) → Gathering j own → length es ≤ j → own_numbers own ≡ own_from el [] es
+  unfolding own_from
+  gathered_all j own h l =
+      let none : own_from el (take j es) (drop j es) ≡ [] =
+      ap (λ (ys : List ℕ). own_from el (take j es) ys) (drop_of_length-le es l) in
+      sym (append-nil (own_numbers own)) ∙ ap (λ (ys : List ℕ). own_numbers own ++ ys) (sym none) ∙ h.are

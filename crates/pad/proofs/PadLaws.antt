@@ -1,4 +1,5 @@
 -- The reader holds the values worked out afresh, after every list of calls. Assumes nothing.
+use Rattle.std.specs.Prelude.{Ok, Err, Result, ⊤}
 use Prim.Native.Nat.{ℕ, suc, ◌+◌, ◌-◌, ◌*◌, ◌/◌, ◌%◌, ◌<◌, ◌≤◌}
 use mathlib.Core.Path.{◌≡◌, refl, sym, ap, subst, ◌∙◌}
 use mathlib.Core.Bool.{Bool, true, false, not}
@@ -18,6 +19,8 @@ use Rattle.line.specs.Maps as M
 use Rattle.line.specs.Maps.{entry_at}
 use Rattle.line.specs.Numbers.{code_unit, entry_number, entry_in}
 use Rattle.line.proofs.NumberLaws.{number_back}
+use Rattle.pad.specs.declared.state.TooManyCodes.{TooManyCodes}
+use Rattle.pad.specs.Refusals.{too_many}
 use Rattle.pad.specs.declared.events.Raw.{Raw}
 use Rattle.pad.specs.declared.events.Raw.TheVariants as Rw
 use Rattle.pad.specs.declared.events.Held.{Held}
@@ -32,7 +35,6 @@ use Rattle.pad.specs.PadGuarantee.{PadCall, RawEvent, NewMap, answered, pad_afte
 use Rattle.pad.specs.PadGuarantee.{held_with}
 use Rattle.pad.specs.PadGuarantee.{held_by, map_by, ShortAll, Fitting, ReaderAgrees, ReaderHolds, holds_code}
 use Rattle.pad.specs.PadGuarantee.{NoneTwice, PadHolds, RefusesAt256, OneEvent}
-use Rattle.pad.specs.declared.state.PadAnswer.TheVariants as Pa
 use Rattle.pad.specs.Inner.{shifted, Touched}
 use Rattle.pad.proofs.BiasLaws.{lt_or_le, sum_is, shifted_small, unshifted-shifted}
 use Rattle.pad.proofs.ValueLaws.{within_fits}
@@ -301,12 +303,18 @@ pad_holds cs f =
     record { codes = a.codes; entries = a.entries; most = k.most; once = k.once }
 
 -- ---- 27
-answer_is : (p q : Pad) (t : Bool) → (pick t (told_of p q) (refused_of p)).answer ≡ pick t Pa.Done Pa.TooManyCodes
+abbrev done : Result ⊤ TooManyCodes
+done = Ok tt
+
+abbrev turned_away : Result ⊤ TooManyCodes
+turned_away = Err too_many
+
+answer_is : (p q : Pad) (t : Bool) → (pick t (told_of p q) (refused_of p)).answer ≡ pick t done turned_away
 unfolding told_of refused_of
 answer_is p q true = refl
 answer_is p q false = refl
 
-kept_done : (t : Bool) → Pa.Done ≡ pick (both t false) Pa.TooManyCodes Pa.Done
+kept_done : (t : Bool) → done ≡ pick (both t false) turned_away done
 kept_done true = refl
 kept_done false = refl
 
@@ -315,13 +323,12 @@ below_full n h d =
     ⊎_elim (λ l. l) (λ l. absurd (d (omega arith))) (lt_or_le n 256)
 
 full_or : (n : ℕ) (t : Bool) → n ≤ 256
-    → pick (leb (pick t n (suc n)) 256) Pa.Done Pa.TooManyCodes
-    ≡ pick (both (eqb n 256) (not t)) Pa.TooManyCodes Pa.Done
+    → pick (leb (pick t n (suc n)) 256) done turned_away ≡ pick (both (eqb n 256) (not t)) turned_away done
 full_or n true h = rw (le-leb n 256 h) (kept_done (eqb n 256))
 full_or n false h = by (eqb n 256) refl
   where
     by : (t : Bool) → eqb n 256 ≡ t
-        → pick (leb (suc n) 256) Pa.Done Pa.TooManyCodes ≡ pick (both (eqb n 256) true) Pa.TooManyCodes Pa.Done
+        → pick (leb (suc n) 256) done turned_away ≡ pick (both (eqb n 256) true) turned_away done
     by true e =
         let l : 256 < suc n = omega (arith, eqb-true n 256 e) in
         rw (e, lt-leb (suc n) 256 l)
@@ -336,7 +343,7 @@ refuses_at_256 p c raw w h =
     let x = held_number c raw in
     let k : Held = record { code = c; raw = raw } in
     answer_is p (with_held p (held_after_event p c raw)) (leb (length (held_after_event p c raw)) held_max)
-    ∙ ap (λ (n : ℕ). pick (leb n held_max) Pa.Done Pa.TooManyCodes)
+    ∙ ap (λ (n : ℕ). pick (leb n held_max) done turned_away)
     (put_length p x ∙ ap (λ (y : Held). length (put_held y (held_of p))) (held_back c raw w) ∙ put_longer k (held_of p))
     ∙ full_or (length (held_of p)) (holds_code c (held_of p)) h
 

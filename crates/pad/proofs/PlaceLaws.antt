@@ -5,11 +5,10 @@ use mathlib.Core.Bool.{Bool, true, false}
 use mathlib.Core.List.{List, [], ◌∷◌, ◌++◌, map}
 use mathlib.Core.Logic.{⊎_elim}
 use native.Mathlib.Omega.{arith}
-use borrow.Author.Tests.{eqb-true, eq-eqb, ne_eqb, ltb-true, ltb-false, lt-ltb, le-ltb, le-leb, leb-true}
+use borrow.Author.Tests.{eqb-true, ltb-true, ltb-false, lt-ltb, le-ltb, le-leb, leb-true}
 use lib.Dec.{eqb, ltb, leb}
-use lib.ListN.{length, take, drop, get_or, set, length-append, length-drop, take-append-drop, drop_of_length-le}
-use lib.Seq.{drop-cons, get_or-take, length-take-le}
-use native.Mathlib.Numerals.{add-one}
+use lib.ListN.{length, take, drop, set, length-append, length-drop, take-append-drop}
+use lib.Seq.{length-take-le}
 use Rattle.line.specs.declared.ev.AxisOrBtn.{AxisOrBtn}
 use Rattle.line.specs.declared.ev.AxisOrBtn.TheVariants as El
 use Rattle.line.specs.Elements.{same_element}
@@ -162,42 +161,3 @@ held_put x (y ∷ ys) = by (eqb (y / code_unit) (x / code_unit)) refl (held_put 
         → map held_in (put_number x (y ∷ ys)) ≡ put_held (held_in x) (map held_in (y ∷ ys))
     by true e ih = rw e
     by false e ih = rw e (ap (λ (l : List Held). held_in y ∷ l) ih)
-
--- ---- a code sought among the numbers
-place_here : (c y : ℕ) (ys : List ℕ) → y / code_unit ≡ c → place_in c (y ∷ ys) ≡ 0
-unfolding place_in
-place_here c y ys e = rw (eq-eqb (y / code_unit) c e)
-
-place-later : (c y : ℕ) (ys : List ℕ) → (y / code_unit ≡ c → ⊥) → place_in c (y ∷ ys) ≡ suc (place_in c ys)
-unfolding place_in
-place-later c y ys e = rw (ne_eqb (y / code_unit) c e)
-
-module _ (xs : List ℕ) (n i c : ℕ) (l : n ≤ length xs) where
-  next-number : i < n → drop i (take n xs) ≡ get_or xs i 0 ∷ drop (i + 1) (take n xs)
-  next-number lt =
-      let k : i < length (take n xs) = omega (arith, length-take-le n xs l) in
-      rw (drop-cons (take n xs) i 0 k, ← add-one i)
-      (ap (λ (x : ℕ). x ∷ drop (i + 1) (take n xs)) (get_or-take n xs i 0 lt))
-
-  module _ (inv : place_in c (take n xs) ≡ i + place_in c (drop i (take n xs))) (lt : i < n) where
-    at_next : place_in c (take n xs) ≡ i + place_in c (get_or xs i 0 ∷ drop (i + 1) (take n xs))
-    at_next = inv ∙ ap (λ (ys : List ℕ). i + place_in c ys) (next-number lt)
-
-    pub place_found : get_or xs i 0 / code_unit ≡ c → i ≡ place_in c (take n xs)
-    place_found q =
-        let z = place_here c (get_or xs i 0) (drop (i + 1) (take n xs)) q in
-        omega (arith, at_next, z)
-
-    pub place_passed : (get_or xs i 0 / code_unit ≡ c → ⊥)
-        → place_in c (take n xs) ≡ i + 1 + place_in c (drop (i + 1) (take n xs))
-    place_passed q =
-        let z = place-later c (get_or xs i 0) (drop (i + 1) (take n xs)) q in
-        omega (arith, at_next, z)
-
-  pub place_none : place_in c (take n xs) ≡ i + place_in c (drop i (take n xs)) → i ≡ n → n ≡ place_in c (take n xs)
-  unfolding place_in
-  place_none inv e =
-      let k : length (take n xs) ≤ i = omega (arith, length-take-le n xs l) in
-      let z : place_in c (drop i (take n xs)) ≡ 0 = ap (λ (ys : List ℕ). place_in c ys)
-      (drop_of_length-le (take n xs) k) in
-      omega (arith, inv, z)

@@ -1,5 +1,6 @@
 -- The 90 values at the edges of each input, inverted or not, and of each output; raw buttons; codes outside a map. All
 -- computed. Assumes nothing.
+use Rattle.std.specs.Prelude.{Option, Some, None}
 use mathlib.Core.Path.{◌≡◌, refl}
 use mathlib.Core.List.{List, [], ◌∷◌, map}
 use mathlib.Core.Bool.{Bool, true, false}
@@ -16,9 +17,6 @@ use Rattle.line.specs.Buttons as B
 use Rattle.line.specs.Elements.{code_of}
 use Rattle.line.specs.Maps.{ranged_entry, full_ranges, entry_at}
 use Rattle.pad.specs.declared.events.Raw.TheVariants as Rw
-use Rattle.pad.specs.declared.value.ElementValue.{ElementValue}
-use Rattle.pad.specs.declared.value.ElementValue.TheVariants as Ev
-use Rattle.pad.specs.declared.value.Emitted.TheVariants as Em
 use Rattle.pad.specs.Values.{raw_value, event_of}
 
 abbrev edges : List ℤ
@@ -34,23 +32,23 @@ abbrev south : AxisOrBtn
 south = El.Btn B.South
 
 -- what the five values give
-abbrev given : AxisOrBtn → Ranges → List ElementValue
+abbrev given : AxisOrBtn → Ranges → List (Option ℤ)
 given el r = map (λ (v : ℤ). raw_value el r (Rw.AxisValueChanged v)) edges
 
-abbrev is : ℕ → ElementValue
-is k = Ev.Is (pos k)
+abbrev is : ℕ → Option ℤ
+is k = Some (pos k)
 
-abbrev less : ℕ → ElementValue
-less k = Ev.Is (neg_ℤ (pos k))
+abbrev less : ℕ → Option ℤ
+less k = Some (neg_ℤ (pos k))
 
-abbrev no : ElementValue
-no = Ev.Nothing
+abbrev no : Option ℤ
+no = None
 
-abbrev five : (a b c d e : ElementValue) → List ElementValue
+abbrev five : (a b c d e : Option ℤ) → List (Option ℤ)
 five a b c d e = a ∷ b ∷ c ∷ d ∷ e ∷ []
 
 -- one row of the table: a button with each output half and an axis's upper output alike, its lower, its full output
-pub record Row (input : AxisRange) (inverted : Bool) (upper lower full : List ElementValue) : Type 0 where
+pub record Row (input : AxisRange) (inverted : Bool) (upper lower full : List (Option ℤ)) : Type 0 where
   pub button : given south (ranges input Ar.Full inverted) ≡ upper
   pub upper_button : given south (ranges input Ar.UpperHalf inverted) ≡ upper
   pub lower_button : given south (ranges input Ar.LowerHalf inverted) ≡ upper
@@ -139,7 +137,7 @@ lower_inverted =
     }
 
 -- ---- raw buttons: pressed on each output half of a button and of an axis, inverted or not; released
-abbrev pressed : AxisOrBtn → AxisRange → Bool → ElementValue
+abbrev pressed : AxisOrBtn → AxisRange → Bool → Option ℤ
 pressed el half inverted = raw_value el (ranges Ar.LowerHalf half inverted) Rw.ButtonPressed
 
 pub pressed_buttons : map (λ (h : AxisRange). pressed south h true) (Ar.Full ∷ Ar.UpperHalf ∷ Ar.LowerHalf ∷ [])
@@ -165,19 +163,19 @@ doubled =
     ∷ []
 
 pub first-counts : event_of doubled (code_of 5) (Rw.AxisValueChanged (pos 1))
-    ≡ Em.Is (record { element = stick; value = neg_ℤ (pos 32766) })
+    ≡ Some (record { element = stick; value = neg_ℤ (pos 32766) })
 unfolding event_of entry_at raw_value
 first-counts = refl
 
-pub no_value : event_of doubled (code_of 5) (Rw.AxisValueChanged (neg_ℤ (pos 1))) ≡ Em.Nothing
+pub no_value : event_of doubled (code_of 5) (Rw.AxisValueChanged (neg_ℤ (pos 1))) ≡ None
 unfolding event_of entry_at raw_value
 no_value = refl
 
 pub unknown_too : event_of doubled (code_of 3) Rw.ButtonPressed
-    ≡ Em.Is (record { element = El.Btn B.Unknown; value = pos 32767 })
+    ≡ Some (record { element = El.Btn B.Unknown; value = pos 32767 })
 unfolding event_of entry_at raw_value
 unknown_too = refl
 
-pub outside : event_of doubled (code_of 4) Rw.ButtonPressed ≡ Em.Nothing
+pub outside : event_of doubled (code_of 4) Rw.ButtonPressed ≡ None
 unfolding event_of entry_at raw_value
 outside = refl

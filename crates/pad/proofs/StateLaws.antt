@@ -1,19 +1,18 @@
 -- What the calls of a pad answer, from what their parts do. Assumes nothing.
-use Prim.Native.Nat.{ℕ, zero, suc, ◌/◌, ◌<◌, ◌≤◌}
+use Rattle.std.specs.Prelude.{Ok}
+use Prim.Native.Nat.{min, ℕ, zero, suc, ◌/◌, ◌<◌, ◌≤◌}
 use mathlib.Core.Path.{◌≡◌, refl, sym, ap, ◌∙◌}
 use mathlib.Core.Bool.{Bool, true, false}
 use mathlib.Core.List.{List, [], ◌∷◌, ◌++◌, map}
 use mathlib.Core.Logic.{⊎_elim}
 use native.Mathlib.Omega.{arith}
-use borrow.Author.Tests.{eq-eqb, ltb-true, ltb-false, lt-ltb, le-ltb, le-leb, lt-leb}
-use lib.Dec.{eqb, ltb}
+use borrow.Author.Tests.{ltb-true, ltb-false, le-leb, lt-leb}
+use lib.Dec.{ltb}
 use lib.ListN.{length, take, drop, set, length-map}
 use lib.Seq.{length-take-le}
-use lib.IntN.{ℤ, pos}
 use Rattle.text.specs.Bytes.{pick}
 use Rattle.line.specs.declared.ev.Code.{Code}
 use Rattle.line.specs.declared.ev.AxisOrBtn.{AxisOrBtn}
-use Rattle.line.specs.declared.mapping.Entry.{Entry}
 use Rattle.line.specs.declared.mapping.Mapping.{Mapping}
 use Rattle.line.specs.Elements.{code_of}
 use Rattle.line.specs.Maps as M
@@ -23,14 +22,11 @@ use Rattle.pad.specs.declared.events.Held.{Held}
 use Rattle.pad.specs.declared.events.Event.{Event}
 use Rattle.pad.specs.declared.events.Events.{Events}
 use Rattle.pad.specs.declared.state.Pad.{Pad}
-use Rattle.pad.specs.declared.state.Told.{Told}
-use Rattle.pad.specs.declared.state.PadAnswer.{PadAnswer}
-use Rattle.pad.specs.declared.state.PadAnswer.TheVariants as Pa
-use Rattle.pad.specs.Pads.{element_count, put_held, place_of, value_of, values_of, changes}
-use Rattle.pad.specs.States.{held_number, held_in, held_of, entries_of, pad_values, pad_value, events_in, told_of}
+use Rattle.pad.specs.Pads.{put_held, value_of, changes}
+use Rattle.pad.specs.States.{held_number, held_in, held_of, entries_of, pad_values, events_in, told_of}
 use Rattle.pad.specs.States.{put_number}
 use Rattle.pad.specs.States.{with_held, held_after_event, refused_of, raw_event_of, entry_numbers, with_map, change_map_of}
-use Rattle.pad.specs.Inner.{unshifted, helds_in, entries_in, place_in, Touched, capped_of, grown_of}
+use Rattle.pad.specs.Inner.{helds_in, place_in, Touched, capped_of, grown_of}
 use Rattle.pad.proofs.BiasLaws.{lt_or_le}
 use Rattle.pad.proofs.PlaceLaws.{placed, place_within, stored, put_onto, put_after, held_put}
 
@@ -55,6 +51,18 @@ take_all (suc n) [] h = refl
 take_all {A} (suc n) (x ∷ xs) h = ap (λ (l : List A). x ∷ l) (take_all n xs (omega arith))
 
 -- ---- a count over 256 is read as 256
+pub min_is : (n : ℕ) → min n 256 ≡ capped_of n
+min_is n = by (ltb n 256) refl
+  where
+    by : (t : Bool) → ltb n 256 ≡ t → min n 256 ≡ pick t n 256
+    by true e = omega (arith, ltb-true n 256 e)
+    by false e = omega (arith, ltb-false n 256 e)
+
+-- the values of a pad, from its parts
+pub value_parts : (p : Pad) (xs ys : List ℕ) (el : AxisOrBtn) → xs ≡ take p.count p.held → ys ≡ take p.entry_count p.entries
+    → value_of (map held_in xs) (map entry_in ys) el ≡ value_of (held_of p) (entries_of p) el
+value_parts p xs ys el a b = rw (a, b, map-take held_in p.count p.held, map-take entry_in p.entry_count p.entries)
+
 pub capped_take : {A : Type 0} (n : ℕ) (xs : List A) → length xs ≡ 256 → take (capped_of n) xs ≡ take n xs
 capped_take {A} n xs h = by (ltb n 256) refl
   where
@@ -74,43 +82,24 @@ capped_map : {A : Type 0} (f : ℕ → A) (n : ℕ) (xs : List ℕ) → length x
     → take (capped_of n) (map f xs) ≡ take n (map f xs)
 capped_map f n xs h = capped_take n (map f xs) (length-map xs f ∙ h)
 
-module _ (p : Pad) (n m : ℕ) (lh : length p.held ≡ 256) (le : length p.entries ≡ 256)
-    (en : n ≡ capped_of p.count)
-    (em : m ≡ capped_of p.entry_count) where
-  pub held_is : helds_in n p.held ≡ held_of p
-  held_is = ap (λ (k : ℕ). take k (map held_in p.held)) en ∙ capped_map held_in p.count p.held lh
+pub held_first : (p : Pad) (n : ℕ) → length p.held ≡ 256 → n ≡ capped_of p.count → helds_in n p.held ≡ held_of p
+held_first p n lh en =
+    ap (λ (k : ℕ). take k (map held_in p.held)) en ∙ capped_map held_in p.count p.held lh
 
-  pub entries_is : entries_in m p.entries ≡ entries_of p
-  entries_is = ap (λ (k : ℕ). take k (map entry_in p.entries)) em ∙ capped_map entry_in p.entry_count
-      p.entries le
+-- ---- the held codes, as the program has them
+pub capped_most : (n : ℕ) → capped_of n ≤ 256
+capped_most n = by (ltb n 256) refl
+  where
+    by : (t : Bool) → ltb n 256 ≡ t → pick t n 256 ≤ 256
+    by true e = omega (arith, ltb-true n 256 e)
+    by false e = omega arith
 
-  pub values_is : (el : AxisOrBtn) → value_of (helds_in n p.held) (entries_in m p.entries) el
-      ≡ value_of (held_of p) (entries_of p) el
-  values_is el =
-      ap (λ (hs : List Held). value_of hs (entries_in m p.entries) el) held_is
-      ∙ ap (λ (es : List Entry). value_of (held_of p) es el) entries_is
+module _ (p : Pad) (lh : length p.held ≡ 256) (xs : List ℕ) (e : xs ≡ take p.count p.held) where
+  pub codes_many : length xs ≡ capped_of p.count
+  codes_many = ap (λ (l : List ℕ). length l) e ∙ capped_length p.count p.held lh (capped_most p.count)
 
-  pub all_is : values_of (helds_in n p.held) (entries_in m p.entries) ≡ pad_values p
-  all_is =
-      ap (λ (hs : List Held). values_of hs (entries_in m p.entries)) held_is
-      ∙ ap (λ (es : List Entry). values_of (held_of p) es) entries_is
-
-  pub value_is : (el : AxisOrBtn)
-      → pick (ltb (place_of el) element_count) (value_of (helds_in n p.held) (entries_in m p.entries) el) (pos 0)
-      ≡ pad_value p el
-  unfolding pad_value
-  value_is el = ap (λ (z : ℤ). pick (ltb (place_of el) element_count) z (pos 0)) (values_is el)
-
--- ---- the value of an element
-pub value_none : (p : Pad) (el : AxisOrBtn) (k : ℕ) → k ≡ place_of el → k ≡ 27 → pos 0 ≡ pad_value p el
-unfolding pad_value
-value_none p el k e q =
-    let l : 27 ≤ place_of el = omega (arith, e, q) in
-    rw (le-ltb (place_of el) 27 l)
-
-pub value_some : (p : Pad) (el : AxisOrBtn) → place_of el < 27 → value_of (held_of p) (entries_of p) el ≡ pad_value p el
-unfolding pad_value
-value_some p el l = rw (lt-ltb (place_of el) 27 l)
+  pub codes_first : take (length xs) p.held ≡ xs
+  codes_first = ap (λ (k : ℕ). take k p.held) codes_many ∙ capped_take p.count p.held lh ∙ sym e
 
 -- ---- a raw event: a number put at place i of the first n
 module _ (xs : List ℕ) (n i x c : ℕ) (long : length xs ≡ 256) (few : n ≤ 256) (at : i ≡ place_in c (take n xs))
@@ -220,93 +209,32 @@ module _ (p : Pad) (c : Code) (raw : Raw) (n i x : ℕ) (lh : length p.held ≡ 
       a
       ∙ ap (λ (l : List ℕ). with_held p l) after_is
 
-  pub answers : (m : ℕ) (e : Events) → m ≡ capped_of p.entry_count → i < 256
-      → e ≡ events_in (changes 0 (values_of (helds_in n p.held) (entries_in m p.entries))
-      (values_of (helds_in (grown_of i n) (set p.held i x)) (entries_in m p.entries)))
-      → record { answer = Pa.Done; pad = next; events = e } ≡ raw_event_of p c raw
+  pub put_told : i < 256 → (es : List Event) → changes 0 (pad_values p) (pad_values next) ≡ es
+      → raw_event_of p c raw ≡ record { answer = Ok tt; pad = next; events = events_in es }
   unfolding raw_event_of told_of
-  answers m e em l ee =
+  put_told l es e =
       let w : length (held_after_event p c raw) ≤ 256 =
       omega (arith, many_is, grown_within p.held n i x c.0 lh few at code l) in
-      let q : values_of (helds_in (grown_of i n) (set p.held i x)) (entries_in m p.entries) ≡ pad_values next =
-      ap (λ (es : List Entry). values_of (helds_in (grown_of i n) (set p.held i x)) es)
-      (entries_is p n m lh le en em) in
-      let v : e ≡ events_in (changes 0 (pad_values p) (pad_values next)) =
-      ee
-      ∙ ap (λ (vs : List ℤ). events_in (changes 0 vs
-      (values_of (helds_in (grown_of i n) (set p.held i x)) (entries_in m p.entries)))) (all_is p n m lh le en em)
-      ∙ ap (λ (vs : List ℤ). events_in (changes 0 (pad_values p) vs)) q in
-      ap (λ (y : Events). record { answer = Pa.Done; pad = next; events = y }) v
-      ∙ ap (λ (y : Pad). told_of p y) (next_is l)
-      ∙ rw (le-leb (length (held_after_event p c raw)) 256 w)
+      let m = le-leb (length (held_after_event p c raw)) 256 w in
+      rw m
+      (ap (λ (y : Pad). told_of p y) (sym (next_is l))
+      ∙ ap (λ (fs : List Event). record { answer = Ok tt; pad = next; events = events_in fs }) e)
 
-  -- the same of a state that is lent
-  pub put_told : (m many : ℕ) (ys : List ℕ) (es : List Event) → m ≡ capped_of p.entry_count → i < 256
-      → many ≡ grown_of i n → ys ≡ set p.held i x
-      → changes 0 (values_of (helds_in n p.held) (entries_in m p.entries))
-      (values_of (helds_in many (set p.held i x)) (entries_in m p.entries)) ≡ es
-      → raw_event_of p c raw ≡ record {
-        answer = Pa.Done;
-        pad = record { count = many; held = ys; entry_count = p.entry_count; entries = p.entries };
-        events = events_in es;
-      }
-  put_told m many ys es em l eg ey ee =
-      let told : ℕ → List ℕ → Told =
-      λ k zs. record {
-        answer = Pa.Done;
-        pad = record { count = k; held = zs; entry_count = p.entry_count; entries = p.entries };
-        events = events_in es;
-      } in
-      let e : events_in es ≡ events_in (changes 0 (values_of (helds_in n p.held) (entries_in m p.entries))
-      (values_of (helds_in (grown_of i n) (set p.held i x)) (entries_in m p.entries))) =
-      ap (λ (l : List Event). events_in l) (sym ee)
-      ∙ ap (λ (k : ℕ). events_in (changes 0 (values_of (helds_in n p.held) (entries_in m p.entries))
-      (values_of (helds_in k (set p.held i x)) (entries_in m p.entries)))) eg in
-      sym
-      (ap (λ (k : ℕ). told k ys) eg ∙ ap (λ (zs : List ℕ). told (grown_of i n) zs) ey
-      ∙ answers m (events_in es) em l e)
-
-  pub away_told : (b l : ℕ) (fs : List Event) → i ≡ 256 → b ≡ l
-      → raw_event_of p c raw
-      ≡ record { answer = Pa.TooManyCodes; pad = p; events = events_in (pick (eqb b l) [] fs) }
-  unfolding refused_of
-  away_told b l fs e q =
-      sym (turned_away e)
-      ∙ ap (λ (t : Bool). record { answer = Pa.TooManyCodes; pad = p; events = events_in (pick t [] fs) })
-      (sym (eq-eqb b l q))
-
--- an answer with the events that are worked out apart
-pub told_with : {t : Told} {a : PadAnswer} {q : Pad} {e f : Events} → t ≡ record { answer = a; pad = q; events = f }
-    → e ≡ f → record { answer = a; pad = q; events = e } ≡ t
-told_with {t} {a} {q} k h = ap (λ (w : Events). record { answer = a; pad = q; events = w }) h ∙ sym k
+  pub touched_next : i < 256 → Touched (held_of p) (held_of next) c
+  touched_next l =
+      rw (sym (held_first p n lh en)) (touched p.held n i x c.0 lh few at code l)
 
 -- ---- what a change of map answers
-module _ (p : Pad) (m : Mapping) (n k many : ℕ) (lh : length p.held ≡ 256) (le : length p.entries ≡ 256)
-    (lm : length m.entries ≡ 256) (en : n ≡ capped_of p.count) (ek : k ≡ capped_of p.entry_count)
-    (em : many ≡ capped_of m.count) (most : many ≤ 256) where
-  many_held : many ≡ length (M.held m)
-  many_held = em ∙ sym (capped_length m.count m.entries lm (omega (arith, em)))
+pub map_next : (p : Pad) (m : Mapping) (many : ℕ) → length m.entries ≡ 256 → many ≡ capped_of m.count → many ≤ 256
+    → (ys : List ℕ) → ys ≡ entry_numbers (M.held m)
+    → record { count = p.count; held = p.held; entry_count = many; entries = ys } ≡ with_map p m
+map_next p m many lm em most ys ey =
+    let e : many ≡ length (M.held m) = em ∙ sym (capped_length m.count m.entries lm (omega (arith, em))) in
+    rw (e, ey)
 
-  pub changed : (ys bs cs : List ℕ) (e : Events) → ys ≡ entry_numbers (M.held m)
-      → map unshifted bs ≡ values_of (helds_in n p.held) (entries_in k p.entries)
-      → map unshifted cs ≡ values_of (helds_in n p.held) (entries_in many ys)
-      → e ≡ events_in (changes 0 (map unshifted bs) (map unshifted cs))
-      → record {
-        answer = Pa.Done;
-        pad = record { count = p.count; held = p.held; entry_count = many; entries = ys };
-        events = e;
-      } ≡ change_map_of p m
-  unfolding change_map_of told_of
-  changed ys bs cs e ey eb ea ee =
-      let q : Pad = record { count = p.count; held = p.held; entry_count = many; entries = ys } in
-      let qe : q ≡ with_map p m =
-      ap (λ (j : ℕ). record { count = p.count; held = p.held; entry_count = j; entries = ys }) many_held
-      ∙ ap (λ (l : List ℕ). record { count = p.count; held = p.held; entry_count = length (M.held m); entries = l })
-      ey in
-      let vb : map unshifted bs ≡ pad_values p = eb ∙ all_is p n k lh le en ek in
-      let va : map unshifted cs ≡ pad_values q =
-      ea ∙ ap (λ (hs : List Held). values_of hs (entries_in many ys)) (held_is p n k lh le en ek) in
-      let v : e ≡ events_in (changes 0 (pad_values p) (pad_values q)) =
-      ee ∙ ap (λ (vs : List ℤ). events_in (changes 0 vs (map unshifted cs))) vb
-      ∙ ap (λ (vs : List ℤ). events_in (changes 0 (pad_values p) vs)) va in
-      ap (λ (y : Events). record { answer = Pa.Done; pad = q; events = y }) v ∙ ap (λ (y : Pad). told_of p y) qe
+pub changed : (p : Pad) (m : Mapping) (q : Pad) (e : Events) → q ≡ with_map p m
+    → e ≡ events_in (changes 0 (pad_values p) (pad_values q))
+    → record { answer = Ok tt; pad = q; events = e } ≡ change_map_of p m
+unfolding change_map_of told_of
+changed p m q e h k =
+    ap (λ (y : Events). record { answer = Ok tt; pad = q; events = y }) k ∙ ap (λ (y : Pad). told_of p y) h

@@ -1,4 +1,5 @@
 -- A raw event changes no element but that of its code. Assumes nothing.
+use Rattle.std.specs.Prelude.{Some, None, Option}
 use Prim.Native.Nat.{ℕ, zero, suc, ◌+◌, ◌<◌, ◌≤◌}
 use mathlib.Core.Path.{◌≡◌, refl, sym, ap, subst, ◌∙◌}
 use mathlib.Core.Bool.{Bool, true, false}
@@ -12,24 +13,21 @@ use Rattle.text.specs.Bytes.{pick}
 use Rattle.line.specs.declared.ev.Code.{Code}
 use Rattle.line.specs.declared.ev.AxisOrBtn.{AxisOrBtn}
 use Rattle.line.specs.declared.mapping.Entry.{Entry}
-use Rattle.line.specs.declared.mapping.Entered.{Entered}
-use Rattle.line.specs.declared.mapping.Entered.TheVariants as En
 use Rattle.line.specs.Elements.{code_of, same_element}
 use Rattle.line.specs.Maps.{entry_at}
-use Rattle.pad.specs.declared.value.ElementValue.TheVariants as Ev
 use Rattle.pad.specs.declared.events.Raw.{Raw}
 use Rattle.pad.specs.declared.events.Held.{Held}
 use Rattle.pad.specs.declared.events.Event.{Event}
 use Rattle.pad.specs.Pads.{put_held, given_by, gives, Chosen, prefer, choose, tabulate, element_at, sameℤ, changes}
 
 -- whether an entry is of an element
-abbrev pub is_of : Entered → AxisOrBtn → Bool
-is_of (En.Is e) el = same_element e.element el
-is_of En.Absent el = false
+abbrev pub is_of : Option Entry → AxisOrBtn → Bool
+is_of (Some e) el = same_element e.element el
+is_of None el = false
 
-gives_nothing : (w : Entered) (raw : Raw) (el : AxisOrBtn) → is_of w el ≡ false → given_by w raw el ≡ Ev.Nothing
-gives_nothing (En.Is e) raw el t = rw t
-gives_nothing En.Absent raw el t = refl
+gives_nothing : (w : Option Entry) (raw : Raw) (el : AxisOrBtn) → is_of w el ≡ false → given_by w raw el ≡ None
+gives_nothing (Some e) raw el t = rw t
+gives_nothing None raw el t = refl
 
 pub untouched : (hs : List Held) (es : List Entry) (h : Held) (el : AxisOrBtn)
     → is_of (entry_at es h.code) el ≡ false → choose (put_held h hs) es el ≡ choose hs es el

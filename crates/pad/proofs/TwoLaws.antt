@@ -1,136 +1,92 @@
 -- What becomes of a pad's events when another one plays along. Assumes nothing.
+use Rattle.std.specs.Prelude.{Option, Some, None, Ok, Err}
 use Prim.Native.Nat.{ℕ, zero, suc, ◌+◌, ◌-◌, ◌<◌, ◌≤◌}
 use mathlib.Core.Path.{◌≡◌, refl, sym, ap, subst, ◌∙◌}
 use mathlib.Core.Bool.{Bool, true, false}
 use mathlib.Core.List.{List, [], ◌∷◌, ◌++◌, append_assoc, append-nil}
 use native.Mathlib.Omega.{arith}
 use native.Mathlib.Numerals.{add-one}
-use borrow.Author.Tests.{ne_eqb, lt-ltb, le-ltb}
-use mir.Syntax.{w16}
-use mir.Val.{SFits}
 use lib.ListN.{length, take, drop, get_or, set, replicate, drop_of_length-le, length-append, length-replicate}
 use lib.Seq.{drop-cons}
-use lib.Dec.{eqb, leb, ltb}
-use lib.IntN.{ℤ, pos, nat_abs}
+use lib.Dec.{leb}
+use lib.IntN.{ℤ}
 use Rattle.text.specs.Bytes.{pick}
 use Rattle.line.specs.declared.ev.Code.{Code}
-use Rattle.line.specs.declared.ev.AxisOrBtn.{AxisOrBtn}
 use Rattle.line.specs.declared.mapping.Mapping.{Mapping}
+use Rattle.pad.specs.declared.state.TooManyCodes.{TooManyCodes}
 use Rattle.pad.specs.declared.events.Raw.{Raw}
 use Rattle.pad.specs.declared.events.Event.{Event}
 use Rattle.pad.specs.declared.events.Events.{Events}
-use Rattle.pad.specs.declared.value.Emitted.{Emitted}
-use Rattle.pad.specs.declared.value.Emitted.TheVariants as Em
 use Rattle.pad.specs.declared.state.Pad.{Pad}
-use Rattle.pad.specs.declared.state.PadAnswer.{PadAnswer}
 use Rattle.pad.specs.declared.state.Told.{Told}
 use Rattle.pad.specs.Pads.{held_max, element_at, tabulate, value_of, sameℤ, changes}
 use Rattle.pad.specs.States.{held_of, entries_of, pad_values, pad_value, events_in, told_of, with_held, held_after_event}
 use Rattle.pad.specs.States.{unused_event, refused_of, raw_event_of, change_map_of}
 use Rattle.pad.specs.PadGuarantee.{told_events}
-use Rattle.pad.specs.TwoPads.{farther, pads_value, pads_values, pads_told_of}
-use Rattle.pad.specs.Inner.{shifted, unshifted, distance_of}
-use Rattle.pad.specs.Inner.{one_event, joined_of, joined_event, caught, refined, Refining, TellsItself, two}
-use Rattle.pad.specs.Inner.{first_told, second_told}
-use Rattle.pad.proofs.BiasLaws.{unshifted-shifted}
-use Rattle.pad.proofs.NumberLaws.{far}
+use Rattle.pad.specs.declared.telling.Change.{Change}
+use Rattle.pad.specs.declared.two.Pads.{Pads}
+use Rattle.pad.specs.declared.two.Which.{Which}
+use Rattle.pad.specs.declared.two.Which.TheVariants as Wh
+use Rattle.pad.specs.Refusals.{too_many}
+use Rattle.pad.specs.TwoPads.{pads_value, pads_values, pad_of, with_pad, pads_told_of}
+use Rattle.pad.specs.Inner.{one_event, event_by, Before, pad_beside, joined_of, joint_event, joined_by, joined_event, caught}
+use Rattle.pad.specs.Inner.{refined, Refining, TellsItself, two}
 use Rattle.pad.proofs.PlaceLaws.{place_element}
 use Rattle.pad.proofs.TouchLaws.{same_refl}
-use Rattle.pad.proofs.StateLaws.{value_some}
+use Rattle.pad.proofs.EventLaws.{value_there}
 use Rattle.pad.proofs.ReaderLaws.{same_value, tabulated}
 use Rattle.pad.proofs.ListLaws.{filling_none, filling_more, filling_taken, filling_shape}
 use Rattle.pad.proofs.PadLaws.{told_back}
 
--- ---- the farther of two values, by their numbers
-module _ (a b : ℤ) (x y : ℕ) (fa : SFits w16 a) (fb : SFits w16 b) (ex : x ≡ distance_of (shifted a))
-    (ey : y ≡ distance_of (shifted b)) where
-  tested : ltb (nat_abs a) (nat_abs b) ≡ ltb x y
-  tested =
-      ap (λ (n : ℕ). ltb n (nat_abs b)) (sym (ex ∙ far a fa)) ∙ ap (λ (n : ℕ). ltb x n) (sym (ey ∙ far b fb))
+-- ---- what becomes of a change
+pub joined_same : (w : Which) (q : Pad) (c : Change) → c.before ≡ c.later → None ≡ joined_by w q (Some c)
+joined_same w q c e =
+    let o = pad_value q c.element in
+    sym
+    (ap (λ (t : Bool). pick t None (Some (one_event c.element (joined_of w c.later o))))
+    (ap (λ (z : ℤ). sameℤ (joined_of w z o) (joined_of w c.later o)) e ∙ same_refl (joined_of w c.later o)))
 
-  pub second_farther : x < y → b ≡ farther a b
-  second_farther l = sym (ap (λ (t : Bool). pick t b a) (tested ∙ lt-ltb x y l))
+-- an event of p, as a change
+pub joined_is : (w : Which) (p q : Pad) (e : Event) (r : Option Event) (b l : ℤ)
+    → r ≡ joint_event w e.element b l (pad_value q e.element) → b ≡ pad_value p e.element → l ≡ e.value
+    → r ≡ joined_event w p q e
+unfolding joined_event
+joined_is w p q e r b l h eb el =
+    h ∙ ap (λ (z : ℤ). joint_event w e.element z l (pad_value q e.element)) eb
+    ∙ ap (λ (z : ℤ). joint_event w e.element (pad_value p e.element) z (pad_value q e.element)) el
 
-  pub first-farther : y ≤ x → a ≡ farther a b
-  first-farther l = sym (ap (λ (t : Bool). pick t b a) (tested ∙ le-ltb x y l))
-
--- ---- an element's event, by its values on a pad before and after, and by its value on the pad beside it
-abbrev pub joint_event : Bool → AxisOrBtn → ℤ → ℤ → ℤ → Emitted
-joint_event leads el b l o =
-    pick (sameℤ (joined_of leads b o) (joined_of leads l o)) Em.Nothing (Em.Is (one_event el (joined_of leads l o)))
-
--- by the numbers of the two values of both
-module _ (leads : Bool) (el : AxisOrBtn) (b l o was value : ℤ) (x y : ℕ) (ew : was ≡ joined_of leads b o)
-    (ev : value ≡ joined_of leads l o) (fw : SFits w16 was) (fv : SFits w16 value) (ex : x ≡ shifted was)
-    (ey : y ≡ shifted value) where
-  abbrev before : ℤ
-  before = joined_of leads b o
-
-  abbrev after : ℤ
-  after = joined_of leads l o
-
-  abbrev answer : Bool → Emitted
-  answer t = pick t Em.Nothing (Em.Is (one_event el after))
-
-  pub joined_same : x ≡ y → Em.Nothing ≡ joint_event leads el b l o
-  joined_same s =
-      let same : was ≡ value =
-      sym (unshifted-shifted was fw) ∙ ap (λ (k : ℕ). unshifted k) (sym ex ∙ s ∙ ey) ∙ unshifted-shifted value fv in
-      sym (ap answer (ap (λ (z : ℤ). sameℤ z after) (sym ew ∙ same ∙ ev) ∙ same_refl after))
-
-  pub joined_other : (x ≡ y → ⊥) → Em.Is (one_event el value) ≡ joint_event leads el b l o
-  joined_other d =
-      ap (λ (z : ℤ). Em.Is (one_event el z)) ev ∙ sym (ap answer (unlike (sameℤ before after) refl))
-    where
-      unlike : (t : Bool) → sameℤ before after ≡ t → sameℤ before after ≡ false
-      unlike true s =
-          absurd (d (ex ∙ ap (λ (z : ℤ). shifted z) (ew ∙ same_value before after s ∙ sym ev) ∙ sym ey))
-      unlike false s = s
-
--- of equal values
-pub joint_is : (leads : Bool) (el : AxisOrBtn) {b l o b' l' o' : ℤ} {w : Emitted} → w ≡ joint_event leads el b l o
-    → b ≡ b' → l ≡ l' → o ≡ o' → w ≡ joint_event leads el b' l' o'
-joint_is leads el {b} {l} {o} {b'} {l'} {o'} e eb el' eo =
-    e ∙ ap (λ (z : ℤ). joint_event leads el z l o) eb ∙ ap (λ (z : ℤ). joint_event leads el b' z o) el'
-    ∙ ap (λ (z : ℤ). joint_event leads el b' l' z) eo
-
--- what is told of a change, by the numbers of the pad's own values
-pub joint_told : (x y : ℕ) (w v : Emitted) → w ≡ v → (x ≡ y → ⊥) → caught w [] ≡ pick (eqb x y) [] (caught v [])
-joint_told x y w v e d =
-    ap (λ (u : Emitted). caught u []) e ∙ sym (ap (λ (t : Bool). pick t [] (caught v [])) (ne_eqb x y d))
-
-pub joint_refined : (leads : Bool) (p q : Pad) (el : AxisOrBtn) (x y : ℕ) (o : ℤ) → unshifted x ≡ pad_value p el
-    → o ≡ pick (eqb x y) (pos 0) (pad_value q el)
-    → pick (eqb x y) [] (caught (joint_event leads el (unshifted x) (unshifted y) o) [])
-    ≡ refined leads p q (pick (eqb x y) [] (one_event el (unshifted y) ∷ []))
+-- of a change of p, the events are those of the one that p tells
+pub joined_refined : (w : Which) (p q : Pad) (change : Option Change) → Before p change
+    → caught (joined_by w q change) [] ≡ refined w p q (caught (event_by change) [])
 unfolding refined joined_event
-joint_refined leads p q el x y o e eo = by (eqb x y) eo
+joined_refined w p q None b = refl
+joined_refined w p q (Some c) b = by (sameℤ c.before c.later) refl
   where
-    by : (t : Bool) → o ≡ pick t (pos 0) (pad_value q el)
-        → pick t [] (caught (joint_event leads el (unshifted x) (unshifted y) o) [])
-        ≡ refined leads p q (pick t [] (one_event el (unshifted y) ∷ []))
-    by true k = refl
-    by false k =
-        ap (λ (z : ℤ). caught (joint_event leads el z (unshifted y) o) []) e
-        ∙ ap (λ (z : ℤ). caught (joint_event leads el (pad_value p el) (unshifted y) z) []) k
+    by : (t : Bool) → sameℤ c.before c.later ≡ t
+        → caught (joined_by w q (Some c)) []
+        ≡ refined w p q (caught (pick t None (Some (one_event c.element c.later))) [])
+    by true e =
+        ap (λ (v : Option Event). caught v []) (sym (joined_same w q c (same_value c.before c.later e)))
+    by false e =
+        ap (λ (z : ℤ). caught (joint_event w c.element z c.later (pad_value q c.element)) []) b
 
 -- ---- the value of an element that has a place
 value_at : (p : Pad) (k : ℕ) → k < 27 → pad_value p (element_at k) ≡ value_of (held_of p) (entries_of p) (element_at k)
-value_at p k l = sym (value_some p (element_at k) (subst (λ (n : ℕ). n < 27) (sym (place_element k l)) l))
+value_at p k l = sym (value_there p (element_at k) (subst (λ (n : ℕ). n < 27) (sym (place_element k l)) l))
 
 -- ---- one event after the other
-refined-pick : (leads : Bool) (p q : Pad) (t : Bool) (e : Event) (es : List Event)
+refined-pick : (leads : Which) (p q : Pad) (t : Bool) (e : Event) (es : List Event)
     → refined leads p q (pick t es (e ∷ es))
     ≡ pick t (refined leads p q es) (caught (joined_event leads p q e) (refined leads p q es))
 unfolding refined
 refined-pick leads p q true e es = refl
 refined-pick leads p q false e es = refl
 
-caught-pick : (t : Bool) (e : Event) (es : List Event) → caught (pick t Em.Nothing (Em.Is e)) es ≡ pick t es (e ∷ es)
+caught-pick : (t : Bool) (e : Event) (es : List Event) → caught (pick t None (Some e)) es ≡ pick t es (e ∷ es)
 caught-pick true e es = refl
 caught-pick false e es = refl
 
-module _ (leads : Bool) (p r q : Pad) where
+module _ (leads : Which) (p r q : Pad) where
   abbrev own : Pad → ℕ → ℤ
   own s k = value_of (held_of s) (entries_of s) (element_at k)
 
@@ -145,12 +101,12 @@ module _ (leads : Bool) (p r q : Pad) where
 
   event_is : (k : ℕ) → k < 27
       → joined_event leads p q (one_event (element_at k) (own r k))
-      ≡ pick (sameℤ (joint p k) (joint r k)) Em.Nothing (Em.Is (event k))
+      ≡ pick (sameℤ (joint p k) (joint r k)) None (Some (event k))
   unfolding joined_event
   event_is k l =
       ap
-      (λ (z : ℤ). pick (sameℤ (joint p k) (joined_of leads z (beside k))) Em.Nothing
-      (Em.Is (one_event (element_at k) (joined_of leads z (beside k)))))
+      (λ (z : ℤ). pick (sameℤ (joint p k) (joined_of leads z (beside k))) None
+      (Some (one_event (element_at k) (joined_of leads z (beside k)))))
       (sym (value_at r k l))
 
   step : (k : ℕ) (es : List Event) → k < 27
@@ -169,7 +125,7 @@ module _ (leads : Bool) (p r q : Pad) where
           (ap (λ (t : Bool). pick t es (event k ∷ es))
           (ap (λ (z : ℤ). sameℤ z (joint r k)) j ∙ same_refl (joint r k)))
       by false e =
-          ap (λ (w : Emitted). caught w es) (event_is k l)
+          ap (λ (w : Option Event). caught w es) (event_is k l)
           ∙ caught-pick (sameℤ (joint p k) (joint r k)) (event k) es
 
   refined-from : (n k : ℕ) → k + n ≤ 27
@@ -189,15 +145,15 @@ module _ (leads : Bool) (p r q : Pad) where
       ≡ changes 0 (tabulate (joint p) 27 0) (tabulate (joint r) 27 0)
   refined_all = refined-from 27 0 (omega arith)
 
-first_events : (p r q : Pad) → refined true p q (changes 0 (pad_values p) (pad_values r))
+first_events : (p r q : Pad) → refined Wh.First p q (changes 0 (pad_values p) (pad_values r))
     ≡ changes 0 (pads_values (two p q)) (pads_values (two r q))
 unfolding pads_value
-first_events p r q = refined_all true p r q
+first_events p r q = refined_all Wh.First p r q
 
-second_events : (p r q : Pad) → refined false p q (changes 0 (pad_values p) (pad_values r))
+second_events : (p r q : Pad) → refined Wh.Second p q (changes 0 (pad_values p) (pad_values r))
     ≡ changes 0 (pads_values (two q p)) (pads_values (two q r))
 unfolding pads_value
-second_events p r q = refined_all false p r q
+second_events p r q = refined_all Wh.Second p r q
 
 -- ---- a pad's own answers
 changes-none : (k : ℕ) (xs : List ℤ) → changes k xs xs ≡ []
@@ -256,72 +212,102 @@ told_is p t h =
     ap (λ (w : Events). told_events w) h ∙ told_back (changes 0 (pad_values p) (pad_values t.pad))
 
 -- ---- told for both
-pub first_told_lem : (p q : Pad) (t : Told) (e : Events) → TellsItself p t
-    → e ≡ events_in (refined true p q (told_events t.events))
-    → record { answer = t.answer; pads = two t.pad q; events = e } ≡ first_told p q t
+joint_all : (w : Which) (p : Pads) (r : Pad)
+    → refined w (pad_of w p) (pad_beside w p) (changes 0 (pad_values (pad_of w p)) (pad_values r))
+    ≡ changes 0 (pads_values p) (pads_values (with_pad w p r))
+joint_all Wh.First p r = first_events p.first r p.second
+joint_all Wh.Second p r = second_events p.second r p.first
+
+pub told_lem : (w : Which) (p : Pads) (t : Told) (e : Events) → TellsItself (pad_of w p) t
+    → e ≡ events_in (refined w (pad_of w p) (pad_beside w p) (told_events t.events))
+    → record { answer = t.answer; pads = with_pad w p t.pad; events = e } ≡ pads_told_of p w t
 unfolding pads_told_of
-first_told_lem p q t e h k =
-    ap (λ (w : Events). record { answer = t.answer; pads = two t.pad q; events = w })
+told_lem w p t e h k =
+    ap (λ (v : Events). record { answer = t.answer; pads = with_pad w p t.pad; events = v })
     (k
-    ∙ ap (λ (es : List Event). events_in (refined true p q es)) (told_is p t h)
-    ∙ ap (λ (es : List Event). events_in es) (first_events p t.pad q))
+    ∙ ap (λ (es : List Event). events_in (refined w (pad_of w p) (pad_beside w p) es)) (told_is (pad_of w p) t h)
+    ∙ ap (λ (es : List Event). events_in es) (joint_all w p t.pad))
 
-pub second_told_lem : (p q : Pad) (t : Told) (e : Events) → TellsItself q t
-    → e ≡ events_in (refined false q p (told_events t.events))
-    → record { answer = t.answer; pads = two p t.pad; events = e } ≡ second_told p q t
-unfolding pads_told_of
-second_told_lem p q t e h k =
-    ap (λ (w : Events). record { answer = t.answer; pads = two p t.pad; events = w })
-    (k
-    ∙ ap (λ (es : List Event). events_in (refined false q p es)) (told_is q t h)
-    ∙ ap (λ (es : List Event). events_in es) (second_events q t.pad p))
+-- a raw value that was put
+pub put_lem : (w : Which) (p : Pads) (t : Told) (q : Pad) (change : Option Change) (e : Events)
+    → TellsItself (pad_of w p) t
+    → t ≡ record { answer = Ok tt; pad = q; events = events_in (caught (event_by change) []) }
+    → Before (pad_of w p) change → e ≡ events_in (caught (joined_by w (pad_beside w p) change) [])
+    → record { answer = Ok tt; pads = with_pad w p q; events = e } ≡ pads_told_of p w t
+put_lem w p t q change e h k b ee =
+    let own = pad_of w p in
+    let beside = pad_beside w p in
+    let one : told_events t.events ≡ caught (event_by change) [] =
+    ap (λ (u : Told). told_events u.events) k ∙ told_back (caught (event_by change) []) in
+    sym (ap (λ (u : Told). record { answer = u.answer; pads = with_pad w p u.pad; events = e }) k)
+    ∙ told_lem w p t e h
+    (ee ∙ ap (λ (l : List Event). events_in l) (joined_refined w own beside change b)
+    ∙ ap (λ (l : List Event). events_in (refined w own beside l)) (sym one))
 
--- a raw value that was put, of a state that is lent
-module _ (p q : Pad) (t : Told) {a : PadAnswer} {n : Pad} (x y : ℕ) (el : AxisOrBtn) (h : TellsItself p t)
-    (k : t ≡ record {
-      answer = a;
-      pad = n;
-      events = events_in (pick (eqb x y) [] (one_event el (unshifted y) ∷ []));
-    })
-    (v : unshifted x ≡ pad_value p el) {o : ℤ} (w : o ≡ pick (eqb x y) (pos 0) (pad_value q el)) where
-  told_one : told_events t.events ≡ pick (eqb x y) [] (one_event el (unshifted y) ∷ [])
-  told_one =
-      ap (λ (u : Told). told_events u.events) k
-      ∙ told_back (pick (eqb x y) [] (one_event el (unshifted y) ∷ []))
+pub away_lem : (w : Which) (p : Pads) (t : Told) → TellsItself (pad_of w p) t → t ≡ refused_of (pad_of w p)
+    → record { answer = Err too_many; pads = p; events = events_in [] } ≡ pads_told_of p w t
+unfolding refused_of refined
+away_lem w p t h k =
+    let own = pad_of w p in
+    let one : told_events t.events ≡ [] =
+    ap (λ (u : Told). told_events u.events) k ∙ told_back [] in
+    let back : (v : Which) → with_pad v p (pad_of v p) ≡ p =
+    λ v. elim v as (λ (v : Which). with_pad v p (pad_of v p) ≡ p) [ Wh.First ↦ refl | Wh.Second ↦ refl ] in
+    ap (λ (z : Pads). record { answer = Err too_many; pads = z; events = events_in [] }) (sym (back w))
+    ∙ sym (ap (λ (u : Told). record { answer = u.answer; pads = with_pad w p u.pad; events = events_in [] }) k)
+    ∙ told_lem w p t (events_in []) h
+    (ap (λ (l : List Event). events_in (refined w own (pad_beside w p) l)) (sym one))
 
-  joint_events : (leads : Bool) (e : Events)
-      → e ≡ events_in (pick (eqb x y) [] (caught (joint_event leads el (unshifted x) (unshifted y) o) []))
-      → e ≡ events_in (refined leads p q (told_events t.events))
-  joint_events leads e ee =
-      ee ∙ ap (λ (l : List Event). events_in l) (joint_refined leads p q el x y o v w)
-      ∙ ap (λ (l : List Event). events_in (refined leads p q l)) (sym told_one)
+-- ---- the pads after a raw value was put into one of them
+pub beside_after : (w : Which) (p r : Pads) → r ≡ with_pad w p (pad_of w r) → pad_beside w r ≡ pad_beside w p
+beside_after Wh.First p r e = ap (λ (x : Pads). x.second) e
+beside_after Wh.Second p r e = ap (λ (x : Pads). x.first) e
 
-  pub first_put : (e : Events)
-      → e ≡ events_in (pick (eqb x y) [] (caught (joint_event true el (unshifted x) (unshifted y) o) []))
-      → record { answer = a; pads = two n q; events = e } ≡ first_told p q t
-  first_put e ee =
-      sym (ap (λ (u : Told). record { answer = u.answer; pads = two u.pad q; events = e }) k)
-      ∙ first_told_lem p q t e h (joint_events true e ee)
+pub same_after : (w : Which) (p r : Pads) → r ≡ with_pad w p (pad_of w r) → pad_of w r ≡ pad_of w p → r ≡ p
+same_after Wh.First p r e q = e ∙ ap (λ (x : Pad). with_pad Wh.First p x) q
+same_after Wh.Second p r e q = e ∙ ap (λ (x : Pad). with_pad Wh.Second p x) q
 
-  pub second_put : (e : Events)
-      → e ≡ events_in (pick (eqb x y) [] (caught (joint_event false el (unshifted x) (unshifted y) o) []))
-      → record { answer = a; pads = two q n; events = e } ≡ second_told q p t
-  second_put e ee =
-      sym (ap (λ (u : Told). record { answer = u.answer; pads = two q u.pad; events = e }) k)
-      ∙ second_told_lem q p t e h (joint_events false e ee)
+-- ---- the calls, with the two pads as the program took them
+module _ (w : Which) (p : Pads) (own beside : Pad) (o : own ≡ pad_of w p) (s : beside ≡ pad_beside w p) where
+  pub raw_done : (c : Code) (raw : Raw) (q : Pad) (ps : Pads) (change : Option Change) (e : Events)
+      → ps ≡ with_pad w p q
+      → raw_event_of own c raw ≡ record { answer = Ok tt; pad = q; events = events_in (caught (event_by change) []) }
+      → Before own change → e ≡ events_in (caught (joined_by w beside change) [])
+      → record { answer = Ok tt; pads = ps; events = e } ≡ pads_told_of p w (raw_event_of (pad_of w p) c raw)
+  raw_done c raw q ps change e t k b ee =
+      rw t
+      (put_lem w p (raw_event_of (pad_of w p) c raw) q change e (raw_tells (pad_of w p) c raw) (rw o at k) (rw o at b)
+      (rw s at ee))
+
+  pub raw_away : (c : Code) (raw : Raw) (x : TooManyCodes) (e : Events) → raw_event_of own c raw ≡ refused_of own
+      → e ≡ events_in []
+      → record { answer = Err x; pads = p; events = e } ≡ pads_told_of p w (raw_event_of (pad_of w p) c raw)
+  raw_away c raw x e k ee =
+      rw ee (away_lem w p (raw_event_of (pad_of w p) c raw) (raw_tells (pad_of w p) c raw) (rw o at k))
+
+  pub map_done : (m : Mapping) (t : Told) (ps : Pads) (e : Events) → t ≡ change_map_of own m → ps ≡ with_pad w p t.pad
+      → e ≡ events_in (refined w own beside (told_events t.events))
+      → record { answer = t.answer; pads = ps; events = e } ≡ pads_told_of p w (change_map_of (pad_of w p) m)
+  map_done m t ps e k q ee =
+      let f : t ≡ change_map_of (pad_of w p) m = rw o at k in
+      let h : TellsItself (pad_of w p) t = rw f (map_tells (pad_of w p) m) in
+      rw (q, sym f) (told_lem w p t e h (rw (o, s) at ee))
+
+pub map_few : (p : Pad) (m : Mapping) (t : Told) → t ≡ change_map_of p m → t.events.count ≤ 27
+map_few p m t e = tells_few p t (rw e (map_tells p m))
 
 -- ---- the loop over a pad's events
-pub refining_none : (leads : Bool) (p q : Pad) (es : List Event) → Refining leads p q es (replicate 27 unused_event) 0 0
+pub refining_none : (leads : Which) (p q : Pad) (es : List Event) → Refining leads p q es (replicate 27 unused_event) 0 0
 refining_none leads p q es = record { within = omega arith; few = omega arith; fill = filling_none; told = refl }
 
-module _ (leads : Bool) (p q : Pad) (es list : List Event) (count i : ℕ) (d : Event)
+module _ (leads : Which) (p q : Pad) (es list : List Event) (count i : ℕ) (d : Event)
     (h : Refining leads p q es list count i) (lt : i < length es) where
   next : refined leads p q (drop i es)
       ≡ caught (joined_event leads p q (get_or es i d)) (refined leads p q (drop (i + 1) es))
   unfolding refined
   next = rw (add-one i) (ap (λ (l : List Event). refined leads p q l) (drop-cons es i d lt))
 
-  pub refining_passed : (w : Emitted) → w ≡ joined_event leads p q (get_or es i d) → w ≡ Em.Nothing
+  pub refining_passed : (w : Option Event) → w ≡ joined_event leads p q (get_or es i d) → w ≡ None
       → Refining leads p q es list count (i + 1)
   refining_passed w e n =
       record {
@@ -330,11 +316,11 @@ module _ (leads : Bool) (p q : Pad) (es list : List Event) (count i : ℕ) (d : 
         fill = h.fill;
         told =
             ap (λ (l : List Event). take count list ++ l)
-            (sym (next ∙ ap (λ (v : Emitted). caught v (refined leads p q (drop (i + 1) es))) (sym e ∙ n)))
+            (sym (next ∙ ap (λ (v : Option Event). caught v (refined leads p q (drop (i + 1) es))) (sym e ∙ n)))
             ∙ h.told;
       }
 
-  pub refining_taken : (w : Emitted) (v : Event) → w ≡ joined_event leads p q (get_or es i d) → w ≡ Em.Is v → count < 27
+  pub refining_taken : (w : Option Event) (v : Event) → w ≡ joined_event leads p q (get_or es i d) → w ≡ Some v → count < 27
       → Refining leads p q es (set list count v) (count + 1) (i + 1)
   refining_taken w v e n room =
       let rest : List Event = refined leads p q (drop (i + 1) es) in
@@ -346,11 +332,11 @@ module _ (leads : Bool) (p q : Pad) (es list : List Event) (count i : ℕ) (d : 
             ap (λ (l : List Event). l ++ rest) (filling_taken list count v h.fill room)
             ∙ append_assoc (take count list) (v ∷ []) rest
             ∙ ap (λ (l : List Event). take count list ++ l)
-            (sym (next ∙ ap (λ (u : Emitted). caught u rest) (sym e ∙ n)))
+            (sym (next ∙ ap (λ (u : Option Event). caught u rest) (sym e ∙ n)))
             ∙ h.told;
       }
 
-pub refining_all : (leads : Bool) (p q : Pad) (es list : List Event) (count i : ℕ) → Refining leads p q es list count i
+pub refining_all : (leads : Which) (p q : Pad) (es list : List Event) (count i : ℕ) → Refining leads p q es list count i
     → length es ≤ i → count ≤ 27
     → record { count = count; list = list } ≡ events_in (refined leads p q es)
 unfolding refined

@@ -1,4 +1,5 @@
 -- The output of a part, counted from the least value, is the output; every value fits, and is within. Assumes nothing.
+use Rattle.std.specs.Prelude.{Option, Some, None}
 use Prim.Native.Nat.{ℕ, zero, suc, ◌+◌, ◌-◌, ◌*◌, ◌/◌, ◌<◌, ◌≤◌}
 use mathlib.Core.Path.{◌≡◌, refl, sym, ap, subst, ◌∙◌}
 use mathlib.Core.Bool.{Bool, true, false}
@@ -21,10 +22,6 @@ use Rattle.line.specs.declared.ev.AxisOrBtn.{AxisOrBtn}
 use Rattle.line.specs.declared.ev.AxisOrBtn.TheVariants as El
 use Rattle.line.specs.declared.parser.AxisRange.{AxisRange}
 use Rattle.line.specs.declared.parser.AxisRange.TheVariants as Ar
-use Rattle.pad.specs.declared.numbers.Part.{Part}
-use Rattle.pad.specs.declared.numbers.Part.TheVariants as Pt
-use Rattle.pad.specs.declared.value.ElementValue.{ElementValue}
-use Rattle.pad.specs.declared.value.ElementValue.TheVariants as Ev
 use Rattle.pad.proofs.ShareLaws.{scaled_le}
 
 pub above : (q : ℕ) → unshifted (32768 + q) ≡ pos q
@@ -50,9 +47,9 @@ pub unfold_neg : (q : ℕ) → q ≤ 32768 → SFits w16 (neg_ℤ (pos q))
 unfold_neg zero h = record { sfits = omega arith }
 unfold_neg (suc k) h = record { sfits = omega arith }
 
-abbrev pub ValueFits : ElementValue → Type 0
-ValueFits (Ev.Is v) = SFits w16 v
-ValueFits Ev.Nothing = Unit {0}
+abbrev pub ValueFits : Option ℤ → Type 0
+ValueFits (Some v) = SFits w16 v
+ValueFits None = Unit {0}
 
 abbrev pub RawFits : Raw → Type 0
 RawFits Rw.ButtonReleased = Unit {0}
@@ -66,11 +63,11 @@ output_fits (El.Axis a) Ar.LowerHalf n d p = unfold_neg (n * 32768 / d) (scaled_
 output_fits (El.Axis a) Ar.Full n d p =
     let l = scaled_le n d 65535 p.within in unshifted_fits (n * 65535 / d) (omega arith)
 
-axis_fits : (e : AxisOrBtn) (half : AxisRange) (w : Bool) (p : Part) → ((n d : ℕ) → p ≡ Pt.Of n d → Proper n d)
+axis_fits : (e : AxisOrBtn) (half : AxisRange) (w : Bool) (p : Option (ℕ × ℕ)) → ((n d : ℕ) → p ≡ Some (n, d) → Proper n d)
     → ValueFits (axis_value e half w p)
-axis_fits e half true (Pt.Of n d) f = output_fits e half (d - n) d (turned_proper n d (f n d refl))
-axis_fits e half false (Pt.Of n d) f = output_fits e half n d (f n d refl)
-axis_fits e half w Pt.Nothing f = tt
+axis_fits e half true (Some (n, d)) f = output_fits e half (d - n) d (turned_proper n d (f n d refl))
+axis_fits e half false (Some (n, d)) f = output_fits e half n d (f n d refl)
+axis_fits e half w None f = tt
 
 pressed_fits : (e : AxisOrBtn) (half : AxisRange) → SFits w16 (pressed_value e half)
 pressed_fits (El.Btn b) half = record { sfits = omega arith }
@@ -103,16 +100,16 @@ raw_fits Rw.ButtonPressed w = tt
 raw_fits (Rw.AxisValueChanged v) w = within_fits v w
 
 -- a button's value is not below 0
-abbrev NotBelow : ElementValue → Type 0
-NotBelow (Ev.Is x) = pos 0 ≤ℤ x
-NotBelow Ev.Nothing = Unit {0}
+abbrev NotBelow : Option ℤ → Type 0
+NotBelow (Some x) = pos 0 ≤ℤ x
+NotBelow None = Unit {0}
 
 some : (k : ℕ) → 0 ≤ k
 some k = omega arith
 
-button_part : (b : Button) (half : AxisRange) (w : Bool) (p : Part) → NotBelow (axis_value (El.Btn b) half w p)
-button_part b half w (Pt.Of n d) = record { le = le→leb 0 (turned w n d * 32767 / d) (some (turned w n d * 32767 / d)) }
-button_part b half w Pt.Nothing = tt
+button_part : (b : Button) (half : AxisRange) (w : Bool) (p : Option (ℕ × ℕ)) → NotBelow (axis_value (El.Btn b) half w p)
+button_part b half w (Some (n, d)) = record { le = le→leb 0 (turned w n d * 32767 / d) (some (turned w n d * 32767 / d)) }
+button_part b half w None = tt
 
 button_value : (b : Button) (r : Ranges) (raw : Raw) → NotBelow (raw_value (El.Btn b) r raw)
 unfolding raw_value

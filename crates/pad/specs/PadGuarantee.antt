@@ -1,6 +1,6 @@
 -- What document 02, P13, promises of every list of raw events and map changes.
 -- The theorems `reader_agrees`, `reader_holds` and `pad_holds` rest on these definitions; they assume nothing.
-use Rattle.std.specs.Prelude.{◌≤◌, ◌<◌, ◌≡◌, Bool, true, false, not, ◌&&◌, List, [], ◌∷◌, eqb, leb, length, take, replicate, ℤ, pos}
+use Rattle.std.specs.Prelude.{◌≤◌, ◌<◌, ◌≡◌, Bool, true, false, not, ◌&&◌, List, [], ◌∷◌, eqb, leb, length, take, replicate, ℤ, pos, Ok, Err}
 use Rattle.text.specs.Bytes.{pick}
 use Rattle.line.specs.declared.ev.Code.{Code}
 use Rattle.line.specs.declared.ev.AxisOrBtn.{AxisOrBtn}
@@ -9,13 +9,13 @@ use Rattle.line.specs.declared.mapping.Entry.{Entry}
 use Rattle.line.specs.declared.mapping.Mapping.{Mapping}
 use Rattle.line.specs.Maps as M
 use Rattle.line.specs.Numbers.{shape_unit}
+use Rattle.pad.specs.Refusals.{too_many}
 use Rattle.pad.specs.declared.events.Raw.{Raw}
 use Rattle.pad.specs.declared.events.Held.{Held}
 use Rattle.pad.specs.declared.events.Event.{Event}
 use Rattle.pad.specs.declared.events.Events.{Events}
 use Rattle.pad.specs.declared.state.Pad.{Pad}
 use Rattle.pad.specs.declared.state.Told.{Told}
-use Rattle.pad.specs.declared.state.PadAnswer.TheVariants as Pa
 use Rattle.pad.specs.ValueClaims.{RawWithin}
 use Rattle.pad.specs.Pads.{held_max, element_count, put_held, values_of, hears}
 use Rattle.pad.specs.States.{held_of, entries_of, pad_values, new_pad, raw_event_of, change_map_of}
@@ -114,7 +114,7 @@ pub record PadHolds (cs : List PadCall) : Type 0 where
 abbrev pub RefusesAt256 : Type 0
 RefusesAt256 =
     (p : Pad) (c : Code) (raw : Raw) → RawWithin raw → length (held_of p) ≤ held_max → (raw_event_of p c raw).answer
-    ≡ pick (eqb (length (held_of p)) held_max && not (holds_code c (held_of p))) Pa.TooManyCodes Pa.Done
+    ≡ pick (eqb (length (held_of p)) held_max && not (holds_code c (held_of p))) (Err too_many) (Ok tt)
 
 -- a raw event tells one event at most
 abbrev pub OneEvent : Type 0

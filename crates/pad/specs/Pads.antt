@@ -1,19 +1,15 @@
 -- A pad while a game runs: the values of its elements, and its events (document 02, P13).
 -- Public contracts rest on these definitions; they assume nothing.
-use Rattle.std.specs.Prelude.{ℕ, zero, suc, ◌+◌, ◌-◌, Bool, false, ◌&&◌, List, [], ◌∷◌, eqb, ltb, leb, set, ℤ, pos, negsuc, nat_abs}
+use Rattle.std.specs.Prelude.{ℕ, zero, suc, ◌+◌, ◌-◌, Bool, false, ◌&&◌, List, [], ◌∷◌, eqb, ltb, leb, set, ℤ, pos, negsuc, nat_abs, Option, Some, None}
 use Rattle.text.specs.Bytes.{pick}
 use Rattle.line.specs.declared.ev.AxisOrBtn.{AxisOrBtn}
 use Rattle.line.specs.declared.ev.AxisOrBtn.TheVariants as El
 use Rattle.line.specs.declared.mapping.Entry.{Entry}
-use Rattle.line.specs.declared.mapping.Entered.{Entered}
-use Rattle.line.specs.declared.mapping.Entered.TheVariants as En
 use Rattle.line.specs.Elements.{button_last, axis_last, same_element}
 use Rattle.line.specs.Maps.{entry_at}
 use Rattle.pad.specs.declared.events.Raw.{Raw}
 use Rattle.pad.specs.declared.events.Held.{Held}
 use Rattle.pad.specs.declared.events.Event.{Event}
-use Rattle.pad.specs.declared.value.ElementValue.{ElementValue}
-use Rattle.pad.specs.declared.value.ElementValue.TheVariants as Ev
 use Rattle.pad.specs.Values.{entry_value}
 
 -- ---- "A pad state holds up to 256 codes with their last raw value, released buttons and axes at 0 included."
@@ -29,13 +25,13 @@ put_held h (x ∷ xs) = pick (eqb x.code.0 h.code.0) (h ∷ xs) (x ∷ put_held 
 -- ---- "An element's value is, of the values its codes give by P3, the farthest from zero, between equals that of the
 -- smallest code, and 0 if none."
 -- what a raw value gives to an element by an entry: "its codes" are those whose first entry is of that element
-abbrev pub given_by : Entered → Raw → AxisOrBtn → ElementValue
-given_by (En.Is e) raw el = pick (same_element e.element el) (entry_value e raw) Ev.Nothing
-given_by En.Absent raw el = Ev.Nothing
+abbrev pub given_by : Option Entry → Raw → AxisOrBtn → Option ℤ
+given_by (Some e) raw el = pick (same_element e.element el) (entry_value e raw) None
+given_by None raw el = None
 
 -- what a held code gives to an element: "A raw value that P3 gives no value, and a code outside the map, are held too
 -- and give their element nothing"
-abbrev pub gives : List Entry → Held → AxisOrBtn → ElementValue
+abbrev pub gives : List Entry → Held → AxisOrBtn → Option ℤ
 gives es h el = given_by (entry_at es h.code) h.raw el
 
 -- a code and the value that it gives, or none
@@ -51,9 +47,9 @@ preferred c v (chosen d w) =
     (pick (ltb (nat_abs v) (nat_abs w)) (chosen d w) (pick (ltb c d) (chosen c v) (chosen d w)))
 
 -- a value, if there is one, and what was chosen of the other codes
-abbrev pub prefer : ℕ → ElementValue → Chosen → Chosen
-prefer c (Ev.Is v) rest = preferred c v rest
-prefer c Ev.Nothing rest = rest
+abbrev pub prefer : ℕ → Option ℤ → Chosen → Chosen
+prefer c (Some v) rest = preferred c v rest
+prefer c None rest = rest
 
 -- of all that are held
 unfoldable pub choose : List Held → List Entry → AxisOrBtn → Chosen

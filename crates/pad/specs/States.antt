@@ -1,6 +1,6 @@
 -- A pad's state as the program holds it, and what its calls answer (document 02, P13).
 -- Public contracts rest on these definitions; they assume nothing.
-use Rattle.std.specs.Prelude.{ℕ, ◌+◌, ◌-◌, ◌*◌, ◌/◌, ◌%◌, List, [], ◌∷◌, ◌++◌, map, eqb, leb, ltb, length, take, drop, replicate, ℤ, pos, nat_abs, ◌+ℤ◌, ◌-ℤ◌}
+use Rattle.std.specs.Prelude.{ℕ, ◌+◌, ◌-◌, ◌*◌, ◌/◌, ◌%◌, List, [], ◌∷◌, ◌++◌, map, eqb, leb, ltb, length, take, drop, replicate, ℤ, pos, nat_abs, ◌+ℤ◌, ◌-ℤ◌, Ok, Err}
 use Rattle.text.specs.Bytes.{pick}
 use Rattle.line.specs.declared.ev.Code.{Code}
 use Rattle.line.specs.declared.ev.AxisOrBtn.{AxisOrBtn}
@@ -12,6 +12,7 @@ use Rattle.line.specs.Elements.{code_of}
 use Rattle.line.specs.Maps.{codes_max}
 use Rattle.line.specs.Numbers.{code_unit, entry_number, entry_in}
 use Rattle.line.specs.Maps as M
+use Rattle.pad.specs.Refusals.{too_many}
 use Rattle.pad.specs.declared.events.Raw.{Raw}
 use Rattle.pad.specs.declared.events.Raw.TheVariants as Rw
 use Rattle.pad.specs.declared.events.Held.{Held}
@@ -19,7 +20,6 @@ use Rattle.pad.specs.declared.events.Event.{Event}
 use Rattle.pad.specs.declared.events.Events.{Events}
 use Rattle.pad.specs.declared.state.Pad.{Pad}
 use Rattle.pad.specs.declared.state.Told.{Told}
-use Rattle.pad.specs.declared.state.PadAnswer.TheVariants as Pa
 use Rattle.pad.specs.Pads.{held_max, element_count, place_of, value_of, values_of, changes}
 
 -- ---- a held code as a number: its code in the upper half, its last raw value in the lower
@@ -76,7 +76,7 @@ events_in es = record { count = length es; list = es ++ replicate (element_count
 
 -- from a state to a state: "one event per element whose value changed"
 unfoldable pub told_of : Pad → Pad → Told
-told_of p q = record { answer = Pa.Done; pad = q; events = events_in (changes 0 (pad_values p) (pad_values q)) }
+told_of p q = record { answer = Ok tt; pad = q; events = events_in (changes 0 (pad_values p) (pad_values q)) }
 
 -- ---- a raw event
 -- a number among those of the held codes: in the place of the first one of its code, else after all of them
@@ -100,7 +100,7 @@ held_after_event p c raw = put_number (held_number c raw) (take p.count p.held)
 
 -- "Turned away: 27, a raw event for a 257th code, first check, state unchanged."
 unfoldable pub refused_of : Pad → Told
-refused_of p = record { answer = Pa.TooManyCodes; pad = p; events = events_in [] }
+refused_of p = record { answer = Err too_many; pad = p; events = events_in [] }
 
 -- a raw value of a code
 unfoldable pub raw_event_of : Pad → Code → Raw → Told

@@ -1,6 +1,6 @@
 -- What document 02, P3, claims of every raw axis value.
 -- The theorems `gives_back`, `never_smaller` and `within` rest on these definitions; they assume nothing.
-use Rattle.std.specs.Prelude.{◌≡◌, false, ℤ, pos, negsuc, ◌≤ℤ◌}
+use Rattle.std.specs.Prelude.{◌≡◌, false, ℤ, pos, negsuc, ◌≤ℤ◌, Some}
 use Rattle.line.specs.declared.ev.Axis.{Axis}
 use Rattle.line.specs.declared.ev.AxisOrBtn.{AxisOrBtn}
 use Rattle.line.specs.declared.ev.AxisOrBtn.TheVariants as El
@@ -10,7 +10,6 @@ use Rattle.line.specs.declared.parser.Ranges.{Ranges}
 use Rattle.line.specs.Maps.{full_ranges}
 use Rattle.pad.specs.declared.events.Raw.{Raw}
 use Rattle.pad.specs.declared.events.Raw.TheVariants as Rw
-use Rattle.pad.specs.declared.value.ElementValue.TheVariants as Ev
 use Rattle.pad.specs.Values.{raw_value}
 
 -- "Raw axis value v runs from -32768 to 32767", and so does each result
@@ -25,7 +24,7 @@ RawWithin (Rw.AxisValueChanged v) = Within v
 
 -- "An axis full to full without inversion gives v back."
 abbrev pub GivesBack : Type 0
-GivesBack = (a : Axis) (v : ℤ) → Within v → raw_value (El.Axis a) full_ranges (Rw.AxisValueChanged v) ≡ Ev.Is v
+GivesBack = (a : Axis) (v : ℤ) → Within v → raw_value (El.Axis a) full_ranges (Rw.AxisValueChanged v) ≡ Some v
 
 -- "With full or upper input"
 abbrev pub RisingInput : AxisRange → Type 0
@@ -48,8 +47,8 @@ upright input output = record { input = input; output = output; inverted = false
 abbrev pub NeverSmaller : Type 0
 NeverSmaller =
     (e : AxisOrBtn) (input output : AxisRange) → RisingInput input → RisingOutput e output → (v w : ℤ) → v ≤ℤ w
-    → (x y : ℤ) → raw_value e (upright input output) (Rw.AxisValueChanged v) ≡ Ev.Is x
-    → raw_value e (upright input output) (Rw.AxisValueChanged w) ≡ Ev.Is y → x ≤ℤ y
+    → (x y : ℤ) → raw_value e (upright input output) (Rw.AxisValueChanged v) ≡ Some x
+    → raw_value e (upright input output) (Rw.AxisValueChanged w) ≡ Some y → x ≤ℤ y
 
 -- an axis's results are within; a button's besides not below 0
 abbrev pub ResultWithin : AxisOrBtn → ℤ → Type 0
@@ -59,5 +58,5 @@ ResultWithin (El.Btn b) x = (pos 0 ≤ℤ x) × (x ≤ℤ pos 32767)
 -- of every raw value, with every range
 abbrev pub ResultsWithin : Type 0
 ResultsWithin =
-    (e : AxisOrBtn) (r : Ranges) (raw : Raw) → RawWithin raw → (x : ℤ) → raw_value e r raw ≡ Ev.Is x
+    (e : AxisOrBtn) (r : Ranges) (raw : Raw) → RawWithin raw → (x : ℤ) → raw_value e r raw ≡ Some x
     → ResultWithin e x

@@ -1,183 +1,128 @@
-// Which of the held codes an element takes its value from. Held codes and entries are numbers in lent arrays.
-ghost use Rattle.std.specs.Prelude.{◌≡◌, ◌≤◌, ◌<◌, [], length, take, get_or};
+// Which of the held codes an element takes its value from. Held codes and entries are numbers in lent slices.
+ghost use Rattle.std.specs.Prelude.{◌≡◌, ◌≤◌, ◌<◌, ◌/◌, ◌==◌, [], length, map, position};
 ghost use Rattle.line.specs.Maps.{entry_at};
-ghost use Rattle.pad.specs.Pads.{given_by, gives, choose, value_of};
-ghost use Rattle.pad.specs.Inner.{unshifted, value_number, helds_in, entries_in, distance_of, prefer_number, Holds};
-ghost use Rattle.pad.specs.Inner.{place_in, counted, own_from};
+ghost use Rattle.line.specs.Numbers.{code_unit, entry_in};
+ghost use Rattle.pad.specs.Pads.{gives, preferred, choose, value_of};
+ghost use Rattle.pad.specs.States.{held_in};
+ghost use Rattle.pad.specs.Inner.{chosen_by, own_numbers, counted, own_from, place_in};
 
-use crate::events::{Held, Raw};
-use crate::numbers::{CODE_UNIT, NONE, held_of, value_number};
+use crate::events::Held;
+use crate::numbers::{CODE_UNIT, held_of};
+use crate::own::Own;
 use crate::value::entry_value;
 use line::ev::{AxisOrBtn, Code};
-use line::mapping::{CODES_MAX, Entered, Entry};
+use line::mapping::Entry;
 
-// A code and the number of the value that it gives, or none.
+// A code and the value that it gives.
 #[derive(Clone, Copy)]
 pub struct Best {
     pub code: u32,
-    pub number: u32,
+    pub value: i16,
 }
 
-// The entries that count for an element, as numbers: the first `count` of the list.
-#[derive(Clone, Copy)]
-struct Own {
-    count: usize,
-    list: [u64; CODES_MAX],
+// The first place of a code among numbers of held codes or of entries.
+fn code_place(numbers: &[u64], code: Code) -> Option<usize>
+    ensures { result ≡ position (λ x. (x / code_unit) == code.0) numbers.now }
+{
+    numbers.iter().position(|x| *x / CODE_UNIT == code.0 as u64)
+}
+
+// The place of a code among those that are held; how many there are where it is not there, since a new code is put
+// there: the caller has one step for both.
+pub fn held_place(held: &[u64], code: Code) -> usize
+    ensures { (result ≡ place_in code.0 held.now) × (result ≤ length held.now) }
+{
+    match code_place(held, code) {
+        Some(i) => i,
+        None => held.len(),
+    }
 }
 
 // The first entry of a code.
-pub fn first_entry(entries: &[u64], m: usize, code: Code) -> Entered
-    requires { m ≤ length entries.now }
-    ensures { result ≡ entry_at (entries_in m entries.now) code }
+pub fn first_entry(entries: &[u64], code: Code) -> Option<Entry>
+    ensures { result ≡ entry_at (map entry_in entries.now) code }
 {
-    let mut j: usize = 0;
-    while j < m {
-        if entries[j] / CODE_UNIT == code.0 as u64 {
-            return Entered::Is(Entry::of_number(entries[j]));
-        }
-        j += 1;
+    let i = code_place(entries, code)?;
+    Some(Entry::of_number(entries[i]))
+}
+
+// What a held code gives to an element: the value of its first entry, if that is of the element.
+fn given(entries: &[u64], h: Held, el: AxisOrBtn) -> Option<i16>
+    ensures { result ≡ gives (map entry_in entries.now) h el }
+{
+    match first_entry(entries, h.code) {
+        Some(e) if e.element == el => entry_value(e, h.raw),
+        _ => None,
     }
-    Entered::Absent
-}
-
-// What a raw value gives to an element by the entry of its code, as a number.
-fn given_by(found: Entered, raw: Raw, el: AxisOrBtn) -> u32
-    ensures { result ≡ value_number (given_by found raw el) }
-{
-    match found {
-        Entered::Is(e) => {
-            let element = e.element;
-            if element.eq(el) {
-                return value_number(entry_value(e, raw));
-            }
-            NONE
-        }
-        Entered::Absent => NONE,
-    }
-}
-
-// What a held code gives to an element, as a number.
-fn given(entries: &[u64], m: usize, h: Held, el: AxisOrBtn) -> u32
-    requires { m ≤ length entries.now }
-    ensures { result ≡ value_number (gives (entries_in m entries.now) h el) }
-{
-    let code = h.code;
-    let raw = h.raw;
-    given_by(first_entry(entries, m, code), raw, el)
-}
-
-// How far the value of a number is from zero.
-pub fn distance(x: u32) -> u32
-    ensures { result ≡ distance_of x }
-{
-    if x < 32768 { 32768 - x } else { x - 32768 }
 }
 
 // The farther from zero of the two; between equals that of the smaller code.
-fn prefer(code: u32, number: u32, rest: Best) -> Best
-    ensures { result ≡ prefer_number code number rest }
+fn prefer(first: Best, rest: Option<Best>) -> Best
+    ensures { chosen_by (Some result) ≡ preferred first.code first.value (chosen_by rest) }
 {
-    let first = Best { code, number };
-    if number == NONE {
-        return rest;
-    }
-    if rest.number == NONE {
+    let Some(other) = rest else {
+        return first;
+    };
+    let far = first.value.unsigned_abs();
+    let beside = other.value.unsigned_abs();
+    if beside < far {
         return first;
     }
-    let far = distance(number);
-    let other = distance(rest.number);
-    if other < far {
-        return first;
+    if far < beside {
+        return other;
     }
-    if far < other {
-        return rest;
+    if first.code < other.code {
+        first
+    } else {
+        other
     }
-    if code < rest.code {
-        return first;
-    }
-    rest
 }
 
-// The code and the value that an element has.
-fn best_of(held: &[u64], n: usize, entries: &[u64], m: usize, el: AxisOrBtn) -> Best
-    requires { (n ≤ length held.now) × (m ≤ length entries.now) }
-    ensures { Holds result (choose (helds_in n held.now) (entries_in m entries.now) el) }
+// The code and the value that an element has. From the last code on, as the definition chooses.
+fn best_of(held: &[u64], entries: &[u64], el: AxisOrBtn) -> Option<Best>
+    ensures { chosen_by result ≡ choose (map held_in held.now) (map entry_in entries.now) el }
 {
-    let mut best = Best {
-        code: 0,
-        number: NONE,
-    };
-    let mut i = n;
-    while 0 < i {
-        i -= 1;
+    let mut best = None;
+    for i in (0..held.len()).rev() {
         let h = held_of(held[i]);
-        best = prefer(h.code.0, given(entries, m, h, el), best);
+        if let Some(value) = given(entries, h, el) {
+            let code = h.code.0;
+            best = Some(prefer(Best { code, value }, best));
+        }
     }
     best
 }
 
-// Whether the entry at a place counts for an element: it is of that element, and the first of its code.
-fn counts_for(entries: &[u64], j: usize, el: AxisOrBtn) -> bool
-    requires { j < length entries.now }
-    ensures { result ≡ counted el (take j entries.now) (get_or entries.now j 0) }
+// Whether an entry counts for an element, by those before it: it is of that element, and the first of its code.
+fn counts_for(before: &[u64], x: u64, el: AxisOrBtn) -> bool
+    ensures { result ≡ counted el before.now x }
 {
-    let e = Entry::of_number(entries[j]);
-    let element = e.element;
-    let code = e.code;
-    if element.eq(el) {
-        if held_place(entries, j, code) == j {
-            return true;
-        }
-    }
-    false
+    let e = Entry::of_number(x);
+    e.element == el && code_place(before, e.code).is_none()
 }
 
 // The entries that count for an element: the others are passed over once, and not for each held code.
-fn own_entries(entries: &[u64], m: usize, el: AxisOrBtn) -> Own
-    requires { (m ≤ length entries.now) × (m ≤ 256) }
-    ensures { (take result.count result.list ≡ own_from el [] (take m entries.now)) × (result.count ≤ 256) }
+fn own_entries(entries: &[u64], el: AxisOrBtn) -> Own
+    requires { length entries.now ≤ 256 }
+    ensures { own_numbers result ≡ own_from el [] entries.now }
 {
-    let mut list = [0u64; CODES_MAX];
-    let mut count: usize = 0;
-    let mut j: usize = 0;
-    while j < m {
-        if counts_for(entries, j, el) {
-            list[count] = entries[j];
-            count += 1;
-            j += 1;
-        } else {
-            j += 1;
+    let mut own = Own::new();
+    for (j, x) in entries.iter().enumerate() {
+        if counts_for(&entries[..j], *x, el) {
+            own.push(*x);
         }
     }
-    Own { count, list }
+    own
 }
 
-// The value of an element, as a number.
-pub fn element_number(held: &[u64], n: usize, entries: &[u64], m: usize, el: AxisOrBtn) -> u32
-    requires { (n ≤ length held.now) × (m ≤ length entries.now) × (m ≤ 256) }
-    ensures { (unshifted result ≡ value_of (helds_in n held.now) (entries_in m entries.now) el)
-        × (result < 65536) }
+// The value of an element; 0 where no code gives it one.
+pub fn element_value(held: &[u64], entries: &[u64], el: AxisOrBtn) -> i16
+    requires { length entries.now ≤ 256 }
+    ensures { result ≡ value_of (map held_in held.now) (map entry_in entries.now) el }
 {
-    let own = own_entries(entries, m, el);
-    let list = own.list;
-    let best = best_of(held, n, &list, own.count, el);
-    if best.number == NONE {
-        return 32768;
+    let own = own_entries(entries, el);
+    match best_of(held, own.numbers(), el) {
+        Some(best) => best.value,
+        None => 0,
     }
-    best.number
-}
-
-// The place of a code among those that are held; n where it is not there.
-pub fn held_place(held: &[u64], n: usize, code: Code) -> usize
-    requires { n ≤ length held.now }
-    ensures { (result ≡ place_in code.0 (take n held.now)) × (result ≤ n) }
-{
-    let mut i: usize = 0;
-    while i < n {
-        if held[i] / CODE_UNIT == code.0 as u64 {
-            return i;
-        }
-        i += 1;
-    }
-    n
 }

@@ -5,7 +5,7 @@ use line::ev::{AxisOrBtn, Button, Code};
 pub const ELEMENTS: usize = 27;
 
 // What a pad reports of a code: the event says whether it is a button's or an axis's, not the code.
-#[derive(Clone, Copy)]
+#[derive(Clone, Copy, PartialEq, Eq)]
 pub enum Raw {
     ButtonReleased,
     ButtonPressed,
@@ -13,14 +13,14 @@ pub enum Raw {
 }
 
 // A code with its last raw value.
-#[derive(Clone, Copy)]
+#[derive(Clone, Copy, PartialEq, Eq)]
 pub struct Held {
     pub code: Code,
     pub raw: Raw,
 }
 
 // An element's value.
-#[derive(Clone, Copy)]
+#[derive(Clone, Copy, PartialEq, Eq)]
 pub struct Event {
     pub element: AxisOrBtn,
     pub value: i16,
@@ -34,7 +34,7 @@ impl Event {
     };
 }
 
-// At most one event for each element.
+// At most one event for each element. The count stands beside the array, as in the struct that C reads.
 #[derive(Clone, Copy)]
 pub struct Events {
     pub count: usize,

@@ -3,9 +3,11 @@
 
 mod choice;
 pub mod events;
-mod lent;
 mod numbers;
+mod own;
+mod put;
 pub mod state;
 mod telling;
 pub mod two;
 pub mod value;
+mod values;

@@ -4,25 +4,14 @@ ghost use Rattle.pad.specs.Values.{part_of, output_of};
 ghost use Rattle.pad.specs.ValueClaims.{RawWithin};
 ghost use Rattle.line.specs.Numbers.{code_unit};
 ghost use Rattle.pad.specs.States.{raw_number, raw_in, held_number, held_in};
-ghost use Rattle.pad.specs.Inner.{shifted, unshifted, share_of, output_at, Proper, ProperPart, value_number};
+ghost use Rattle.pad.specs.Inner.{shifted, unshifted, share_of, output_at, Proper, ProperPart};
 
 use crate::events::{Held, Raw};
-use crate::value::ElementValue;
 use line::ev::{AxisOrBtn, Code};
 use line::parser::AxisRange;
 
 // What a code counts in the number of a held code, and in that of an entry.
 pub const CODE_UNIT: u64 = 4294967296;
-
-// The number of no value.
-pub const NONE: u32 = 65536;
-
-// n of d, or none.
-#[derive(Clone, Copy)]
-pub enum Part {
-    Of(u32, u32),
-    Nothing,
-}
 
 // A value counted from the least one.
 pub fn biased(v: i16) -> u32
@@ -40,35 +29,36 @@ pub fn unbiased(x: u32) -> i16
 }
 
 // The part of its input that a value is, by its number.
-fn share(x: u32, input: AxisRange) -> Part
+fn share(x: u32, input: AxisRange) -> Option<(u32, u32)>
     requires { x < 65536 }
     ensures { result ≡ share_of x input }
 {
     match input {
-        AxisRange::Full => Part::Of(x, 65535),
+        AxisRange::Full => Some((x, 65535)),
         AxisRange::UpperHalf => {
             if x < 32768 {
-                return Part::Nothing;
+                return None;
             }
-            Part::Of(x - 32768, 32767)
+            Some((x - 32768, 32767))
         }
         AxisRange::LowerHalf => {
             if 32768 < x {
-                return Part::Nothing;
+                return None;
             }
-            Part::Of(32768 - x, 32768)
+            Some((32768 - x, 32768))
         }
     }
 }
 
 // The part of its input that a value is.
-pub fn part_of(v: i16, input: AxisRange) -> Part
+pub fn part_of(v: i16, input: AxisRange) -> Option<(u32, u32)>
     ensures { (result ≡ part_of v input) × ProperPart result }
 {
     share(biased(v), input)
 }
 
-// The output that n of d is, by its number.
+// The output that n of d is, by its number. That n is at most d is asked of three functions here and needs no struct:
+// they pass one part from hand to hand.
 fn output(e: AxisOrBtn, half: AxisRange, n: u32, d: u32) -> u32
     requires { Proper n d }
     ensures { (result ≡ output_at e half n d) × (result < 65536) }
@@ -131,14 +121,4 @@ pub fn held_number(code: Code, raw: Raw) -> u64
     ensures { (result ≡ held_number code raw) × (result / code_unit ≡ code.0) × RawWithin raw }
 {
     code.0 as u64 * CODE_UNIT + raw_number(raw) as u64
-}
-
-// A value as a number, if there is one.
-pub fn value_number(v: ElementValue) -> u32
-    ensures { result ≡ value_number v }
-{
-    match v {
-        ElementValue::Is(x) => biased(x),
-        ElementValue::Nothing => NONE,
-    }
 }

@@ -7,16 +7,19 @@ ghost use Rattle.pad.specs.Refusals.{pad_outcome};
 ghost use Rattle.line.specs.Maps as specs;
 
 use crate::events::{Events, Raw};
-use crate::lent::{capped, put_code, value_of};
-use crate::telling::{all_numbers, change_events, differences};
+use crate::put::put_code;
+use crate::telling::{change_event, differences, events_of, no_events};
+use crate::values::{all_values, value_of};
 use line::ev::{AxisOrBtn, Code};
 use line::mapping::{CODES_MAX, Mapping};
-use line::refusal::{Outcome, Refusal};
+use line::refusal::Refusal;
 
 // The most codes that a pad holds.
 pub const HELD_MAX: usize = 256;
 
 // Held codes and the entries of the map, as numbers. Any numbers mean something: counts over 256 are read as 256.
+// The counts stand beside the arrays, and the codes are numbers, since a C program holds the same struct and hands it
+// in: a `Held` could not hold each number that may come in, and would ask more of that program.
 #[derive(Clone, Copy)]
 pub struct Pad {
     pub count: usize,
@@ -25,29 +28,25 @@ pub struct Pad {
     pub entries: [u64; CODES_MAX],
 }
 
-#[derive(Clone, Copy)]
-pub enum PadAnswer {
-    Done,
-    // A raw event for a 257th code.
-    TooManyCodes,
-}
+// A raw event for a 257th code.
+#[derive(Clone, Copy, PartialEq, Eq)]
+pub struct TooManyCodes;
 
-impl PadAnswer {
-    // The answer of a raw event or a change of map.
-    pub fn outcome(self) -> Outcome
-        ensures { result ≡ pad_outcome self }
-    {
-        match self {
-            PadAnswer::Done => Outcome::Passes,
-            PadAnswer::TooManyCodes => Outcome::Refuses(Refusal::plain(27)),
-        }
+// The answer of a raw event or a change of map, with the refusal's number. A match and not map_err: the one refusal
+// holds nothing to map, and each line here is tried with a wrong number.
+pub fn pad_outcome(answer: Result<(), TooManyCodes>) -> Result<(), Refusal>
+    ensures { result ≡ pad_outcome answer }
+{
+    match answer {
+        Ok(()) => Ok(()),
+        Err(TooManyCodes) => Err(Refusal::plain(27)),
     }
 }
 
 // What a call answers: the state after it, and the events.
 #[derive(Clone, Copy)]
 pub struct Told {
-    pub answer: PadAnswer,
+    pub answer: Result<(), TooManyCodes>,
     pub pad: Pad,
     pub events: Events,
 }
@@ -70,21 +69,18 @@ impl Pad {
     pub fn raw_event(self, code: Code, raw: Raw) -> Told
         ensures { (result ≡ raw_event_of self code raw) × RawWithin raw }
     {
-        let mut held = self.held;
-        let entries = self.entries;
-        let put = put_code(&mut held, self.count, &entries, self.entry_count, code, raw);
-        let answer = put.answer;
-        let change = put.change;
-        let events = change_events(change);
-        Told {
-            answer,
-            pad: Pad {
-                count: put.count,
-                held,
-                entry_count: self.entry_count,
-                entries,
+        let mut pad = self;
+        match put_code(&mut pad, code, raw) {
+            Ok(change) => Told {
+                answer: Ok(()),
+                pad,
+                events: events_of(change_event(change)),
             },
-            events,
+            Err(e) => Told {
+                answer: Err(e),
+                pad,
+                events: no_events(),
+            },
         }
     }
 
@@ -92,22 +88,13 @@ impl Pad {
     pub fn change_map(self, map: Mapping) -> Told
         ensures { (result ≡ change_map_of self map) × ShortAll (specs.held map) }
     {
-        let held = self.held;
-        let entries = self.entries;
-        let n = capped(self.count);
-        let before = all_numbers(&held, n, &entries, capped(self.entry_count));
-        let many = capped(map.count);
-        let later = entry_numbers(map);
-        let after = all_numbers(&held, n, &later, many);
+        let mut pad = self;
+        pad.entry_count = map.count.min(CODES_MAX);
+        pad.entries = entry_numbers(map);
         Told {
-            answer: PadAnswer::Done,
-            pad: Pad {
-                count: self.count,
-                held,
-                entry_count: many,
-                entries: later,
-            },
-            events: differences(&before, &after),
+            answer: Ok(()),
+            pad,
+            events: differences(&all_values(&self), &all_values(&pad)),
         }
     }
 
@@ -115,9 +102,7 @@ impl Pad {
     pub fn value(self, element: AxisOrBtn) -> i16
         ensures { result ≡ pad_value self element }
     {
-        let held = self.held;
-        let entries = self.entries;
-        value_of(&held, self.count, &entries, self.entry_count, element)
+        value_of(&self, element)
     }
 }
 
@@ -125,13 +110,11 @@ impl Pad {
 fn entry_numbers(map: Mapping) -> [u64; CODES_MAX]
     ensures { (result ≡ entry_numbers (specs.held map)) × ShortAll (specs.held map) }
 {
-    let n = capped(map.count);
-    let mut out = [0u64; CODES_MAX];
-    let mut i: usize = 0;
-    while i < n {
+    let n = map.count.min(CODES_MAX);
+    let mut numbers = [0u64; CODES_MAX];
+    for i in 0..n {
         let e = map.entries[i];
-        out[i] = e.number();
-        i += 1;
+        numbers[i] = e.number();
     }
-    out
+    numbers
 }

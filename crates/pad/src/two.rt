@@ -1,23 +1,17 @@
 // Two pads for one player: a second pad plays along.
-ghost use Rattle.std.specs.Prelude.{◌≡◌, [], ◌≤◌, ◌<◌, length, eqb, ltb, pos};
-ghost use Rattle.text.specs.Bytes.{pick};
-ghost use Rattle.pad.specs.declared.value.Emitted.TheVariants as Em;
-ghost use Rattle.pad.specs.Pads.{element_count, place_of, value_of, sameℤ};
+ghost use Rattle.std.specs.Prelude.{◌≡◌};
 ghost use Rattle.line.specs.Maps.{held};
 ghost use Rattle.pad.specs.ValueClaims.{RawWithin};
-ghost use Rattle.pad.specs.States.{events_in, raw_event_of};
+ghost use Rattle.pad.specs.States.{events_in};
 ghost use Rattle.pad.specs.PadGuarantee.{ShortAll, told_events};
-ghost use Rattle.pad.specs.TwoPads.{farther, pads_value, new_pads, pads_told_of, pads_raw_event_of, pads_change_map_of};
-ghost use Rattle.pad.specs.Inner.{unshifted, helds_in, entries_in, one_event, joined_of, joined_event, caught};
-ghost use Rattle.pad.specs.Inner.{refined, TellsItself, first_told, second_told};
+ghost use Rattle.pad.specs.TwoPads.{farther, pads_value, new_pads, pad_of, with_pad, pads_raw_event_of, pads_change_map_of};
+ghost use Rattle.pad.specs.Inner.{PutsCode, TellsFew, pad_beside, joined_of, joined_by, refined};
 
-use crate::choice::distance;
 use crate::events::{ELEMENTS, Event, Events, Raw};
-use crate::lent::{put_code, value_of};
-use crate::numbers::{biased, unbiased};
-use crate::state::{Pad, PadAnswer, Told};
-use crate::telling::{Change, no_events, one_event};
-use crate::value::Emitted;
+use crate::put::put_code;
+use crate::state::{Pad, TooManyCodes};
+use crate::telling::{Change, change_event, events_of, no_events};
+use crate::values::value_of;
 use line::ev::{AxisOrBtn, Code};
 use line::mapping::Mapping;
 
@@ -29,7 +23,7 @@ pub struct Pads {
 }
 
 // The pad that a call is for.
-#[derive(Clone, Copy)]
+#[derive(Clone, Copy, PartialEq, Eq)]
 pub enum Which {
     First,
     Second,
@@ -38,7 +32,7 @@ pub enum Which {
 // What a call answers: the state after it, and the events.
 #[derive(Clone, Copy)]
 pub struct PadsTold {
-    pub answer: PadAnswer,
+    pub answer: Result<(), TooManyCodes>,
     pub pads: Pads,
     pub events: Events,
 }
@@ -59,11 +53,18 @@ impl Pads {
     pub fn raw_event(self, which: Which, code: Code, raw: Raw) -> PadsTold
         ensures { (result ≡ pads_raw_event_of self which code raw) × RawWithin raw }
     {
-        let first = self.first;
-        let second = self.second;
-        match which {
-            Which::First => first_event(first, second, code, raw),
-            Which::Second => second_event(first, second, code, raw),
+        let mut pads = self;
+        match pads.put(which, code, raw) {
+            Ok(change) => PadsTold {
+                answer: Ok(()),
+                pads,
+                events: events_of(joined_change(which, change, pads.beside(which))),
+            },
+            Err(e) => PadsTold {
+                answer: Err(e),
+                pads,
+                events: no_events(),
+            },
         }
     }
 
@@ -71,11 +72,12 @@ impl Pads {
     pub fn change_map(self, which: Which, map: Mapping) -> PadsTold
         ensures { (result ≡ pads_change_map_of self which map) × ShortAll (held map) }
     {
-        let first = self.first;
-        let second = self.second;
-        match which {
-            Which::First => told_first(first, second, first.change_map(map)),
-            Which::Second => told_second(first, second, second.change_map(map)),
+        let own = self.pad(which);
+        let told = own.change_map(map);
+        PadsTold {
+            answer: told.answer,
+            pads: self.with_pad(which, told.pad),
+            events: joined_events(which, own, self.beside(which), told.events),
         }
     }
 
@@ -83,9 +85,59 @@ impl Pads {
     pub fn value(self, element: AxisOrBtn) -> i16
         ensures { result ≡ pads_value self element }
     {
-        let first = self.first;
-        let second = self.second;
-        farthest(first.value(element), second.value(element))
+        farthest(
+            value_of(&self.first, element),
+            value_of(&self.second, element),
+        )
+    }
+
+    // A raw value of a code put into the pad that a call is for, where it stands: a copy of two pads costs more.
+    fn put(&mut self, which: Which, code: Code, raw: Raw) -> Result<Option<Change>, TooManyCodes>
+        ensures told { PutsCode (pad_of which self.old) code raw result (pad_of which self.new) }
+        ensures there { self.new ≡ with_pad which self.old (pad_of which self.new) }
+        ensures within { RawWithin raw }
+    {
+        match which {
+            Which::First => put_code(&mut self.first, code, raw),
+            Which::Second => put_code(&mut self.second, code, raw),
+        }
+    }
+
+    // The pad that a call is for.
+    fn pad(&self, which: Which) -> &Pad
+        ensures { result.now ≡ pad_of which self.now }
+    {
+        match which {
+            Which::First => &self.first,
+            Which::Second => &self.second,
+        }
+    }
+
+    // The other one. A function of its own beside `pad`: its body is the same two lines the other way round, and a call
+    // with the other `Which` would need a function that turns it round.
+    fn beside(&self, which: Which) -> &Pad
+        ensures { result.now ≡ pad_beside which self.now }
+    {
+        match which {
+            Which::First => &self.second,
+            Which::Second => &self.first,
+        }
+    }
+
+    // The pads with another one in its place.
+    fn with_pad(self, which: Which, pad: Pad) -> Pads
+        ensures { result ≡ with_pad which self pad }
+    {
+        match which {
+            Which::First => Pads {
+                first: pad,
+                second: self.second,
+            },
+            Which::Second => Pads {
+                first: self.first,
+                second: pad,
+            },
+        }
     }
 }
 
@@ -93,212 +145,61 @@ impl Pads {
 fn farthest(a: i16, b: i16) -> i16
     ensures { result ≡ farther a b }
 {
-    if distance(biased(a)) < distance(biased(b)) {
+    if a.unsigned_abs() < b.unsigned_abs() {
         return b;
     }
     a
 }
 
-// An element's value by a pad and by the one beside it; `leads` is true for the first pad.
-fn joined(leads: bool, own: i16, beside: i16) -> i16
-    ensures { result ≡ joined_of leads own beside }
+// An element's value by a pad and by the one beside it, the first one's between equals.
+fn joined(which: Which, own: i16, beside: i16) -> i16
+    ensures { result ≡ joined_of which own beside }
 {
-    if leads {
-        return farthest(own, beside);
+    match which {
+        Which::First => farthest(own, beside),
+        Which::Second => farthest(beside, own),
     }
-    farthest(beside, own)
 }
 
-// An element's event by its value on a pad before and after, and by its value on the pad beside it.
-fn joined_values(leads: bool, element: AxisOrBtn, before: i16, later: i16, other: i16) -> Emitted
-    ensures { result ≡ pick (sameℤ (joined_of leads before other) (joined_of leads later other)) Em.Nothing
-        (Em.Is (one_event element (joined_of leads later other))) }
+// What becomes of a pad's change when another pad plays along.
+fn joined_change(which: Which, change: Option<Change>, beside: &Pad) -> Option<Event>
+    ensures { result ≡ joined_by which beside.now change }
 {
-    let was = joined(leads, before, other);
-    let value = joined(leads, later, other);
-    if biased(was) == biased(value) {
-        return Emitted::Nothing;
+    let c = change?;
+    if c.before == c.later {
+        return None;
     }
-    let told = Event { element, value };
-    Emitted::Is(told)
-}
-
-// What becomes of an event of a pad, as it was before, when another pad plays along.
-fn joined_event(leads: bool, own: Pad, beside: Pad, e: Event) -> Emitted
-    ensures { result ≡ joined_event leads own beside e }
-{
-    let element = e.element;
-    joined_values(
-        leads,
+    let element = c.element;
+    let other = value_of(beside, element);
+    let before = joined(which, c.before, other);
+    let later = joined(which, c.later, other);
+    change_event(Some(Change {
         element,
-        own.value(element),
-        e.value,
-        beside.value(element),
-    )
+        before,
+        later,
+    }))
 }
 
-// The value of an element on the other pad, whose state is lent; it is not asked for where nothing changed.
-fn value_beside(c: Change, held: &[u64], count: usize, entries: &[u64], entry_count: usize) -> i16
-    requires { (length held.now ≡ 256) × (length entries.now ≡ 256) }
-    ensures { result ≡ pick (eqb c.before c.later) (pos 0) (pick (ltb (place_of c.element) element_count)
-        (value_of (helds_in count held.now) (entries_in entry_count entries.now) c.element)
-        (pos 0)) }
+// What becomes of a pad's events, own being the pad as it was before.
+fn joined_events(which: Which, own: &Pad, beside: &Pad, told: Events) -> Events
+    requires { TellsFew told }
+    ensures { result ≡ events_in (refined which own.now beside.now (told_events told)) }
 {
-    if c.before == c.later {
-        return 0;
-    }
-    let element = c.element;
-    value_of(held, count, entries, entry_count, element)
-}
-
-// What becomes of a pad's change by the value of its element on the other pad.
-fn joined_change(leads: bool, c: Change, other: i16) -> Events
-    requires { (c.before < 65536) × (c.later < 65536) }
-    ensures { result ≡ events_in (pick (eqb c.before c.later) []
-        (caught (pick (sameℤ (joined_of leads (unshifted c.before) other)
-        (joined_of leads (unshifted c.later) other)) Em.Nothing
-        (Em.Is (one_event c.element (joined_of leads (unshifted c.later) other)))) [])) }
-{
-    if c.before == c.later {
-        return no_events();
-    }
-    let element = c.element;
-    match joined_values(leads, element, unbiased(c.before), unbiased(c.later), other) {
-        Emitted::Is(e) => one_event(e),
-        Emitted::Nothing => no_events(),
-    }
-}
-
-// A raw value of a code of the first pad.
-fn first_event(first: Pad, second: Pad, code: Code, raw: Raw) -> PadsTold
-    ensures { (result ≡ first_told first second (raw_event_of first code raw)) × RawWithin raw }
-{
-    let mut held = first.held;
-    let entries = first.entries;
-    let beside = second.held;
-    let others = second.entries;
-    let put = put_code(
-        &mut held,
-        first.count,
-        &entries,
-        first.entry_count,
-        code,
-        raw,
-    );
-    let answer = put.answer;
-    let change = put.change;
-    let other = value_beside(change, &beside, second.count, &others, second.entry_count);
-    let events = joined_change(true, change, other);
-    let after = Pad {
-        count: put.count,
-        held,
-        entry_count: first.entry_count,
-        entries,
-    };
-    PadsTold {
-        answer,
-        pads: Pads {
-            first: after,
-            second,
-        },
-        events,
-    }
-}
-
-// A raw value of a code of the second pad.
-fn second_event(first: Pad, second: Pad, code: Code, raw: Raw) -> PadsTold
-    ensures { (result ≡ second_told first second (raw_event_of second code raw)) × RawWithin raw }
-{
-    let mut held = second.held;
-    let entries = second.entries;
-    let beside = first.held;
-    let others = first.entries;
-    let put = put_code(
-        &mut held,
-        second.count,
-        &entries,
-        second.entry_count,
-        code,
-        raw,
-    );
-    let answer = put.answer;
-    let change = put.change;
-    let other = value_beside(change, &beside, first.count, &others, first.entry_count);
-    let events = joined_change(false, change, other);
-    let after = Pad {
-        count: put.count,
-        held,
-        entry_count: second.entry_count,
-        entries,
-    };
-    PadsTold {
-        answer,
-        pads: Pads {
-            first,
-            second: after,
-        },
-        events,
-    }
-}
-
-// What becomes of a pad's events.
-fn joined_events(leads: bool, own: Pad, beside: Pad, told: Events) -> Events
-    requires { (told.count ≤ 27) × (length told.list ≡ 27) }
-    ensures { result ≡ events_in (refined leads own beside (told_events told)) }
-{
-    let all = told.list;
     let mut list = [Event::UNUSED; ELEMENTS];
     let mut count: usize = 0;
-    let mut i: usize = 0;
-    while i < told.count {
-        match joined_event(leads, own, beside, all[i]) {
-            Emitted::Is(e) => {
-                list[count] = e;
-                count += 1;
-                i += 1;
-            }
-            Emitted::Nothing => {
-                i += 1;
-            }
+    for e in &told.list[..told.count] {
+        let element = e.element;
+        let before = value_of(own, element);
+        let later = e.value;
+        let change = Change {
+            element,
+            before,
+            later,
+        };
+        if let Some(joint) = joined_change(which, Some(change), beside) {
+            list[count] = joint;
+            count += 1;
         }
     }
     Events { count, list }
-}
-
-// The first pad's answer, told for both.
-fn told_first(first: Pad, second: Pad, told: Told) -> PadsTold
-    requires { TellsItself first told }
-    ensures { result ≡ first_told first second told }
-{
-    let answer = told.answer;
-    let next = told.pad;
-    let own = told.events;
-    let events = joined_events(true, first, second, own);
-    PadsTold {
-        answer,
-        pads: Pads {
-            first: next,
-            second,
-        },
-        events,
-    }
-}
-
-// The second pad's answer, told for both.
-fn told_second(first: Pad, second: Pad, told: Told) -> PadsTold
-    requires { TellsItself second told }
-    ensures { result ≡ second_told first second told }
-{
-    let answer = told.answer;
-    let next = told.pad;
-    let own = told.events;
-    let events = joined_events(false, second, first, own);
-    PadsTold {
-        answer,
-        pads: Pads {
-            first,
-            second: next,
-        },
-        events,
-    }
 }

@@ -6,26 +6,13 @@ ghost use Rattle.pad.specs.Values.{event_of};
 ghost use Rattle.pad.specs.Inner.{Proper};
 
 use crate::events::{Event, Raw};
-use crate::numbers::{Part, part_of, scaled};
+use crate::numbers::{part_of, scaled};
 use line::ev::{AxisOrBtn, Code};
-use line::mapping::{Entered, Entry, Mapping};
+use line::mapping::{Entry, Mapping};
 use line::parser::{AxisRange, Ranges};
 
-// The value of an element, if there is one.
-#[derive(Clone, Copy)]
-pub enum ElementValue {
-    Is(i16),
-    Nothing,
-}
-
-// An event, if there is one.
-#[derive(Clone, Copy)]
-pub enum Emitted {
-    Is(Event),
-    Nothing,
-}
-
-// The part that counts: the rest of d where it is inverted.
+// The part that counts: the rest of d where it is inverted. That n is at most d is said at the three functions that take
+// them: a type of its own for two numbers, made in one place and taken apart in the next, would be no plainer.
 fn turn(inverted: bool, n: u32, d: u32) -> u32
     requires { Proper n d }
     ensures { (result ≡ turned inverted n d) × Proper result d }
@@ -37,15 +24,13 @@ fn turn(inverted: bool, n: u32, d: u32) -> u32
 }
 
 // What a raw axis value gives.
-fn axis_value(e: AxisOrBtn, r: Ranges, v: i16) -> ElementValue
+fn axis_value(e: AxisOrBtn, r: Ranges, v: i16) -> Option<i16>
     ensures { result ≡ axis_value e r.output r.inverted (part_of v r.input) }
 {
     let input = r.input;
     let half = r.output;
-    match part_of(v, input) {
-        Part::Nothing => ElementValue::Nothing,
-        Part::Of(n, d) => { ElementValue::Is(scaled(e, half, turn(r.inverted, n, d), d)) }
-    }
+    let (n, d) = part_of(v, input)?;
+    Some(scaled(e, half, turn(r.inverted, n, d), d))
 }
 
 // What a raw button gives that is pressed.
@@ -63,21 +48,21 @@ fn pressed_value(e: AxisOrBtn, half: AxisRange) -> i16
 }
 
 // What a raw value gives to an element with those ranges.
-fn raw_value(e: AxisOrBtn, r: Ranges, raw: Raw) -> ElementValue
+fn raw_value(e: AxisOrBtn, r: Ranges, raw: Raw) -> Option<i16>
     ensures { result ≡ raw_value e r raw }
 {
     match raw {
-        Raw::ButtonReleased => ElementValue::Is(0),
+        Raw::ButtonReleased => Some(0),
         Raw::ButtonPressed => {
             let half = r.output;
-            ElementValue::Is(pressed_value(e, half))
+            Some(pressed_value(e, half))
         }
         Raw::AxisValueChanged(v) => axis_value(e, r, v),
     }
 }
 
 // What a raw value gives to the element of an entry: a value, or none.
-pub fn entry_value(e: Entry, raw: Raw) -> ElementValue
+pub fn entry_value(e: Entry, raw: Raw) -> Option<i16>
     ensures { result ≡ entry_value e raw }
 {
     let element = e.element;
@@ -85,25 +70,19 @@ pub fn entry_value(e: Entry, raw: Raw) -> ElementValue
     raw_value(element, ranges, raw)
 }
 
-fn entry_event(e: Entry, raw: Raw) -> Emitted
+fn entry_event(e: Entry, raw: Raw) -> Option<Event>
     ensures { result ≡ emitted_by e raw }
 {
-    match entry_value(e, raw) {
-        ElementValue::Is(value) => {
-            let element = e.element;
-            let told = Event { element, value };
-            Emitted::Is(told)
-        }
-        ElementValue::Nothing => Emitted::Nothing,
-    }
+    let value = entry_value(e, raw)?;
+    let element = e.element;
+    Some(Event { element, value })
 }
 
 // What a raw value of a code gives by a map: its element and the value, or none.
-pub fn event(map: Mapping, code: Code, raw: Raw) -> Emitted
+#[tactic(auto, unfolding(crate::specs::Values::event_of))]
+pub fn event(map: Mapping, code: Code, raw: Raw) -> Option<Event>
     ensures { result ≡ event_of (held map) code raw }
 {
-    match map.entry(code) {
-        Entered::Is(e) => entry_event(e, raw),
-        Entered::Absent => Emitted::Nothing,
-    }
+    let e = map.entry(code)?;
+    entry_event(e, raw)
 }

@@ -1,84 +1,49 @@
-// Cases of a store: a history of clear and insert, and what is then found; the hall's, as the Rust has no parties.
-use crate::builds::uuid_of;
-use crate::fields::{rest, word};
-use store::calls::{Answer, Look, clear, found, get, insert};
+// Cases of a store: a history of clear and insert, and what is then found; the hall's, as the Rust has no parties. The
+// two buffers stand beside each other in each case, as the store's own calls take them.
+use parts::cuts::{rest, word};
+use parts::numbers::uuid_or;
+use std::alloc::{AllocError, Global};
+use store::calls::{clear, found, get, insert};
 use store::parties::Party;
-use text::bytes::{same_bytes, write_bytes};
+use text::uuid::Uuid;
 
 // The most bytes of a text that is inserted.
 const TEXT_MAX: usize = 20480;
 
-fn is_done(a: Answer) -> bool {
-    match a {
-        Answer::Done => true,
-        Answer::NotUtf8(_) => false,
-        Answer::Unsound => false,
-        Answer::LineTooLong => false,
-        Answer::NoRoom => false,
-        Answer::BufferTooLarge => false,
-        Answer::NoOwner => false,
-        Answer::NoText => false,
-        Answer::ShareTooLarge => false,
-    }
-}
-
 pub fn clear_case(index: &mut [u8], text: &mut [u8]) -> bool {
-    is_done(clear(index, text))
+    clear(index, text).is_ok()
 }
 
-// `|` stands for LF.
-fn spelled(b: u8) -> u8 {
-    if b == b'|' {
-        return b'\n';
+// `insert TEXT`: `|` stands for LF.
+pub fn insert_case(
+    alloc: Global,
+    args: &[u8],
+    index: &mut [u8],
+    text: &mut [u8],
+) -> Result<bool, AllocError> {
+    if TEXT_MAX < args.len() {
+        return Ok(false);
     }
-    b
+    let mut lines = Vec::new(alloc);
+    for b in args {
+        lines.push(if *b == b'|' { b'\n' } else { *b })?;
+    }
+    let inserted = insert(index, text, Party::Hall, &lines);
+    Ok(inserted.answer.is_ok())
 }
 
-fn with_lf(s: &mut [u8]) {
-    for b in s.iter_mut() {
-        *b = spelled(*b);
-    }
-}
-
-// `insert TEXT`
-pub fn insert_case(args: &[u8], index: &mut [u8], text: &mut [u8]) -> bool {
-    let mut space = [0u8; TEXT_MAX];
-    let n = args.len();
-    if TEXT_MAX < n {
-        return false;
-    }
-    write_bytes(&mut space, 0, args);
-    with_lf(&mut space);
-    let inserted = insert(index, text, Party::Hall, &space[..n]);
-    let answer = inserted.answer;
-    is_done(answer)
-}
-
-fn is_found(l: Look) -> bool {
-    match l {
-        Look::Found => true,
-        Look::Missing => false,
-        Look::Unsound => false,
-        Look::NoOwner => false,
-    }
+fn id_in(args: &[u8]) -> Uuid {
+    uuid_or(word(args), Uuid::NIL)
 }
 
 // `get UUID LINE`
 pub fn get_case(args: &[u8], index: &[u8], text: &[u8]) -> bool {
-    let id = uuid_of(word(args));
-    if !is_found(found(index, text, Party::Hall, id)) {
-        return false;
-    }
-    same_bytes(get(index, text, Party::Hall, id), rest(args))
+    let id = id_in(args);
+    matches!(found(index, text, Party::Hall, id), Ok(true))
+        && get(index, text, Party::Hall, id) == rest(args)
 }
 
 // `none UUID`
 pub fn none_case(args: &[u8], index: &[u8], text: &[u8]) -> bool {
-    let id = uuid_of(word(args));
-    match found(index, text, Party::Hall, id) {
-        Look::Missing => true,
-        Look::Found => false,
-        Look::Unsound => false,
-        Look::NoOwner => false,
-    }
+    matches!(found(index, text, Party::Hall, id_in(args)), Ok(false))
 }

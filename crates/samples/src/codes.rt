@@ -1,72 +1,24 @@
 // Lists of codes.
-use crate::cases::{after_part, hex_number, number, part_at};
+use parts::cuts::{before, first};
+use parts::numbers::{number, numbered};
+use std::alloc::{AllocError, Global};
 
-const LONGEST: usize = 1025;
-
-#[derive(Clone, Copy)]
-pub struct Codes {
-    pub list: [u32; LONGEST],
-    pub len: usize,
-}
-
-// The codes 1 to 1025.
-pub fn numbered() -> [u32; LONGEST] {
-    let mut list = [0u32; LONGEST];
-    let mut code: u32 = 1;
-    for i in 0..LONGEST {
-        list[i] = code;
-        code = std::num::wrapping_add_u32(code, 1);
-    }
-    list
-}
-
-// The first codes of a list, or all where there are fewer.
-pub fn first(list: &[u32], n: usize) -> &[u32] {
-    if n <= list.len() {
-        return &list[..n];
-    }
-    list
-}
-
-// One code more; none past the end.
-fn with(codes: Codes, code: u32) -> Codes {
-    let n = codes.len;
-    if n < LONGEST {
-        let mut next = codes;
-        next.list[n] = code;
-        next.len = n + 1;
-        return next;
-    }
-    codes
+// The number that hexadecimal digits spell, modulo 2^32; what is no digit counts as 0.
+pub fn hex_number(s: &[u8]) -> u32 {
+    s.iter().fold(0, |n, b| n << 4 | char::from(*b).to_digit(16).unwrap_or(0))
 }
 
 // The list that a word spells: `10130,10131`; `#5` is the codes 1 to 5, `-` none.
-pub fn codes_of(s: &[u8]) -> Codes {
-    if s.len() == 0 {
-        return listed(s);
+pub fn codes_of(alloc: Global, s: &[u8]) -> Result<Vec<u32>, AllocError> {
+    let mut codes = Vec::new(alloc);
+    match s {
+        [b'#', count @ ..] => codes.extend_from_slice(first(&numbered(), number(count)))?,
+        [b'-', ..] => {}
+        _ => {
+            for code in s.split_inclusive(|b| *b == b',') {
+                codes.push(hex_number(before(code, b',')))?;
+            }
+        }
     }
-    if s[0] == b'#' {
-        let list = numbered();
-        return Codes {
-            list,
-            len: number(&s[1..]),
-        };
-    }
-    if s[0] == b'-' {
-        return listed(&s[1..]);
-    }
-    listed(s)
-}
-
-fn listed(s: &[u8]) -> Codes {
-    let mut codes = Codes {
-        list: [0u32; LONGEST],
-        len: 0,
-    };
-    let mut at: usize = 0;
-    while at < s.len() {
-        codes = with(codes, hex_number(part_at(s, at, b',')));
-        at = after_part(s, at, b',');
-    }
-    codes
+    Ok(codes)
 }

@@ -3,7 +3,6 @@
 #![tactic(auto)]
 
 mod build_cases;
-mod cases;
 mod codes;
 mod element_cases;
 mod form_cases;
@@ -12,245 +11,135 @@ mod many_cases;
 mod pad_cases;
 mod regroup_cases;
 mod slot_cases;
+mod spelled;
 mod text_cases;
-mod written;
 
-ghost use Rattle.std.specs.Prelude.{◌≤◌, IfOk};
-
-use cases::{after_part, part_at, rest, word};
+use parts::cuts::{before, is_blank, rest, word};
+use parts::totals::Totals;
 use std::io::Read;
 use std::rt::Files;
 use std::{fs, io};
-use text::bytes::same_bytes;
 
 // The most bytes of a list.
 const LIST_ROOM: u64 = 65536;
 
-// How many cases were run, and how many of them went wrong.
-#[derive(Clone, Copy)]
-struct Totals {
-    cases: u64,
-    wrong: u64,
-}
-
-// A group that was run, and where the next one starts.
-#[derive(Clone, Copy)]
-struct Group {
-    totals: Totals,
-    next: usize,
-}
-
-// Whether a line has a title, and not a case.
-fn is_title(line: &[u8]) -> bool {
-    same_bytes(word(line), b"==")
-}
-
-// Whether a line has no case: it is empty, or a comment.
-fn is_blank(line: &[u8]) -> bool {
-    if line.len() == 0 {
-        return true;
-    }
-    line[0] == b'#'
-}
-
-// Runs one case of the text layer, by its first word.
-fn run_text_case(kind: &[u8], args: &[u8]) -> bool {
-    if same_bytes(kind, b"utf8") {
-        return text_cases::utf8_case(args);
-    }
-    if same_bytes(kind, b"uuid") {
-        return text_cases::uuid_case(args);
-    }
-    if same_bytes(kind, b"form") {
-        return form_cases::form_case(args);
-    }
-    if same_bytes(kind, b"first-form") {
-        return form_cases::first_form_case(args);
-    }
-    if same_bytes(kind, b"index") {
-        return text_cases::index_case(args);
-    }
-    if same_bytes(kind, b"put-index") {
-        return text_cases::put_index_case(args);
-    }
-    if same_bytes(kind, b"put-uuid") {
-        return text_cases::put_uuid_case(args);
-    }
-    false
-}
-
-// Runs one case of the element calls.
-fn run_element_case(rt: &impl Print, kind: &[u8], args: &[u8]) -> io::Result<bool> {
-    if same_bytes(kind, b"button") {
-        return element_cases::button_case(rt, args);
-    }
-    if same_bytes(kind, b"axis") {
-        return element_cases::axis_case(rt, args);
-    }
-    if same_bytes(kind, b"element") {
-        return element_cases::element_case(rt, args);
-    }
-    if same_bytes(kind, b"map") {
-        return element_cases::map_case(rt, args);
-    }
-    if same_bytes(kind, b"map-rev") {
-        return element_cases::map_rev_case(rt, args);
-    }
-    if same_bytes(kind, b"entry") {
-        return element_cases::entry_case(rt, args);
-    }
-    if same_bytes(kind, b"number") {
-        return element_cases::number_case(rt, args);
-    }
-    Ok(run_text_case(kind, args))
-}
-
-// Runs one case of the pad layer.
-fn run_pad_case(rt: &impl Print, kind: &[u8], args: &[u8]) -> io::Result<bool> {
-    if same_bytes(kind, b"value") {
-        return pad_cases::value_case(rt, args);
-    }
-    if same_bytes(kind, b"event") {
-        return pad_cases::event_case(rt, args);
-    }
-    run_element_case(rt, kind, args)
-}
-
-// Runs one case of the map layer.
-fn run_map_case(rt: &impl Print, kind: &[u8], args: &[u8]) -> io::Result<bool> {
-    if same_bytes(kind, b"build") {
-        return build_cases::build_case(rt, args);
-    }
-    if same_bytes(kind, b"slots") {
-        return slot_cases::slots_case(rt, args);
-    }
-    if same_bytes(kind, b"default") {
-        return slot_cases::default_case(rt, args);
-    }
-    run_pad_case(rt, kind, args)
-}
+const FILES: [&str; 4] = ["text.txt", "line.txt", "map.txt", "pad.txt"];
 
 // Runs one case, by its first word. A kind that nobody knows is wrong.
-fn run_case(rt: &impl Print, line: &[u8]) -> io::Result<bool> {
-    let kind = word(line);
+fn run_case<R: Print + AllocGlobal>(rt: &R, line: &[u8]) -> io::Result<bool> {
     let args = rest(line);
-    if same_bytes(kind, b"walk") {
-        return line_cases::walk_case(rt, args);
+    match word(line) {
+        b"utf8" => Ok(text_cases::utf8_case(args)),
+        b"uuid" => Ok(text_cases::uuid_case(args)),
+        b"form" => Ok(form_cases::form_case(args)),
+        b"first-form" => Ok(form_cases::first_form_case(args)),
+        b"index" => Ok(text_cases::index_case(args)),
+        b"put-index" => Ok(text_cases::put_index_case(args)),
+        b"put-uuid" => Ok(text_cases::put_uuid_case(args)),
+        b"button" => element_cases::button_case(rt, args),
+        b"axis" => element_cases::axis_case(rt, args),
+        b"element" => element_cases::element_case(rt, args),
+        b"map" => element_cases::map_case(rt, args),
+        b"map-rev" => element_cases::map_rev_case(rt, args),
+        b"entry" => element_cases::entry_case(rt, args),
+        b"number" => element_cases::number_case(rt, args),
+        b"value" => pad_cases::value_case(rt, args),
+        b"event" => pad_cases::event_case(rt, args),
+        b"build" => build_cases::build_case(rt, args),
+        b"slots" => slot_cases::slots_case(rt, args),
+        b"default" => slot_cases::default_case(rt, args),
+        b"walk" => line_cases::walk_case(rt, args),
+        b"count" => line_cases::count_case(rt, args),
+        b"read" => line_cases::read_case(rt, args),
+        b"many" => many_cases::many_case(rt, args),
+        b"same" => regroup_cases::same_case(rt, args),
+        _ => Ok(false),
     }
-    if same_bytes(kind, b"count") {
-        return line_cases::count_case(rt, args);
-    }
-    if same_bytes(kind, b"read") {
-        return line_cases::read_case(rt, args);
-    }
-    if same_bytes(kind, b"many") {
-        return many_cases::many_case(rt, args);
-    }
-    if same_bytes(kind, b"same") {
-        return regroup_cases::same_case(rt, args);
-    }
-    run_map_case(rt, kind, args)
 }
 
-// Counts one case more.
-fn counted(rt: &impl Print, totals: Totals, right: bool, line: &[u8]) -> io::Result<Totals> {
-    let cases = std::num::wrapping_add_u64(totals.cases, 1);
-    if right {
-        return Ok(Totals {
-            cases,
-            wrong: totals.wrong,
-        });
-    }
-    rt.write_all(b"\n  wrong: ")?;
-    rt.write_all(line)?;
-    rt.write_all(b"\n  ")?;
-    Ok(Totals {
-        cases,
-        wrong: std::num::wrapping_add_u64(totals.wrong, 1),
-    })
+// The groups that have ended, and the one that is open.
+#[derive(Clone, Copy)]
+struct Run {
+    all: Totals,
+    group: Option<Totals>,
 }
 
-// Runs the cases from `at` on, up to the next title.
-fn run_group(rt: &impl Print, list: &[u8], at: usize) -> io::Result<Group>
-    ensures { IfOk result (λ group. at ≤ group.next) }
-{
-    let mut totals = Totals { cases: 0, wrong: 0 };
-    let mut next = at;
-    while next < list.len() {
-        let line = part_at(list, next, b'\n');
-        if is_title(line) {
-            return Ok(Group { totals, next });
+impl Run {
+    // Ends the group that is open, and prints how it went.
+    fn ended(self, rt: &impl Print) -> io::Result<Run> {
+        let Some(group) = self.group else {
+            return Ok(self);
+        };
+        println!(rt; "{group}")?;
+        Ok(Run {
+            all: self.all.and(group),
+            group: None,
+        })
+    }
+
+    // Opens the group of a title.
+    fn titled(self, rt: &impl Print, title: &[u8]) -> io::Result<Run> {
+        let run = self.ended(rt)?;
+        rt.write_all(title)?;
+        rt.write_all(b": ")?;
+        Ok(Run {
+            all: run.all,
+            group: Some(Totals::NONE),
+        })
+    }
+
+    // Runs a line of the group that is open; before the first title none is.
+    fn line<R: Print + AllocGlobal>(self, rt: &R, line: &[u8]) -> io::Result<Run> {
+        let Some(group) = self.group else {
+            return Ok(self);
+        };
+        let right = run_case(rt, line)?;
+        if !right {
+            rt.write_all(b"\n  wrong: ")?;
+            rt.write_all(line)?;
+            rt.write_all(b"\n  ")?;
         }
-        if !is_blank(line) {
-            totals = counted(rt, totals, run_case(rt, line)?, line)?;
-        }
-        next = after_part(list, next, b'\n');
-    }
-    Ok(Group { totals, next })
-}
-
-fn say_totals(rt: &impl Print, totals: Totals) -> io::Result<()> {
-    let cases = totals.cases;
-    let wrong = totals.wrong;
-    println!(rt; "{cases} cases, {wrong} wrong")
-}
-
-// Prints a title, runs its group, and prints how it went.
-fn run_titled(rt: &impl Print, title: &[u8], list: &[u8], from: usize) -> io::Result<Group>
-    ensures { IfOk result (λ group. from ≤ group.next) }
-{
-    rt.write_all(rest(title))?;
-    rt.write_all(b": ")?;
-    let group = run_group(rt, list, from)?;
-    let totals = group.totals;
-    say_totals(rt, totals)?;
-    Ok(group)
-}
-
-// Both together.
-fn added(a: Totals, b: Totals) -> Totals {
-    Totals {
-        cases: std::num::wrapping_add_u64(a.cases, b.cases),
-        wrong: std::num::wrapping_add_u64(a.wrong, b.wrong),
+        Ok(Run {
+            all: self.all,
+            group: Some(group.counted(right)),
+        })
     }
 }
 
 // Runs a whole list, and prints a line per group.
-fn run_list(rt: &impl Print, list: &[u8]) -> io::Result<Totals> {
-    let mut all = Totals { cases: 0, wrong: 0 };
-    let mut at: usize = 0;
-    while at < list.len() {
-        let line = part_at(list, at, b'\n');
-        at = after_part(list, at, b'\n');
-        if is_title(line) {
-            let group = run_titled(rt, line, list, at)?;
-            let totals = group.totals;
-            all = added(all, totals);
-            at = group.next;
+fn run_list<R: Print + AllocGlobal>(rt: &R, list: &[u8]) -> io::Result<Totals> {
+    let mut run = Run {
+        all: Totals::NONE,
+        group: None,
+    };
+    for ended in list.split_inclusive(|b| *b == b'\n') {
+        let line = before(ended, b'\n');
+        if matches!(word(line), b"==") {
+            run = run.titled(rt, rest(line))?;
+        } else if !is_blank(line) {
+            run = run.line(rt, line)?;
         }
     }
-    Ok(all)
+    Ok(run.ended(rt)?.all)
 }
 
-// Runs the list in a file of at most 65536 bytes.
+// Runs the list in a file of at most 65536 bytes. A file that is not there is one wrong. The test programs print a list,
+// and a file that is not there, each in its own words, so each has this function.
 fn run_file<R: Files + Print + AllocGlobal>(rt: &R, path: &str) -> io::Result<Totals> {
-    match fs::open(rt, path) {
-        Ok(file) => {
-            let mut list = Vec::new(rt.alloc());
-            file.take(LIST_ROOM).read_to_end(&mut list)?;
-            run_list(rt, &list)
-        }
-        Err(_) => {
-            println!(rt; "no file {path}")?;
-            Ok(Totals { cases: 0, wrong: 1 })
-        }
-    }
+    let Ok(file) = fs::open(rt, path) else {
+        println!(rt; "no file {path}")?;
+        return Ok(Totals { cases: 0, wrong: 1 });
+    };
+    let mut list = Vec::new(rt.alloc());
+    file.take(LIST_ROOM).read_to_end(&mut list)?;
+    run_list(rt, &list)
 }
 
+// Runs all lists. Shared with the other test programs it would be handed their files and `run_file`, and be no shorter.
 fn main(rt: HostRuntime) -> io::Result<()> {
-    let text = run_file(&rt, "text.txt")?;
-    let line = run_file(&rt, "line.txt")?;
-    let map = run_file(&rt, "map.txt")?;
-    let pad = run_file(&rt, "pad.txt")?;
-    say_totals(&rt, added(added(text, line), added(map, pad)))
+    let mut all = Totals::NONE;
+    for path in FILES {
+        all = all.and(run_file(&rt, path)?);
+    }
+    println!(rt; "{all}")
 }

@@ -1,89 +1,52 @@
 // Cases of the pad layer: what a raw value gives. It is `pressed`, `released` or an axis value, as `-5`; an answer is a
 // value, or `-` where there is none.
-ghost use Rattle.std.specs.Prelude.{◌<◌};
-
-use crate::cases::{number, rest, short, word};
 use crate::element_cases::{element, odd_map, ranges};
-use crate::written::Text;
+use crate::spelled::{OrDash, is};
 use line::ev::Code;
 use line::mapping::Entry;
-use pad::events::Raw;
-use pad::value::{ElementValue, Emitted, entry_value, event};
-use std::io;
-use text::bytes::same_bytes;
+use pad::events::{Event, Raw};
+use pad::value::{entry_value, event};
+use parts::cuts::{rest, word};
+use parts::numbers::{number, short};
+use spelling::Element;
+use std::{fmt, io};
 
-// A value counted from the least one.
-fn biased(v: i16) -> u32 {
-    (v as i32 + 32768) as u32
-}
-
-// And back.
-fn unbiased(x: u32) -> i16
-    requires { x < 65536 }
-{
-    (x as i32 - 32768) as i16
-}
-
-// The value that a word is, counted from the least one.
-fn shifted(s: &[u8]) -> u32 {
-    if s.len() == 0 {
-        return 0;
-    }
-    if s[0] == b'-' {
-        return std::num::wrapping_sub_u32(32768, short(&s[1..]) as u32);
-    }
-    std::num::wrapping_add_u32(32768, short(s) as u32)
-}
-
+// A value is taken modulo 65536; a word that is none is -1, the empty one the least.
 fn raw_of(s: &[u8]) -> Raw {
-    if same_bytes(s, b"pressed") {
-        return Raw::ButtonPressed;
+    match s {
+        b"pressed" => Raw::ButtonPressed,
+        b"released" => Raw::ButtonReleased,
+        [] => Raw::AxisValueChanged(i16::MIN),
+        [b'-', digits @ ..] => Raw::AxisValueChanged(short(digits).cast_signed().wrapping_neg()),
+        _ => Raw::AxisValueChanged(short(s).cast_signed()),
     }
-    if same_bytes(s, b"released") {
-        return Raw::ButtonReleased;
-    }
-    let x = shifted(s) % 65536;
-    Raw::AxisValueChanged(unbiased(x))
-}
-
-fn valued(out: Text, v: i16) -> Text {
-    let x = biased(v);
-    if x < 32768 {
-        return out
-            .byte(b'-')
-            .number(std::num::wrapping_sub_u32(32768, x) as usize);
-    }
-    out.number(std::num::wrapping_sub_u32(x, 32768) as usize)
 }
 
 // `value ELEMENT RANGES RAW ANSWER`: what a raw value gives by an entry.
-pub fn value_case(rt: &impl Print, args: &[u8]) -> io::Result<bool> {
+pub fn value_case<R: Print + AllocGlobal>(rt: &R, args: &[u8]) -> io::Result<bool> {
     let halves = rest(args);
     let raw = rest(halves);
     let e = Entry::ranged(Code(5), element(word(args)), ranges(word(halves)));
-    let given = entry_value(e, raw_of(word(raw)));
-    let out = match given {
-        ElementValue::Is(v) => valued(Text::new(), v),
-        ElementValue::Nothing => Text::new().byte(b'-'),
-    };
-    out.is(rt, rest(raw))
+    let out = format!(in rt.alloc(); "{}", OrDash(entry_value(e, raw_of(word(raw)))))?;
+    is(rt, out.as_bytes(), rest(raw))
+}
+
+// `b1=-5`: an element and its value.
+#[derive(Clone, Copy)]
+struct EventText(Event);
+
+impl fmt::Display for EventText {
+    fn fmt<W: fmt::Write>(&self, f: &mut fmt::Formatter<W>) -> fmt::Result {
+        write!(f, "{}={}", Element(self.0.element), self.0.value)
+    }
 }
 
 // `event COUNT CODE RAW ANSWER`: the element that a raw value of a code gives a value in the odd map, and the value.
-pub fn event_case(rt: &impl Print, args: &[u8]) -> io::Result<bool> {
+pub fn event_case<R: Print + AllocGlobal>(rt: &R, args: &[u8]) -> io::Result<bool> {
     let code = rest(args);
     let raw = rest(code);
-    let emitted = event(
-        odd_map(number(word(args))),
-        Code(short(word(code)) as u32),
-        raw_of(word(raw)),
-    );
-    let out = match emitted {
-        Emitted::Is(told) => {
-            let to = told.element;
-            valued(Text::new().element(to).byte(b'='), told.value)
-        }
-        Emitted::Nothing => Text::new().byte(b'-'),
-    };
-    out.is(rt, rest(raw))
+    let map = odd_map(number(word(args)));
+    let told = event(map, Code(short(word(code)) as u32), raw_of(word(raw)));
+    let out = format!(in rt.alloc(); "{}", OrDash(told.map(|e| EventText(e))))?;
+    is(rt, out.as_bytes(), rest(raw))
 }

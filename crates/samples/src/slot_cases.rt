@@ -1,31 +1,32 @@
 // Cases of the slots and of the default map.
-use crate::cases::{after, after_part, before, hex_number, part_at, rest, word};
-use crate::codes::{codes_of, first};
+use crate::codes::{codes_of, hex_number};
 use crate::element_cases::element;
-use crate::line_cases::map_text;
-use crate::written::Text;
+use crate::spelled::{Hex, OrDash, Refused, is};
 use line::ev::{AxisOrBtn, Code};
-use map::default::{DefaultMap, default};
-use map::error::MappingAnswer;
-use map::mapping_data::{Changed, MappingData, SlotCode};
+use map::default::default;
+use map::mapping_data::MappingData;
+use parts::cuts::{after, before, rest, word};
+use spelling::MapText;
+use std::fmt::Write;
 use std::io;
 
-// Fills the slot of an element.
-pub fn inserted(slots: MappingData, code: u32, to: AxisOrBtn) -> Changed {
+// Fills the slot of an element. This call and the next two differ in what they call for each kind: a closure for each would
+// be as long as they are.
+fn inserted(slots: &mut MappingData, code: Code, to: AxisOrBtn) -> Option<Code> {
     match to {
-        AxisOrBtn::Axis(a) => slots.insert_axis(Code(code), a),
-        AxisOrBtn::Btn(b) => slots.insert_btn(Code(code), b),
+        AxisOrBtn::Axis(a) => slots.insert_axis(code, a),
+        AxisOrBtn::Btn(b) => slots.insert_btn(code, b),
     }
 }
 
-fn removed(slots: MappingData, to: AxisOrBtn) -> Changed {
+fn removed(slots: &mut MappingData, to: AxisOrBtn) -> Option<Code> {
     match to {
         AxisOrBtn::Axis(a) => slots.remove_axis(a),
         AxisOrBtn::Btn(b) => slots.remove_button(b),
     }
 }
 
-fn asked(slots: MappingData, of: AxisOrBtn) -> SlotCode {
+fn asked(slots: &MappingData, of: AxisOrBtn) -> Option<Code> {
     match of {
         AxisOrBtn::Axis(a) => slots.axis(a),
         AxisOrBtn::Btn(b) => slots.button(b),
@@ -33,79 +34,49 @@ fn asked(slots: MappingData, of: AxisOrBtn) -> SlotCode {
 }
 
 // One call: `b1=10131` inserts, `-b1` removes, `?b1` asks. The former code is what an insert or a remove hands back.
-fn called(slots: MappingData, call: &[u8]) -> Changed {
-    if call.len() == 0 {
-        return Changed {
-            former: SlotCode::Nothing,
-            slots,
-        };
-    }
-    let e = element(&call[1..]);
-    if call[0] == b'-' {
-        return removed(slots, e);
-    }
-    if call[0] == b'?' {
-        let former = asked(slots, e);
-        return Changed { former, slots };
-    }
-    let to = element(before(call, b'='));
-    inserted(slots, hex_number(after(call, b'=')), to)
-}
-
-fn code_text(out: Text, code: SlotCode) -> Text {
-    match code {
-        SlotCode::Is(c) => out.hex(c.0 as u64),
-        SlotCode::Nothing => out.byte(b'-'),
+fn called(slots: &mut MappingData, call: &[u8]) -> Option<Code> {
+    match call {
+        [] => None,
+        [b'-', e @ ..] => removed(slots, element(e)),
+        [b'?', e @ ..] => asked(slots, element(e)),
+        _ => {
+            let code = Code(hex_number(after(call, b'=')));
+            inserted(slots, code, element(before(call, b'=')))
+        }
     }
 }
 
 // `slots ANSWERS CALLS`: what each call hands back, a code or `-`, with a comma after each.
-pub fn slots_case(rt: &impl Print, args: &[u8]) -> io::Result<bool> {
-    let calls = rest(args);
+pub fn slots_case<R: Print + AllocGlobal>(rt: &R, args: &[u8]) -> io::Result<bool> {
     let mut slots = MappingData::new();
-    let mut said = Text::new();
-    let mut at: usize = 0;
-    while at < calls.len() {
-        let changed = called(slots, part_at(calls, at, b','));
-        let former = changed.former;
-        said = code_text(said, former).byte(b',');
-        slots = changed.slots;
-        at = after_part(calls, at, b',');
+    let mut said = String::new(rt.alloc());
+    for call in rest(args).split_inclusive(|b| *b == b',') {
+        let former = called(&mut slots, before(call, b','));
+        write!(said, "{},", OrDash(former.map(|code| Hex(code))))?;
     }
-    said.is(rt, word(args))
+    is(rt, said.as_bytes(), word(args))
 }
 
-// The slots after the calls of a word; `-` fills none.
+// The slots after the calls of a word; `-` fills none. Each test program spells a slot in its own way: one function for
+// all would be handed the filling of a slot, and be no shorter than these lines.
 pub fn slots_of(s: &[u8]) -> MappingData {
     let mut slots = MappingData::new();
-    let mut at: usize = 0;
-    while at < s.len() {
-        slots = called(slots, part_at(s, at, b',')).slots;
-        at = after_part(s, at, b',');
+    for call in s.split_inclusive(|b| *b == b',') {
+        called(&mut slots, before(call, b','));
     }
     slots
 }
 
-fn default_text(answered: DefaultMap) -> Text {
-    let answer = answered.answer;
-    let map = answered.map;
-    let out = match answer {
-        MappingAnswer::Accepted => Text::new(),
-        MappingAnswer::Refused(e) => Text::new().refusal(e.refusal()).byte(b';'),
-    };
-    if map.is_default {
-        return map_text(out.byte(b'd'), map);
-    }
-    map_text(out, map)
-}
-
 // `default ANSWER BUTTONS AXES`: the map, with `d` before it where the default flag is on.
-pub fn default_case(rt: &impl Print, args: &[u8]) -> io::Result<bool> {
-    let buttons = codes_of(word(rest(args)));
-    let axes = codes_of(rest(rest(args)));
-    let b = buttons.list;
-    let a = axes.list;
-    let bn = buttons.len;
-    let an = axes.len;
-    default_text(default(first(&b, bn), first(&a, an))).is(rt, word(args))
+pub fn default_case<R: Print + AllocGlobal>(rt: &R, args: &[u8]) -> io::Result<bool> {
+    let buttons = codes_of(rt.alloc(), word(rest(args)))?;
+    let axes = codes_of(rt.alloc(), rest(rest(args)))?;
+    let made = default(&buttons, &axes);
+    let mut out = String::new(rt.alloc());
+    if let Err(e) = made.answer {
+        write!(out, "{};", Refused(e.refusal()))?;
+    }
+    let flag = if made.map.is_default { "d" } else { "" };
+    write!(out, "{flag}{}", MapText(&made.map))?;
+    is(rt, out.as_bytes(), word(args))
 }

@@ -1,161 +1,85 @@
 // Cases of save.
 use crate::cases::is;
-use crate::fields::{after, after_part, before, number, part_at, rest, short, uuid, word};
-use crate::spelled::{first, spelled};
+use crate::spelled::{spelled, uuid};
 use line::ev::{Axis, Button, Code};
 use line::mapping::Mapping;
-use line::reading::{SdlAnswer, parse_sdl_mapping};
-use line::refusal::Outcome;
+use line::reading::parse_sdl_mapping;
 use map::mapping_data::MappingData;
-use store::calls::{Saved, get, save};
+use parts::cuts::{after, before, first, rest, word};
+use parts::numbers::{number, numbered, short};
+use std::alloc::{AllocError, Global};
+use store::calls::{get, save};
 use store::parties::Party;
-
-const LONGEST: usize = 1025;
-
-// The codes 1 to 1025.
-fn numbered() -> [u32; LONGEST] {
-    let mut list = [0u32; LONGEST];
-    let mut code: u32 = 1;
-    for i in 0..LONGEST {
-        list[i] = code;
-        code = std::num::wrapping_add_u32(code, 1);
-    }
-    list
-}
-
-// The first codes of a list, or all where there are fewer.
-fn first_codes(list: &[u32], n: usize) -> &[u32] {
-    if n <= list.len() {
-        return &list[..n];
-    }
-    list
-}
+use store::refusal::save_outcome;
 
 // `b1=5`: button 1 has code 5.
-fn with_slot(slots: MappingData, s: &[u8]) -> MappingData {
-    if s.len() == 0 {
-        return slots;
-    }
-    let n = short(before(&s[1..], b'='));
+fn fill_slot(slots: &mut MappingData, s: &[u8]) {
     let code = Code(short(after(s, b'=')) as u32);
-    if s[0] == b'a' {
-        return slots.insert_axis(code, Axis(n)).slots;
+    match s {
+        [] => {}
+        [b'a', n @ ..] => {
+            slots.insert_axis(code, Axis(short(before(n, b'='))));
+        }
+        [_, n @ ..] => {
+            slots.insert_btn(code, Button(short(before(n, b'='))));
+        }
     }
-    slots.insert_btn(code, Button(n)).slots
 }
 
+// The slots of a word, with a comma between. Each test program spells a slot in its own way: one function for all would
+// be handed the filling of a slot, and be no shorter than these lines.
 fn slots_of(s: &[u8]) -> MappingData {
     let mut slots = MappingData::new();
-    let mut at: usize = 0;
-    while at < s.len() {
-        slots = with_slot(slots, part_at(s, at, b','));
-        at = after_part(s, at, b',');
+    for slot in s.split_inclusive(|b| *b == b',') {
+        fill_slot(&mut slots, before(slot, b','));
     }
     slots
 }
 
-fn same_entries(a: Mapping, b: Mapping) -> bool {
-    for i in 0..256 {
-        let x = a.entries[i];
-        let y = b.entries[i];
-        let to = x.element;
-        let other = y.element;
-        if x.code.0 != y.code.0 {
-            return false;
-        }
-        if !to.eq(other) {
-            return false;
-        }
-    }
-    true
+// Codes and elements, all 256 of them; ranges are not compared, since a save makes none.
+fn same_entries(a: &Mapping, b: &Mapping) -> bool {
+    a.entries
+        .iter()
+        .zip(b.entries.iter())
+        .all(|(x, y)| x.code == y.code && x.element == y.element)
 }
 
-fn same_map(a: Mapping, b: Mapping) -> bool {
-    if a.count != b.count {
-        return false;
-    }
-    if a.name_start != b.name_start {
-        return false;
-    }
-    if a.name_len != b.name_len {
-        return false;
-    }
-    if a.is_default != b.is_default {
-        return false;
-    }
-    if a.hats_mapped != b.hats_mapped {
-        return false;
-    }
-    same_entries(a, b)
+fn same_map(a: &Mapping, b: &Mapping) -> bool {
+    a.count == b.count
+        && a.name_start == b.name_start
+        && a.name_len == b.name_len
+        && a.is_default == b.is_default
+        && a.hats_mapped == b.hats_mapped
+        && same_entries(a, b)
 }
 
 // Whether the line that is held reads back as that map.
-fn reads_back(line: &[u8], map: Mapping, buttons: &[u32], axes: &[u32]) -> bool {
+fn reads_back(line: &[u8], map: &Mapping, buttons: &[u32], axes: &[u32]) -> bool {
     let reading = parse_sdl_mapping(line, buttons, axes);
-    let answer = reading.answer;
-    let again = reading.map;
-    match answer {
-        SdlAnswer::Accepted => same_map(again, map),
-        SdlAnswer::Refused(_) => false,
-    }
+    reading.answer.is_ok() && same_map(&reading.map, map)
 }
 
-// Whether a save answers so; one that filed reads back as its map, and a refused one has the empty map.
-fn is_right(saved: Saved, expected: &[u8], line: &[u8], buttons: &[u32], axes: &[u32]) -> bool {
-    let answer = saved.answer;
-    let map = saved.map;
-    let outcome = answer.outcome();
-    if !is(outcome, expected) {
-        return false;
-    }
-    match outcome {
-        Outcome::Passes => reads_back(line, map, buttons, axes),
-        Outcome::Refuses(_) => same_map(map, Mapping::new()),
-    }
-}
-
-// Saves, and compares the answer, the map and the line that is then held.
-fn run_save(
+// `save ANSWER UUID SLOTS BUTTONS AXES NAME`: the lists are the codes from 1 on, so many each. A save that filed reads
+// back as its map, and a refused one has the empty map.
+pub fn save_case(
+    alloc: Global,
     index: &mut [u8],
     text: &mut [u8],
     party: Party,
     args: &[u8],
-    buttons: &[u32],
-    axes: &[u32],
-    name: &[u8],
-) -> bool {
+) -> Result<bool, AllocError> {
     let more = rest(args);
+    let lists = rest(rest(more));
     let key = uuid(word(more));
-    let data = slots_of(word(rest(more)));
-    let saved = save(index, text, party, data, buttons, axes, name, key);
-    is_right(
-        saved,
-        word(args),
-        get(index, text, party, key),
-        buttons,
-        axes,
-    )
-}
-
-fn run_lists(
-    index: &mut [u8],
-    text: &mut [u8],
-    party: Party,
-    args: &[u8],
-    list: &[u32],
-    name: &[u8],
-) -> bool {
-    let lists = rest(rest(rest(args)));
-    let buttons = first_codes(list, number(word(lists)));
-    let axes = first_codes(list, number(word(rest(lists))));
-    run_save(index, text, party, args, buttons, axes, name)
-}
-
-// `save ANSWER UUID SLOTS BUTTONS AXES NAME`: the lists are the codes from 1 on, so many each.
-pub fn save_case(index: &mut [u8], text: &mut [u8], party: Party, args: &[u8]) -> bool {
-    let name = spelled(rest(rest(rest(rest(rest(args))))));
-    let bytes = name.bytes;
-    let len = name.len;
+    let slots = slots_of(word(rest(more)));
     let list = numbered();
-    run_lists(index, text, party, args, &list, first(&bytes, len))
+    let buttons = first(&list, number(word(lists)));
+    let axes = first(&list, number(word(rest(lists))));
+    let name = spelled(alloc, rest(rest(lists)))?;
+    let saved = save(index, text, party, slots, buttons, axes, &name, key);
+    let right = match saved.answer {
+        Ok(()) => reads_back(get(index, text, party, key), &saved.map, buttons, axes),
+        Err(_) => same_map(&saved.map, &Mapping::new()),
+    };
+    Ok(right && is(save_outcome(saved.answer), word(args)))
 }

@@ -1,98 +1,65 @@
 // The text that a case spells: parts between `|`, each as it stands, or `@7`, the 32 digits of the UUID 7, or `\0D0A`,
-// those bytes, or `*9n`, nine times that byte.
-use crate::fields::{after_part, number, part_at, unhex, uuid};
+// those bytes, or `*9n`, nine times that byte; and UUIDs and large numbers in words.
+use parts::cuts::before;
+use parts::numbers::{number, unhex, uuid_or};
+use std::alloc::{AllocError, Global};
+use text::uuid::Uuid;
 
 const ROOM: usize = 16640;
 
-#[derive(Clone, Copy)]
-pub struct Text {
-    pub bytes: [u8; ROOM],
-    pub len: usize,
+// The UUID in a word: 32 digits, or a number, which is its value.
+pub fn uuid(s: &[u8]) -> Uuid {
+    let small = Uuid {
+        high: 0,
+        low: number(s) as u64,
+    };
+    uuid_or(s, small)
 }
 
-// The first bytes of an array, or all where there are fewer.
-pub fn first(bytes: &[u8], len: usize) -> &[u8] {
-    if len <= bytes.len() {
-        return &bytes[..len];
+// The number in a word, `65536` being one too, and `most` the largest that a machine word holds.
+pub fn big(s: &[u8]) -> usize {
+    match s {
+        b"65536" => 65536,
+        b"most" => usize::MAX,
+        _ => number(s),
     }
-    bytes
 }
 
-// One byte more; none past the end.
-fn with(text: Text, b: u8) -> Text {
-    let n = text.len;
-    if n < ROOM {
-        let mut next = text;
-        next.bytes[n] = b;
-        next.len = n + 1;
-        return next;
-    }
-    text
-}
-
-fn with_all(text: Text, s: &[u8]) -> Text {
-    let mut next = text;
-    for b in s {
-        next = with(next, *b);
-    }
-    next
-}
-
-fn repeated(text: Text, n: usize, b: u8) -> Text {
-    let mut next = text;
-    for _ in 0..n {
-        next = with(next, b);
-    }
-    next
-}
-
-fn with_digits(text: Text, s: &[u8]) -> Text {
-    let mut digits = [0u8; 32];
-    uuid(s).write_simple(&mut digits, 0);
-    with_all(text, &digits)
-}
-
-fn with_bytes(text: Text, s: &[u8]) -> Text {
-    let mut space = [0u8; 512];
-    let n = unhex(s, &mut space);
-    with_all(text, &space[..n])
-}
-
-// `9n`
-fn with_copies(text: Text, s: &[u8]) -> Text {
-    if s.len() == 0 {
-        return text;
-    }
-    let n = s.len() - 1;
-    repeated(text, number(first(s, n)), s[n])
+// The owner byte in a word.
+pub fn owner(s: &[u8]) -> u8 {
+    (number(s) % 256) as u8
 }
 
 // One part.
-fn with_part(text: Text, s: &[u8]) -> Text {
-    if s.len() == 0 {
-        return text;
+fn put_part(out: &mut Vec<u8>, part: &[u8]) -> Result<(), AllocError> {
+    match part {
+        [b'@', id @ ..] => {
+            let mut digits = [0u8; 32];
+            uuid(id).write_simple(&mut digits, 0);
+            out.extend_from_slice(&digits)
+        }
+        [b'\\', digits @ ..] => {
+            let mut space = [0u8; 512];
+            let n = unhex(digits, &mut space);
+            out.extend_from_slice(&space[..n])
+        }
+        [b'*'] => Ok(()),
+        [b'*', count @ .., b] => {
+            for _ in 0..number(count) {
+                out.push(*b)?;
+            }
+            Ok(())
+        }
+        _ => out.extend_from_slice(part),
     }
-    if s[0] == b'@' {
-        return with_digits(text, &s[1..]);
-    }
-    if s[0] == b'\\' {
-        return with_bytes(text, &s[1..]);
-    }
-    if s[0] == b'*' {
-        return with_copies(text, &s[1..]);
-    }
-    with_all(text, s)
 }
 
-pub fn spelled(s: &[u8]) -> Text {
-    let mut text = Text {
-        bytes: [0u8; ROOM],
-        len: 0,
-    };
-    let mut at: usize = 0;
-    while at < s.len() {
-        text = with_part(text, part_at(s, at, b'|'));
-        at = after_part(s, at, b'|');
+// The bytes of a text, at most 16640.
+pub fn spelled(alloc: Global, s: &[u8]) -> Result<Vec<u8>, AllocError> {
+    let mut out = Vec::new(alloc);
+    for part in s.split_inclusive(|b| *b == b'|') {
+        put_part(&mut out, before(part, b'|'))?;
     }
-    text
+    out.truncate(ROOM);
+    Ok(out)
 }

@@ -1,6 +1,7 @@
 -- The steps of an insert by number: the exits of `reach_row`, the turns of `take_lines`, and a batch's end.
 -- Assumes nothing.
-use mathlib.Core.Bool.{Bool, true, false}
+use Rattle.std.specs.Prelude.{Result, Ok, Err, ⊤, Option, Some, None}
+use mathlib.Core.Bool.{true}
 use mathlib.Core.List.{List}
 use mathlib.Core.Option.{some}
 use mathlib.Core.Path.{◌≡◌, refl, sym, ap, ◌∙◌, subst}
@@ -9,17 +10,12 @@ use native.Mathlib.Omega.{arith}
 use lib.ListN.{length, take, drop, length-drop}
 use lib.Seq.{length-take-le}
 use Rattle.text.proofs.ListLaws.{part_to_end}
+use Rattle.text.proofs.BytesLaws.{first_le}
+use Rattle.text.proofs.LentLaws.{tail_length}
 use Rattle.text.specs.Bytes.{first_of}
 use Rattle.text.specs.declared.uuid.Spelled.{Spelled}
-use Rattle.text.specs.declared.uuid.UuidParse.{UuidParse}
-use Rattle.text.specs.declared.uuid.UuidParse.TheVariants.{Parsed, Invalid}
 use Rattle.store.specs.declared.claims.Dues.{Dues}
 use Rattle.store.specs.declared.table.Fill.{Fill}
-use Rattle.store.specs.declared.table.Room.{Room}
-use Rattle.store.specs.declared.table.Room.TheVariants as R
-use Rattle.store.specs.declared.table.Tried.{Tried}
-use Rattle.store.specs.declared.calls.Answer.{Answer}
-use Rattle.store.specs.declared.batch.Step.{Step}
 use Rattle.store.specs.declared.batch.Walked.{Walked}
 use Rattle.store.specs.Book.{Caller, under, Reached, after, stopped, reach, insert_turn, on_reached, room_for}
 use Rattle.store.specs.Book.{by_room}
@@ -39,11 +35,12 @@ use Rattle.store.proofs.BookLaws.{Kept, keeps_reach}
 use Rattle.store.proofs.WantedLaws.{wanted-some}
 use Rattle.store.proofs.DecodeLaws.{laid, lines_of_lem}
 use Rattle.store.proofs.InsertLaws.{reach-not, reach_long, reach_room, after_others}
-use Rattle.store.proofs.RoomLaws.{index_not, text_not}
 use Rattle.store.proofs.UseLaws.{owed_on}
-use Rattle.store.proofs.BoolLaws.{true-false}
 use Rattle.store.proofs.LineLaws.{cut_at, plus_minus}
-use Rattle.store.specs.declared.calls.Answer.TheVariants as A
+use Rattle.store.specs.declared.calls.StoreError.TheVariants as E
+use Rattle.store.specs.declared.table.Full.TheVariants as R
+use Rattle.store.specs.declared.calls.StoreError.{StoreError}
+use Rattle.store.specs.declared.table.Full.{Full}
 
 -- the exits of `reach_row`
 module _ (d : Dues) (i t s : List ℕ) (a : List ℕ) (heads next : List ℕ) (f : Fill) (own at len : ℕ)
@@ -54,15 +51,13 @@ module _ (d : Dues) (i t s : List ℕ) (a : List ℕ) (heads next : List ℕ) (f
   pub part_long : length (take len (drop at s)) ≡ len
   part_long = length-take-le len (drop at s) (omega (arith, length-drop at s))
 
-  pub slot_not : wanted l ≡ Invalid
-      → ReachesRow d i t s a heads next f own l a heads next (record { on = true; answer = A.Done; fill = f })
-  slot_not e g old hs o w = goes hs (reach-not (behind g i t own) hs l e) refl w
+  pub slot_not : wanted l ≡ None → ReachesRow d i t s a heads next f own l a heads next (Ok f)
+  slot_not e g old hs o w = goes f hs (reach-not (behind g i t own) hs l e) refl w
 
-  module _ (u : Spelled) (e : wanted l ≡ Parsed u) where
-    pub slot_long : line_max < len → (r : Step) → r ≡ record { on = false; answer = A.LineTooLong; fill = f }
-        → ReachesRow d i t s a heads next f own l a heads next r
-    slot_long p r er = subst (ReachesRow d i t s a heads next f own l a heads next) (sym er)
-        (λ g old hs o w. stops (reach_long (behind g i t own) hs l u e (omega (arith, part_long))) refl w.tabled)
+  module _ (u : Spelled) (e : wanted l ≡ Some u) where
+    pub slot_long : line_max < len → ReachesRow d i t s a heads next f own l a heads next (Err E.LineTooLong)
+    slot_long p g old hs o w =
+        stops E.LineTooLong (reach_long (behind g i t own) hs l u e (omega (arith, part_long))) refl w.tabled
 
     module _ (p : len ≤ line_max) where
       pub slot_files : (g : List ℕ) (old : ℕ) (hs : List Held) → Owed g own hs d → InRows i t s a heads next old f hs
@@ -75,45 +70,43 @@ module _ (d : Dues) (i t s : List ℕ) (a : List ℕ) (heads next : List ℕ) (f
             shape = record { some = wanted-some l u e; most = omega (arith, part_long) };
           }
 
-      module _ (a' : List ℕ) (heads' next' : List ℕ) (z : Tried)
+      module _ (a' : List ℕ) (heads' next' : List ℕ) (z : Result Fill Full)
           (y : FilesRow d i t a heads next f (key_by own u.id) at len a' heads' next' z) where
-        reached : (g : List ℕ) (hs : List Held) (r : Room) → room_for (behind g i t own) (under own u.id l) hs ≡ r
+        reached : (g : List ℕ) (hs : List Held) (r : Result ⊤ Full) → room_for (behind g i t own) (under own u.id l) hs ≡ r
             → reach (behind g i t own) hs l
-            ≡ by_room r (stopped A.NoRoom) (stopped A.NoText) (after (file (under own u.id l) hs))
+            ≡ by_room r (stopped (Err E.NoRoom)) (stopped (Err E.NoText)) (after (file (under own u.id l) hs))
         reached g hs r q = reach_room (behind g i t own) hs l u e (omega (arith, part_long)) r q
 
-        slot_full : (r : Room) → (r ≡ R.Fits → ⊥) → (answer : Answer)
-            → ((w : Reached) → by_room r (stopped A.NoRoom) (stopped A.NoText) w ≡ stopped answer) → z.room ≡ r
-            → (v : Step) → v ≡ record { on = false; answer = answer; fill = f }
-            → ReachesRow d i t s a heads next f own l a' heads' next' v
-        slot_full r n answer says er v ev = subst (ReachesRow d i t s a heads next f own l a' heads' next') (sym ev)
-            (λ g old hs o w. go g old hs (y g s old hs (slot_files g old hs o w)))
-          where
-            go : (g : List ℕ) (old : ℕ) (hs : List Held)
-                → Filed g i t s a' heads' next' old f (under own u.id l) hs z
-                → Comes g i t s a' heads' next' old own l hs (record { on = false; answer = answer; fill = f })
-            go g old hs (fits q c x) = absurd (n (sym er ∙ c))
-            go g old hs (full q c x) = stops (reached g hs r (q ∙ er) ∙ says _) refl x
-
-        pub slot_index : z.room ≡ R.IndexFull → (v : Step) → v ≡ record { on = false; answer = A.NoRoom; fill = f }
-            → ReachesRow d i t s a heads next f own l a' heads' next' v
-        slot_index er v ev = slot_full R.IndexFull index_not A.NoRoom (λ w. refl) er v ev
-
-        pub slot_text : z.room ≡ R.TextFull → (v : Step) → v ≡ record { on = false; answer = A.NoText; fill = f }
-            → ReachesRow d i t s a heads next f own l a' heads' next' v
-        slot_text er v ev = slot_full R.TextFull text_not A.NoText (λ w. refl) er v ev
-
-        pub slot_filed : z.room ≡ R.Fits
-            → ReachesRow d i t s a heads next f own l a' heads' next'
-            (record { on = true; answer = A.Done; fill = z.fill })
-        slot_filed er g old hs o w = go (y g s old hs (slot_files g old hs o w))
+        slot_full : (x : Full) (v : StoreError)
+            → ((w : Reached) → by_room (Err x) (stopped (Err E.NoRoom)) (stopped (Err E.NoText)) w ≡ stopped (Err v))
+            → z ≡ Err x → ReachesRow d i t s a heads next f own l a' heads' next' (Err v)
+        slot_full x v says er g old hs o w = go (y g s old hs (slot_files g old hs o w))
           where
             go : Filed g i t s a' heads' next' old f (under own u.id l) hs z
-                → Comes g i t s a' heads' next' old own l hs (record { on = true; answer = A.Done; fill = z.fill })
-            go (fits q c x) = goes (file (under own u.id l) hs) (reached g hs R.Fits q) refl x
-            go (full q c x) = absurd (c er)
+                → Comes g i t s a' heads' next' old own l hs f (Err v)
+            go (fits f' q c k) = let n : ◌≡◌ {A = ℕ} 0 1 = cc in absurd (omega arith)
+            go (full x' q c k) =
+                let n : x' ≡ x = cc in
+                stops v (reached g hs (Err x) (q ∙ ap (λ (m : Full). Err m) n) ∙ says _) refl k
 
-pub wanted_part : (s : List ℕ) (at len : ℕ) (v p : UuidParse) → v ≡ wanted (take (at + len - at) (drop at s)) → v ≡ p
+        pub slot_index : z ≡ Err R.Index → ReachesRow d i t s a heads next f own l a' heads' next' (Err E.NoRoom)
+        slot_index = slot_full R.Index E.NoRoom (λ w. refl)
+
+        pub slot_text : z ≡ Err R.Text → ReachesRow d i t s a heads next f own l a' heads' next' (Err E.NoText)
+        slot_text = slot_full R.Text E.NoText (λ w. refl)
+
+        pub slot_filed : (f' : Fill) → z ≡ Ok f' → ReachesRow d i t s a heads next f own l a' heads' next' (Ok f')
+        slot_filed f' er g old hs o w = go (y g s old hs (slot_files g old hs o w))
+          where
+            go : Filed g i t s a' heads' next' old f (under own u.id l) hs z
+                → Comes g i t s a' heads' next' old own l hs f (Ok f')
+            go (fits f'' q c k) =
+                let n : f'' ≡ f' = cc in
+                goes f' (file (under own u.id l) hs) (reached g hs (Ok tt) q) refl
+                (subst (λ (m : Fill). InRows i t s a' heads' next' old m (file (under own u.id l) hs)) n k)
+            go (full x q c k) = let n : ◌≡◌ {A = ℕ} 0 1 = cc in absurd (omega arith)
+
+pub wanted_part : (s : List ℕ) (at len : ℕ) (v p : Option Spelled) → v ≡ wanted (take (at + len - at) (drop at s)) → v ≡ p
     → wanted (take len (drop at s)) ≡ p
 wanted_part s at len v p e q =
     ap (λ (k : ℕ). wanted (take k (drop at s))) (sym (plus_minus at len)) ∙ sym e ∙ q
@@ -123,6 +116,10 @@ pub line_part : (s : List ℕ) (at len : ℕ)
     → take len (take (length s - at) (drop at s)) ≡ first_line (take (length s - at) (drop at s))
     → take len (drop at s) ≡ first_line (drop at s)
 line_part s at len e = ap (take len) (sym (part_to_end s at)) ∙ e ∙ ap first_line (part_to_end s at)
+
+-- and its LF stands within the text
+pub end_within : (at : ℕ) (s : List ℕ) (end : ℕ) → end ≡ first_of lf (take (length s - at) (drop at s)) → end ≤ length s - at
+end_within at s end e = omega (arith, e, first_le lf (take (length s - at) (drop at s)), tail_length at s)
 
 -- one line of the inserted text
 runs_line : (by : Caller) (s : List ℕ) (at end : ℕ) → at < length s → end ≡ first_of lf (drop at s)
@@ -181,27 +178,27 @@ module _ (d : Dues) (i t s : List ℕ) (a₀ : List ℕ) (heads₀ next₀ : Lis
     first_at_lem = omega (arith, w.counted)
 
     -- the insert goes on from `at`
-    pub take_on : (f₀.count < rows_max → from < length s → from < at) → (r : Walked)
-        → r ≡ record { on = true; answer = A.Done; at = at; count = count; filled = f.count }
-        → TakesLines d i t s a₀ heads₀ next₀ own from f₀ a r × Went s from f₀.count r
-    take_on moves r e =
-        subst (λ (v : Walked). TakesLines d i t s a₀ heads₀ next₀ own from f₀ a v × Went s from f₀.count v) (sym e) (
-          λ g old hs o p.
-              let x : Took g i t s a heads next own from old f at count hs = w.took g old hs o p in
-              onward x.ks refl x.run x.keeps x.in_rows.tabled,
-          record { within = w.within; counted = w.counted; moved = λ p q o. moves p q },
-        )
+    pub take_on : (f₀.count < rows_max → from < length s → from < at)
+        → TakesLines d i t s a₀ heads₀ next₀ own from f₀ a
+        (record { answer = Ok tt; at = at; count = count; filled = f.count })
+        × Went s from f₀.count (record { answer = Ok tt; at = at; count = count; filled = f.count })
+    take_on moves = (
+      λ g old hs o p.
+          let x : Took g i t s a heads next own from old f at count hs = w.took g old hs o p in
+          onward x.ks refl x.run x.keeps x.in_rows.tabled,
+      record { within = w.within; counted = w.counted; moved = λ p q o. moves p q },
+    )
 
     -- one line on
     module _ (l : at < length s) (end : ℕ) (e : end ≡ first_of lf (drop at s)) (line : List ℕ)
-        (el : line ≡ first_line (drop at s)) (r : Step) (a' : List ℕ) (heads' next' : List ℕ)
+        (el : line ≡ first_line (drop at s)) (r : Result Fill StoreError) (a' : List ℕ) (heads' next' : List ℕ)
         (y : ReachesRow d i t s a heads next f own line a' heads' next' r) where
       module _ (g : List ℕ) (old : ℕ) (hs : List Held) (o : Owed g own hs d)
           (x : Took g i t s a heads next own from old f at count hs) where
         abbrev by : Caller
         by = behind g i t own
 
-        comes : Comes g i t s a' heads' next' old own line x.ks r
+        comes : Comes g i t s a' heads' next' old own line x.ks f r
         comes = y g old x.ks (owed_on g own hs x.ks d x.others o) x.in_rows
 
         runs : (v : Reached) → reach by x.ks line ≡ v → (c : ℕ)
@@ -212,59 +209,63 @@ module _ (d : Dues) (i t s : List ℕ) (a₀ : List ℕ) (heads₀ next₀ : Lis
             ∙ ap (λ (v : Reached). on_reached v (λ b. insert_turn x.ks b (c + count))
             (λ js. insert_lines by js (suc (c + count)) (lines_of (drop (at + (end + 1)) s)))) q
 
-        stopped_at : r.on ≡ false → Comes g i t s a' heads' next' old own line x.ks r
-            → Takes (behind g i t own) s from hs
-            (record { on = false; answer = r.answer; at = at; count = count; filled = r.fill.count })
-            (Tabled i t s a' old r.fill.count)
-        stopped_at z (goes js q v p) = absurd (true-false (sym v ∙ z))
-        stopped_at z (stops q v p) = halted x.ks refl (runs (stopped r.answer) q) x.keeps p
+        stopped_at : (e : StoreError) → r ≡ Err e → Comes g i t s a' heads' next' old own line x.ks f r
+            → Takes (behind g i t own) s from hs (record { answer = Err e; at = at; count = count; filled = f.count })
+            (Tabled i t s a' old f.count)
+        stopped_at e z (goes f' js q v p) = let n : ◌≡◌ {A = ℕ} 0 1 = cc in absurd (omega arith)
+        stopped_at e z (stops e' q v p) =
+            let n : e' ≡ e = cc in
+            halted x.ks e refl
+            (subst (λ (m : StoreError). (c : ℕ) → insert_lines by hs c (lines_of (drop from s))
+            ≡ insert_turn x.ks (Err m) (c + count)) n (runs (stopped (Err e')) q)) x.keeps p
 
-        next_line : own < 256 → r.on ≡ true → Comes g i t s a' heads' next' old own line x.ks r
-            → Took g i t s a' heads' next' own from old r.fill (at + (end + 1)) (count + 1) hs
-        next_line byte z (stops q v p) = absurd (true-false (sym z ∙ v))
-        next_line byte z (goes js q v p) = record {
-          ks = js;
-          others = after_others by x.ks line js q ∙ x.others;
-          in_rows = p;
-          keeps = λ b. subst (Kept by) q (keeps_reach by o.each byte x.ks (x.keeps b) line);
-          run = λ c.
-              let more : suc (c + count) ≡ c + (count + 1) = omega arith in
-              runs (after js) q c
-              ∙ ap (λ (k : ℕ). insert_lines by js k (lines_of (drop (at + (end + 1)) s))) more;
-        }
-
-      pub take_off : r.on ≡ false → (v : Walked)
-          → v ≡ record { on = false; answer = r.answer; at = at; count = count; filled = r.fill.count }
-          → TakesLines d i t s a₀ heads₀ next₀ own from f₀ a' v × Went s from f₀.count v
-      take_off z v ev =
-          subst (λ (v : Walked). TakesLines d i t s a₀ heads₀ next₀ own from f₀ a' v × Went s from f₀.count v)
-          (sym ev) (
-            λ g old hs o p.
-                let x : Took g i t s a heads next own from old f at count hs = w.took g old hs o p in
-                stopped_at g old hs o x z (comes g old hs o x),
+        next_line : own < 256 → (f' : Fill) → r ≡ Ok f' → Comes g i t s a' heads' next' old own line x.ks f r
+            → Took g i t s a' heads' next' own from old f' (at + (end + 1)) (count + 1) hs
+        next_line byte f' z (stops e' q v p) = let n : ◌≡◌ {A = ℕ} 0 1 = cc in absurd (omega arith)
+        next_line byte f' z (goes f'' js q v p) =
+            let n : f'' ≡ f' = cc in
             record {
-              within = w.within;
-              counted = w.counted;
-              moved = λ p q (o : ◌≡◌ {A = Bool} false true). absurd (true-false (sym o));
-            },
-          )
+              ks = js;
+              others = after_others by x.ks line js q ∙ x.others;
+              in_rows = subst (λ (m : Fill). InRows i t s a' heads' next' old m js) n p;
+              keeps = λ b. subst (Kept by) q (keeps_reach by o.each byte x.ks (x.keeps b) line);
+              run = λ c.
+                  let more : suc (c + count) ≡ c + (count + 1) = omega arith in
+                  runs (after js) q c
+                  ∙ ap (λ (k : ℕ). insert_lines by js k (lines_of (drop (at + (end + 1)) s))) more;
+            }
 
-      pub take-turn : own < 256 → r.on ≡ true → at + end ≤ length s
-          → Taking d i t s a₀ heads₀ next₀ own from f₀ a' heads' next' r.fill (at + (end + 1)) (count + 1)
-      take-turn byte z b = record {
+      pub take_off : (e : StoreError) → r ≡ Err e
+          → TakesLines d i t s a₀ heads₀ next₀ own from f₀ a'
+          (record { answer = Err e; at = at; count = count; filled = f.count })
+          × Went s from f₀.count (record { answer = Err e; at = at; count = count; filled = f.count })
+      take_off e z = (
+        λ g old hs o p.
+            let x : Took g i t s a heads next own from old f at count hs = w.took g old hs o p in
+            stopped_at g old hs o x e z (comes g old hs o x),
+        record {
+          within = w.within;
+          counted = w.counted;
+          moved = λ p q o. let n : ◌≡◌ {A = ℕ} 0 1 = cc in absurd (omega arith);
+        },
+      )
+
+      pub take-turn : own < 256 → (f' : Fill) → r ≡ Ok f' → at + end ≤ length s
+          → Taking d i t s a₀ heads₀ next₀ own from f₀ a' heads' next' f' (at + (end + 1)) (count + 1)
+      take-turn byte f' z b = record {
         within = omega arith;
         counted = omega (arith, w.counted);
         still = λ v. absurd (omega (arith, w.counted));
         took = λ g old hs o p.
             let x : Took g i t s a heads next own from old f at count hs = w.took g old hs o p in
-            next_line g old hs o x byte z (comes g old hs o x);
+            next_line g old hs o x byte f' z (comes g old hs o x);
       }
 
 -- the end of a batch
 takes_held : {by : Caller} {from : ℕ} {s : List ℕ} {hs : List Held} {r : Walked} {P : List Held → Type 0}
     → Takes by s from hs r P → (ks : List Held) × P ks
 takes_held (onward ks o run g p) = (ks, p)
-takes_held (halted ks o run g p) = (ks, p)
+takes_held (halted ks e o run g p) = (ks, p)
 
 module _ (d : Dues) (g i t s : List ℕ) (a : List ℕ) (heads next : List ℕ) (f : Fill) (own : ℕ)
     (loaded : Loads i a heads next f) (owed : (hs : List Held) → decode i t ≡ some hs → Owed g own hs d) where
@@ -295,7 +296,7 @@ module _ (d : Dues) (g i t s : List ℕ) (a : List ℕ) (heads next : List ℕ) 
 
         go : By (Tabled i t s b f.count r.filled) hs → By (Encoded (length i) (length t) i' t') hs
         go (onward ks o run k p) = onward ks o run k (held ks p)
-        go (halted ks o run k p) = halted ks o run k (held ks p)
+        go (halted ks v o run k p) = halted ks v o run k (held ks p)
 
 pub went_from : (s : List ℕ) (from f : ℕ) (r : Walked) → f < rows_max → Went s from f r → Went s from 0 r
 went_from s from f r l w =

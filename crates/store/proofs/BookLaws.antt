@@ -1,6 +1,7 @@
 -- Each call of the book keeps the shares and the lines such that the buffers can hold them, and what all parties claim
 -- within the text.
 -- Assumes nothing.
+use Rattle.std.specs.Prelude.{Result, Ok, Err, ⊤, Some, None, Option}
 use mathlib.Core.Bool.{Bool, true, false}
 use mathlib.Core.List.{List, [], ◌∷◌}
 use mathlib.Core.Path.{◌≡◌, refl, ap, subst, ◌∙◌}
@@ -13,15 +14,9 @@ use borrow.Author.Tests.{eqb-true, eqb-false, ltb-false}
 use Rattle.text.specs.Bytes.{pick}
 use Rattle.text.specs.Utf8.{is_utf8, valid_run}
 use Rattle.text.specs.declared.uuid.Spelled.{Spelled}
-use Rattle.text.specs.declared.uuid.UuidParse.{UuidParse}
-use Rattle.text.specs.declared.uuid.UuidParse.TheVariants.{Parsed, Invalid}
-use Rattle.store.specs.declared.owners.Owner.{Owner}
-use Rattle.store.specs.declared.owners.Owner.TheVariants as O
 use Rattle.store.specs.declared.parties.Party.{Party}
 use Rattle.store.specs.declared.parties.Party.TheVariants as P
-use Rattle.store.specs.declared.table.Room.{Room}
-use Rattle.store.specs.declared.table.Room.TheVariants as R
-use Rattle.store.specs.Parties.{owner_of, by_owner, EightBits, Named}
+use Rattle.store.specs.Parties.{owner_of, by_owner, EightBits, Named, Owner}
 use Rattle.store.specs.Shares.{owners, no_shares, Content, nothing_held, use_of, larger, claims_from, claims}
 use Rattle.store.specs.Shares.{share_sizes}
 use Rattle.store.specs.Shares.{with_share, with_held}
@@ -40,9 +35,11 @@ use Rattle.store.proofs.HeldLaws.{distinct-file, shapes_file}
 use Rattle.store.proofs.ClaimLaws.{one_least, lengths_least, lengths-texts}
 use Rattle.store.proofs.RoomLaws.{fits_index, fits_claims, sizes_sum}
 use Rattle.store.proofs.WantedLaws.{wanted_small, wanted-some}
-use Rattle.store.specs.declared.calls.Answer.TheVariants as A
+use Rattle.store.specs.declared.calls.StoreError.TheVariants as E
+use Rattle.store.specs.declared.table.Full.TheVariants as R
+use Rattle.store.specs.declared.table.Full.{Full}
 
-pub wanted_shape : (o : ℕ) → o < 256 → (l : List ℕ) (u : Spelled) → wanted l ≡ Parsed u → length l ≤ line_max
+pub wanted_shape : (o : ℕ) → o < 256 → (l : List ℕ) (u : Spelled) → wanted l ≡ Some u → length l ≤ line_max
     → Shape (under o u.id l)
 wanted_shape o b l u e q = record {
   key = record { owner = b; uuid = wanted_small l u e };
@@ -51,17 +48,17 @@ wanted_shape o b l u e q = record {
 }
 
 -- the owner of a call is a byte
-pub owner_byte : (p : Named) (o : ℕ) → owner_of p.party ≡ O.Byte o → o < 256
+pub owner_byte : (p : Named) (o : ℕ) → owner_of p.party ≡ Some o → o < 256
 owner_byte p o e = go p.party p.bits e
   where
-    same : (a b : ℕ) → O.Byte a ≡ O.Byte b → a ≡ b
+    same : (a b : ℕ) → Some a ≡ Some b → a ≡ b
     same a b q = cc
 
-    named : (b : ℕ) (t : Bool) → b < 256 → pick t O.Nobody (O.Byte b) ≡ O.Byte o → o < 256
+    named : (b : ℕ) (t : Bool) → b < 256 → pick t None (Some b) ≡ Some o → o < 256
     named b true l q = let z : ◌≡◌ {A = ℕ} 0 1 = cc in absurd (omega arith)
     named b false l q = omega (arith, same b o q)
 
-    go : (x : Party) → EightBits x → owner_of x ≡ O.Byte o → o < 256
+    go : (x : Party) → EightBits x → owner_of x ≡ Some o → o < 256
     go P.Hall l q = omega (arith, same 0 o q)
     go (P.Organiser b) l q = named b (eqb b 0) l q
 
@@ -73,7 +70,7 @@ KeptBy Q (after hs) = Q hs
 KeptBy Q (stopped e) = Unit {0}
 
 module _ (c : Caller) (byte : c.owner < 256) (Q : List Held → Type 0)
-    (filed : (h : Held) (hs : List Held) → Q hs → Shape h → room_for c h hs ≡ R.Fits → Q (file h hs)) where
+    (filed : (h : Held) (hs : List Held) → Q hs → Shape h → room_for c h hs ≡ Ok tt → Q (file h hs)) where
   reach_keeps : (hs : List Held) → Q hs → (l : List ℕ) → KeptBy Q (reach c hs l)
   unfolding reach
   reach_keeps hs g l = go (wanted l) refl
@@ -81,23 +78,23 @@ module _ (c : Caller) (byte : c.owner < 256) (Q : List Held → Type 0)
       its : Spelled → Held
       its u = under c.owner u.id l
 
-      fits : (u : Spelled) (r : Room) → room_for c (its u) hs ≡ r → Shape (its u)
-          → KeptBy Q (by_room r (stopped A.NoRoom) (stopped A.NoText) (after (file (its u) hs)))
-      fits u R.IndexFull e s = tt
-      fits u R.TextFull e s = tt
-      fits u R.Fits e s = filed (its u) hs g s e
+      fits : (u : Spelled) (r : Result ⊤ Full) → room_for c (its u) hs ≡ r → Shape (its u)
+          → KeptBy Q (by_room r (stopped (Err E.NoRoom)) (stopped (Err E.NoText)) (after (file (its u) hs)))
+      fits u (Err R.Index) e s = tt
+      fits u (Err R.Text) e s = tt
+      fits u (Ok _) e s = filed (its u) hs g s e
 
-      short : (u : Spelled) (b : Bool) → ltb line_max (length l) ≡ b → wanted l ≡ Parsed u
-          → KeptBy Q (pick b (stopped A.LineTooLong)
-          (by_room (room_for c (its u) hs) (stopped A.NoRoom) (stopped A.NoText) (after (file (its u) hs))))
+      short : (u : Spelled) (b : Bool) → ltb line_max (length l) ≡ b → wanted l ≡ Some u
+          → KeptBy Q (pick b (stopped (Err E.LineTooLong))
+          (by_room (room_for c (its u) hs) (stopped (Err E.NoRoom)) (stopped (Err E.NoText)) (after (file (its u) hs))))
       short u true e w = tt
       short u false e w =
           fits u (room_for c (its u) hs) refl
           (wanted_shape c.owner byte l u w (ltb-false line_max (length l) e))
 
-      go : (p : UuidParse) → wanted l ≡ p → KeptBy Q (reach_wanted c hs l p)
-      go Invalid w = g
-      go (Parsed u) w = short u (ltb line_max (length l)) refl w
+      go : (p : Option Spelled) → wanted l ≡ p → KeptBy Q (reach_wanted c hs l p)
+      go None w = g
+      go (Some u) w = short u (ltb line_max (length l)) refl w
 
   lines_keep : (ls : List (List ℕ)) (hs : List Held) (k : ℕ) → Q hs → Q (insert_lines c hs k ls).held
   unfolding insert_lines
@@ -114,7 +111,7 @@ module _ (c : Caller) (byte : c.owner < 256) (Q : List Held → Type 0)
   unfolding book_insert book_walk
   insert_keeps hs g s = go (is_utf8 s)
     where
-      go : (b : Bool) → Q (pick b (insert_lines c hs 0 (lines_of s)) (insert_turn hs (A.NotUtf8 (valid_run s)) 0)).held
+      go : (b : Bool) → Q (pick b (insert_lines c hs 0 (lines_of s)) (insert_turn hs (Err (E.NotUtf8 (valid_run s))) 0)).held
       go true = lines_keep (lines_of s) hs 0 g
       go false = g
 
@@ -122,11 +119,11 @@ module _ (c : Caller) (byte : c.owner < 256) (Q : List Held → Type 0)
       → Q (book_attempt S.full S.crowded c hs (S.attempt c.owner a)).held
   save_keeps S owed hs g a = go (S.attempt c.owner a) refl
     where
-      fits : (h : Held) (v : S.Value) (r : Room) → room_for c h hs ≡ r → Shape h
+      fits : (h : Held) (v : S.Value) (r : Result ⊤ Full) → room_for c h hs ≡ r → Shape h
           → Q (by_room r (turn S.full hs) (turn S.crowded hs) (turn v (file h hs))).held
-      fits h v R.IndexFull e s = g
-      fits h v R.TextFull e s = g
-      fits h v R.Fits e s = filed h hs g s e
+      fits h v (Err R.Index) e s = g
+      fits h v (Err R.Text) e s = g
+      fits h v (Ok _) e s = filed h hs g s e
 
       go : (x : Attempt S.Value) → S.attempt c.owner a ≡ x
           → Q (book_attempt S.full S.crowded c hs x).held
@@ -145,7 +142,7 @@ unfolding texts distinct records
 keeps_none n m = record { shapes = tt; once = refl; index = zero-le; text = zero-le }
 
 module _ (c : Caller) (each : length c.shares ≡ owners) where
-  pub keeps_file : (h : Held) (hs : List Held) → GoodFor c hs → Shape h → room_for c h hs ≡ R.Fits
+  pub keeps_file : (h : Held) (hs : List Held) → GoodFor c hs → Shape h → room_for c h hs ≡ Ok tt
       → GoodFor c (file h hs)
   keeps_file h hs g s e =
       let shapes : Shapes (file h hs) = shapes_file h hs g.shapes s in
@@ -216,7 +213,7 @@ module _ (n m : ℕ) (s : List ℕ) (given : Given s) (front : share_sizes s ≤
     pub good : Good (n - share_sizes s) m hs
     pub within : claims s hs ≤ m
 
-  lines_file : (o : ℕ) (h : Held) (hs : List Held) → Lines hs → Shape h → room_for (caller n m s o) h hs ≡ R.Fits
+  lines_file : (o : ℕ) (h : Held) (hs : List Held) → Lines hs → Shape h → room_for (caller n m s o) h hs ≡ Ok tt
       → Lines (file h hs)
   lines_file o h hs g p e = record {
     good = keeps_file (caller n m s o) given.each h hs g.good p e;
@@ -306,13 +303,13 @@ module _ (n m : ℕ) (lm : m ≤ text_max) (c : Content) (f : Fits n m c) (o b :
   keeps_share = go (over_text m d) refl
     where
       index? : (t : Bool) → over_index n d ≡ t → over_text m d ≡ false
-          → Fits n m (pick t (setting A.NoRoom c) (setting A.Done d)).content
+          → Fits n m (pick t (setting (Err E.NoRoom) c) (setting (Ok tt) d)).content
       index? true q e = f
       index? false q e = fits_set e q
 
       go : (t : Bool) → over_text m d ≡ t
-          → Fits n m (pick t (setting A.ShareTooLarge c)
-          (pick (over_index n d) (setting A.NoRoom c) (setting A.Done d))).content
+          → Fits n m (pick t (setting (Err E.ShareTooLarge) c)
+          (pick (over_index n d) (setting (Err E.NoRoom) c) (setting (Ok tt) d))).content
       go true e = f
       go false e = index? (over_index n d) refl e
 
@@ -321,8 +318,8 @@ pub share_held : (n m : ℕ) (c : Content) (o b : ℕ) → (book_share n m c o b
 unfolding book_share
 share_held n m c o b = go (over_text m (with_share o b c)) (over_index n (with_share o b c))
   where
-    go : (x y : Bool) → (pick x (setting A.ShareTooLarge c) (pick y (setting A.NoRoom c)
-        (setting A.Done (with_share o b c)))).content.held ≡ c.held
+    go : (x y : Bool) → (pick x (setting (Err E.ShareTooLarge) c) (pick y (setting (Err E.NoRoom) c)
+        (setting (Ok tt) (with_share o b c)))).content.held ≡ c.held
     go true y = refl
     go false true = refl
     go false false = refl
@@ -339,21 +336,21 @@ module _ (n m : ℕ) (lm : m ≤ text_max) (S : Saving) (owed : Builds S) where
   keeps_turn c f clear = fits_none n m
   keeps_turn c f (insert p t) = go (owner_of p.party) (owner_byte p)
     where
-      go : (w : Owner) → ((o : ℕ) → w ≡ O.Byte o → o < 256)
+      go : (w : Owner) → ((o : ℕ) → w ≡ Some o → o < 256)
           → Fits n m (with_held c (by_owner w (turn (inserted nobody_inserts) c.held)
           (λ o. replied {S = S} inserted (book_insert (caller n m c.shares o) c.held t))).held)
-      go O.Nobody b = f
-      go (O.Byte o) b =
+      go None b = f
+      go (Some o) b =
           held_fits c f _ (keeps_insert n m c.shares f.given f.front o (b o refl) c.held
           (fits_lines n m c f) t)
   keeps_turn c f (save p a) = go (owner_of p.party) (owner_byte p)
     where
-      go : (w : Owner) → ((o : ℕ) → w ≡ O.Byte o → o < 256)
+      go : (w : Owner) → ((o : ℕ) → w ≡ Some o → o < 256)
           → Fits n m (with_held c (by_owner w (turn (saved S.nobody) c.held)
           (λ o. replied {S = S} saved
           (book_attempt S.full S.crowded (caller n m c.shares o) c.held (S.attempt o a)))).held)
-      go O.Nobody b = f
-      go (O.Byte o) b =
+      go None b = f
+      go (Some o) b =
           held_fits c f _ (keeps_save n m c.shares f.given f.front o (b o refl) S owed c.held
           (fits_lines n m c f) a)
   keeps_turn c f (share q b) =

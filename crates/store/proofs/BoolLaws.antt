@@ -40,3 +40,7 @@ and_false_left a b e = rw e
 pub and_false_right : (a b : Bool) → b ≡ false → a && b ≡ false
 and_false_right true b e = e
 and_false_right false b e = refl
+
+pub and_assoc : (a b c : Bool) → (a && b) && c ≡ a && (b && c)
+and_assoc true b c = refl
+and_assoc false b c = refl

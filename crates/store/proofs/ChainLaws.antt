@@ -12,7 +12,7 @@ use lib.Dec.{eqb, ltb}
 use lib.ListN.{get_or, set, replicate, get_or-replicate, length-replicate, length-set}
 use lib.Seq.{get_or-set_same, get_or-set_other}
 use borrow.Author.Count.{below_more}
-use borrow.Author.Tests.{ltb-true, ltb-false, eqb-true, eqb-false, eq-eqb, ne_eqb}
+use borrow.Author.Tests.{ltb-true, ltb-false, eqb-true, eqb-false}
 use Rattle.store.specs.Held.{Key, same_key}
 use Rattle.store.specs.Keys.{rows_max, bucket, AllApart, Twice, NotIn, Kin, Last, Linked, Headed}
 use Rattle.store.specs.Keys.{Chained, Seeks, Sought, Says, Tells, told_of}
@@ -20,6 +20,7 @@ use Rattle.store.specs.declared.chains.Verdict.{Verdict}
 use Rattle.store.specs.declared.chains.Verdict.TheVariants as Vd
 use Rattle.text.specs.Bytes.{pick}
 use Rattle.store.proofs.HeldLaws.{same_refl}
+use Rattle.store.proofs.BoolLaws.{and_assoc}
 
 pub unlike : (a b : Key) → same_key a b ≡ false → a ≡ b → ⊥
 unlike a b n e =
@@ -163,27 +164,11 @@ pub found_twice : (K : ℕ → Key) (n k r : ℕ) → k < n → Sought K k r →
 found_twice K n k r h q l p =
     record { a = r - 1; b = k; less = omega arith; below = h; same = q.hit p l }
 
--- the test of two keys: the owners first, then the high halves
-pub other_owner : (a b : Key) → (a.owner ≡ b.owner → ⊥) → false ≡ same_key a b
+-- the test of two keys as one
+pub same_as_one : (a b : Key)
+    → (eqb a.owner b.owner && eqb a.uuid.high b.uuid.high) && eqb a.uuid.low b.uuid.low ≡ same_key a b
 unfolding same_key
-other_owner a b n =
-    sym (ap (λ (t : Bool). t && (eqb a.uuid.high b.uuid.high && eqb a.uuid.low b.uuid.low))
-    (ne_eqb a.owner b.owner n))
-
-module _ (a b : Key) (o : a.owner ≡ b.owner) where
-  by_uuid : eqb a.uuid.high b.uuid.high && eqb a.uuid.low b.uuid.low ≡ same_key a b
-  unfolding same_key
-  by_uuid =
-      sym (ap (λ (t : Bool). t && (eqb a.uuid.high b.uuid.high && eqb a.uuid.low b.uuid.low))
-      (eq-eqb a.owner b.owner o))
-
-  pub same-unless : (a.uuid.high ≡ b.uuid.high → ⊥) → false ≡ same_key a b
-  same-unless n =
-      sym (ap (λ (t : Bool). t && eqb a.uuid.low b.uuid.low) (ne_eqb a.uuid.high b.uuid.high n)) ∙ by_uuid
-
-  pub same-when : a.uuid.high ≡ b.uuid.high → eqb a.uuid.low b.uuid.low ≡ same_key a b
-  same-when e =
-      sym (ap (λ (t : Bool). t && eqb a.uuid.low b.uuid.low) (eq-eqb a.uuid.high b.uuid.high e)) ∙ by_uuid
+same_as_one a b = and_assoc (eqb a.owner b.owner) (eqb a.uuid.high b.uuid.high) (eqb a.uuid.low b.uuid.low)
 
 -- ---- what is told of the first n
 

@@ -1,5 +1,6 @@
 -- Filing a line by number: the row before with its key is struck out, and the new line is the last one.
 -- Assumes nothing.
+use Rattle.std.specs.Prelude.{Ok, Err}
 use mathlib.Core.Bool.{Bool}
 use mathlib.Core.List.{List, [], ◌∷◌, ◌++◌}
 use mathlib.Core.Logic.{⊎_elim}
@@ -14,9 +15,6 @@ use borrow.Author.Count.{below_more}
 use borrow.Author.Tests.{ne_eqb, le-ltb}
 use Rattle.text.specs.Bytes.{pick}
 use Rattle.store.specs.declared.table.Fill.{Fill}
-use Rattle.store.specs.declared.table.Room.{Room}
-use Rattle.store.specs.declared.table.Room.TheVariants as R
-use Rattle.store.specs.declared.table.Tried.{Tried}
 use Rattle.store.specs.declared.claims.Dues.{Dues}
 use Rattle.store.specs.Book.{room_for}
 use Rattle.store.specs.Decode.{decode}
@@ -32,10 +30,11 @@ use Rattle.store.proofs.FilingLaws.{new_size, others_less, index_lacks, text_lac
 use Rattle.store.proofs.HeldLaws.{texts-file}
 use Rattle.store.proofs.LivingLaws.{gives_none}
 use Rattle.store.proofs.RecordLaws.{size_move}
-use Rattle.store.proofs.RoomLaws.{index_not, text_not}
 use Rattle.store.proofs.RowLaws.{texts-none}
 use Rattle.store.proofs.StruckLaws.{Struck, struck, Before, before, tabled_more, key_before, key_new}
 use Rattle.store.proofs.TableLaws.{chained_agree, living-same, living_most, gives_same}
+use Rattle.store.specs.declared.table.Full.TheVariants as R
+use Rattle.store.specs.declared.table.Full.{Full}
 
 module _ (g : List ℕ) (d : Dues) (i t s a heads next : List ℕ) (old : ℕ) (f : Fill) (u : Key) (start len : ℕ)
     (hs : List Held) (w : Files' g d i t s a heads next old f u start len hs) (cl : f.count < rows_max)
@@ -112,17 +111,17 @@ module _ (g : List ℕ) (d : Dues) (i t s a heads next : List ℕ) (old : ℕ) (
               ∙ y.index (length (record_bytes u 0 0)) sized
               ∙ sym (new_size h hs (length (record_bytes u 0 0)) sized)
 
-          pub full_index : length i < e → room_for (behind g i t u.owner) h hs ≡ R.IndexFull
+          pub full_index : length i < e → room_for (behind g i t u.owner) h hs ≡ Err R.Index
           full_index l = index_lacks g i t h hs d w.owed e _ end_is used_is l
 
           -- with room in the index: `all` is what is then claimed
           module _ (p : e ≤ length i) (all : ℕ)
               (ev : all ≡ d.others + larger (f.used - had + len - d.theirs) d.share) where
-            pub full_text : length t < all → room_for (behind g i t u.owner) h hs ≡ R.TextFull
+            pub full_text : length t < all → room_for (behind g i t u.owner) h hs ≡ Err R.Text
             full_text l = text_lacks g i t h hs d w.owed e _ end_is used_is all ev p l
 
             module _ (q : all ≤ length t) where
-              pub has_room : room_for (behind g i t u.owner) h hs ≡ R.Fits
+              pub has_room : room_for (behind g i t u.owner) h hs ≡ Ok tt
               has_room = both_there g i t h hs d w.owed e _ end_is used_is all ev p q
 
               older' : (j k : ℕ) → j < k → k < f.count + 1 → K' j ≡ K' k → len_in b j ≡ 0
@@ -211,32 +210,28 @@ module _ (g : List ℕ) (d : Dues) (i t s a heads next : List ℕ) (old : ℕ) (
         abbrev h' : Held
         h' = record { key = u; line = take len (drop start s) }
 
-        no_room : (v : Room) → room_for (behind g i t u.owner) h' hs ≡ v → (v ≡ R.Fits → ⊥)
-            → (z : Tried) → z ≡ record { room = v; fill = f } → Filed g i t s b heads' next' old f h' hs z
-        no_room v ev n z ez = subst (λ (z : Tried). Filed g i t s b heads' next' old f h' hs z) (sym ez)
-            (full ev n (subst (λ (v : List ℕ). Tabled i t s v old f.count hs) (sym eb)
-            (tabled_more x u start len cl byte)))
+        no_room : (v : Full) → room_for (behind g i t u.owner) h' hs ≡ Err v
+            → Filed g i t s b heads' next' old f h' hs (Err v)
+        no_room v ev =
+            full v ev refl (subst (λ (v : List ℕ). Tabled i t s v old f.count hs) (sym eb)
+            (tabled_more x u start len cl byte))
 
-        pub files_index : length i < e → (z : Tried) → z ≡ record { room = R.IndexFull; fill = f }
-            → Filed g i t s b heads' next' old f (record { key = u; line = take len (drop start s) }) hs z
-        files_index l z ez = no_room R.IndexFull (full_index had _ (goes_out _ refl) e ee l) index_not z ez
+        pub files_index : length i < e
+            → Filed g i t s b heads' next' old f (record { key = u; line = take len (drop start s) }) hs (Err R.Index)
+        files_index l = no_room R.Index (full_index had _ (goes_out _ refl) e ee l)
 
         module _ (p : e ≤ length i) (all : ℕ)
             (ev : all ≡ d.others + larger (f.used - had + len - d.theirs) d.share) where
-          pub files_text : length t < all → (z : Tried) → z ≡ record { room = R.TextFull; fill = f }
-              → Filed g i t s b heads' next' old f (record { key = u; line = take len (drop start s) }) hs z
-          files_text l z ez = no_room R.TextFull (full_text had _ (goes_out _ refl) e ee p all ev l) text_not z ez
+          pub files_text : length t < all
+              → Filed g i t s b heads' next' old f (record { key = u; line = take len (drop start s) }) hs (Err R.Text)
+          files_text l = no_room R.Text (full_text had _ (goes_out _ refl) e ee p all ev l)
 
           pub files_fit : all ≤ length t → Chained (key_in b) heads' next' (f.count + 1)
-              → (c : List ℕ) → c ≡ struck_before b r → (z : Tried)
-              → z ≡ record {
-                room = R.Fits;
-                fill = record { count = f.count + 1; end = e; used = f.used - had + len };
-              }
-              → Filed g i t s c heads' next' old f (record { key = u; line = take len (drop start s) }) hs z
-          files_fit q ch c el z ez =
+              → (c : List ℕ) → c ≡ struck_before b r
+              → Filed g i t s c heads' next' old f (record { key = u; line = take len (drop start s) }) hs
+              (Ok (record { count = f.count + 1; end = e; used = f.used - had + len }))
+          files_fit q ch c el =
               let y : Struck x u start len cl byte had c = goes_out c el in
-              subst (λ (z : Tried). Filed g i t s c heads' next' old f h' hs z) (sym ez)
-              (fits (has_room had c y e ee p all ev q) refl
+              fits _ (has_room had c y e ee p all ev q) refl
               (rows_more had c y e ee p all ev q heads' next'
-              (subst (λ (v : List ℕ). Chained (key_in v) heads' next' (f.count + 1)) eb ch)))
+              (subst (λ (v : List ℕ). Chained (key_in v) heads' next' (f.count + 1)) eb ch))

@@ -1,6 +1,7 @@
 -- Room for a line, in the numbers that `file_row` goes by: where the records end with it, and what all parties then
 -- claim.
 -- Assumes nothing.
+use Rattle.std.specs.Prelude.{Ok, Err}
 use mathlib.Core.List.{List, [], ◌∷◌}
 use mathlib.Core.Path.{◌≡◌, sym, ap, ap₂, ◌∙◌}
 use Prim.Native.Nat.{ℕ, ◌+◌, ◌-◌, ◌≤◌, ◌<◌}
@@ -8,7 +9,6 @@ use native.Mathlib.Nat.{add-zero}
 use native.Mathlib.Omega.{arith}
 use lib.ListN.{length}
 use Rattle.store.specs.declared.claims.Dues.{Dues}
-use Rattle.store.specs.declared.table.Room.TheVariants as R
 use Rattle.store.specs.Book.{room_for}
 use Rattle.store.specs.Claims.{Owed}
 use Rattle.store.specs.Held.{Held, strike, file}
@@ -18,6 +18,7 @@ use Rattle.store.specs.Shares.{larger, claims}
 use Rattle.store.proofs.ClaimLaws.{not_of-file, lengths-texts}
 use Rattle.store.proofs.RoomLaws.{index_full, text_full, both_fit}
 use Rattle.store.proofs.RowLaws.{sizes-append, sizes_cons, sizes-none}
+use Rattle.store.specs.declared.table.Full.TheVariants as R
 
 -- the records of the lines that are left, and the new one
 pub new_size : (h : Held) (hs : List Held) (size : ℕ) → Sized h.key size
@@ -34,7 +35,7 @@ module _ (g i t : List ℕ) (h : Held) (hs : List Held) (d : Dues) (owed : Owed 
   pub others_less : d.theirs ≤ used
   others_less = omega (arith, uses, lengths-texts (file h hs), owed.least (file h hs) (not_of-file h hs))
 
-  pub index_lacks : length i < end → room_for (behind g i t h.key.owner) h hs ≡ R.IndexFull
+  pub index_lacks : length i < end → room_for (behind g i t h.key.owner) h hs ≡ Err R.Index
   index_lacks l = index_full (behind g i t h.key.owner) h hs (omega (arith, ends))
 
   module _ (x : ℕ) (ex : x ≡ d.others + larger (used - d.theirs) d.share) where
@@ -43,10 +44,10 @@ module _ (g i t : List ℕ) (h : Held) (hs : List Held) (d : Dues) (owed : Owed 
         ∙ ap (λ (v : ℕ). d.others + larger (v - d.theirs) d.share) (uses ∙ sym (lengths-texts (file h hs)))
         ∙ owed.sum (file h hs) (not_of-file h hs)
 
-    pub text_lacks : end ≤ length i → length t < x → room_for (behind g i t h.key.owner) h hs ≡ R.TextFull
+    pub text_lacks : end ≤ length i → length t < x → room_for (behind g i t h.key.owner) h hs ≡ Err R.Text
     text_lacks l m = text_full (behind g i t h.key.owner) h hs (omega (arith, ends)) (omega (arith, claimed_is))
 
-    pub both_there : end ≤ length i → x ≤ length t → room_for (behind g i t h.key.owner) h hs ≡ R.Fits
+    pub both_there : end ≤ length i → x ≤ length t → room_for (behind g i t h.key.owner) h hs ≡ Ok tt
     both_there l m = both_fit (behind g i t h.key.owner) h hs (omega (arith, ends)) (omega (arith, claimed_is))
 
     pub text_there : x ≤ length t → length (texts (file h hs)) ≤ length t

@@ -1,5 +1,6 @@
 -- What the book holds under a key is the line last filed under it since the last clear.
 -- Assumes nothing.
+use Rattle.std.specs.Prelude.{Option as Optional, Result, Ok, Err, ⊤, Some, None}
 use mathlib.Core.Bool.{Bool, true, false}
 use mathlib.Core.List.{List, [], ◌∷◌, ◌++◌, append-nil, append_assoc}
 use mathlib.Core.Option.{Option, none, some}
@@ -10,25 +11,21 @@ use lib.ListN.{length}
 use Rattle.text.specs.Bytes.{pick}
 use Rattle.text.specs.Utf8.{is_utf8, valid_run}
 use Rattle.text.specs.declared.uuid.Spelled.{Spelled}
-use Rattle.text.specs.declared.uuid.UuidParse.{UuidParse}
-use Rattle.text.specs.declared.uuid.UuidParse.TheVariants.{Parsed, Invalid}
-use Rattle.store.specs.declared.owners.Owner.{Owner}
-use Rattle.store.specs.declared.owners.Owner.TheVariants as O
-use Rattle.store.specs.Parties.{owner_of, by_owner}
+use Rattle.store.specs.Parties.{owner_of, by_owner, Owner}
 use Rattle.store.specs.Book.{Caller, caller, turn, room_for, by_room, under, Reached, after, stopped, reach_wanted}
 use Rattle.store.specs.Book.{reach, insert_turn, replied, inserted, nobody_inserts}
 use Rattle.store.specs.Book.{on_reached, insert_lines, book_walk, book_insert, Attempt, refused, files, Saving}
 use Rattle.store.specs.Book.{book_attempt}
 use Rattle.store.specs.Book.{Call, clear, insert, save, share, Reply, saved, book_turn, book_after, run_book}
 use Rattle.store.specs.Shares.{Content}
-use Rattle.store.specs.declared.table.Room.{Room}
-use Rattle.store.specs.declared.table.Room.TheVariants as R
 use Rattle.store.specs.Filings.{Filing, filing, filed_line, filed_lines, filed_attempt, filed_by, since}
 use Rattle.store.specs.Filings.{filings, later_or, last_filed, line_filed}
 use Rattle.store.specs.Held.{Key, Held, same_key, file, find, line_max}
 use Rattle.store.specs.Lines.{lines_of, wanted}
 use Rattle.store.proofs.HeldLaws.{find-file}
-use Rattle.store.specs.declared.calls.Answer.TheVariants as A
+use Rattle.store.specs.declared.calls.StoreError.TheVariants as E
+use Rattle.store.specs.declared.table.Full.TheVariants as R
+use Rattle.store.specs.declared.table.Full.{Full}
 
 -- ---- the last of several filings
 
@@ -81,23 +78,23 @@ module _ {S : Saving} (key : Key) where
     unfolding reach
     says-reach hs fs l e = go (wanted l)
       where
-        fits : (u : Spelled) (r : Room)
+        fits : (u : Spelled) (r : Result ⊤ Full)
             → Says (fs ++ (filing p x a (its l u) ∷ []))
-            (by_room r (stopped A.NoRoom) (stopped A.NoText) (after (file (its l u) hs)))
-        fits u R.IndexFull = tt
-        fits u R.TextFull = tt
-        fits u R.Fits = holds-file (filing p x a (its l u)) hs fs e
+            (by_room r (stopped (Err E.NoRoom)) (stopped (Err E.NoText)) (after (file (its l u) hs)))
+        fits u (Err R.Index) = tt
+        fits u (Err R.Text) = tt
+        fits u (Ok _) = holds-file (filing p x a (its l u)) hs fs e
 
         short : (u : Spelled) (b : Bool)
             → Says (fs ++ (filing p x a (its l u) ∷ []))
-            (pick b (stopped A.LineTooLong)
-            (by_room (room_for c (its l u) hs) (stopped A.NoRoom) (stopped A.NoText) (after (file (its l u) hs))))
+            (pick b (stopped (Err E.LineTooLong))
+            (by_room (room_for c (its l u) hs) (stopped (Err E.NoRoom)) (stopped (Err E.NoText)) (after (file (its l u) hs))))
         short u true = tt
         short u false = fits u (room_for c (its l u) hs)
 
-        go : (y : UuidParse) → Says (fs ++ filed_line p x a c.owner l y) (reach_wanted c hs l y)
-        go Invalid = holds-nothing hs fs e
-        go (Parsed u) = short u (ltb line_max (length l))
+        go : (y : Optional Spelled) → Says (fs ++ filed_line p x a c.owner l y) (reach_wanted c hs l y)
+        go None = holds-nothing hs fs e
+        go (Some u) = short u (ltb line_max (length l))
 
     abbrev one : List ℕ → List (Filing S)
     one l = filed_line p x a c.owner l (wanted l)
@@ -127,7 +124,7 @@ module _ {S : Saving} (key : Key) where
     says_insert s hs fs e = go (is_utf8 s)
       where
         go : (b : Bool)
-            → Holds (pick b (insert_lines c hs 0 (lines_of s)) (insert_turn hs (A.NotUtf8 (valid_run s)) 0)).held
+            → Holds (pick b (insert_lines c hs 0 (lines_of s)) (insert_turn hs (Err (E.NotUtf8 (valid_run s))) 0)).held
             (fs ++ pick b (filed_lines p x a c hs (lines_of s)) [])
         go true = says_lines (lines_of s) hs fs 0 e
         go false = holds-nothing hs fs e
@@ -137,12 +134,12 @@ module _ {S : Saving} (key : Key) where
     says_save (refused v) hs fs e = holds-nothing hs fs e
     says_save (files h v) hs fs e = go (room_for c h hs)
       where
-        go : (r : Room)
+        go : (r : Result ⊤ Full)
             → Holds (by_room r (turn S.full hs) (turn S.crowded hs) (turn v (file h hs))).held
             (fs ++ by_room r [] [] (filing p x a h ∷ []))
-        go R.IndexFull = holds-nothing hs fs e
-        go R.TextFull = holds-nothing hs fs e
-        go R.Fits = holds-file (filing p x a h) hs fs e
+        go (Err R.Index) = holds-nothing hs fs e
+        go (Err R.Text) = holds-nothing hs fs e
+        go (Ok _) = holds-file (filing p x a h) hs fs e
 
   module _ (n m : ℕ) where
     says-turn : (p : ℕ) (c : Content) (fs : List (Filing S)) (x : Call S) → Holds c.held fs
@@ -159,8 +156,8 @@ module _ {S : Saving} (key : Key) where
             (λ o. replied {S = S} inserted (book_insert (by o) c.held s))).held
             (fs ++ by_owner w []
             (λ o. pick (is_utf8 s) (filed_lines p (insert q s) a (by o) c.held (lines_of s)) []))
-        go O.Nobody a = holds-nothing c.held fs e
-        go (O.Byte o) a = says_insert (by o) p (insert q s) a s c.held fs e
+        go None a = holds-nothing c.held fs e
+        go (Some o) a = says_insert (by o) p (insert q s) a s c.held fs e
     says-turn p c fs (save q x) e = go (owner_of q.party) (book_turn n m c (save q x)).answer
       where
         by : ℕ → Caller
@@ -170,8 +167,8 @@ module _ {S : Saving} (key : Key) where
             → Holds (by_owner w (turn (saved S.nobody) c.held)
             (λ o. replied {S = S} saved (book_attempt S.full S.crowded (by o) c.held (S.attempt o x)))).held
             (fs ++ by_owner w [] (λ o. filed_attempt p (save q x) a (by o) c.held (S.attempt o x)))
-        go O.Nobody a = holds-nothing c.held fs e
-        go (O.Byte o) a = says_save (by o) p (save q x) a (S.attempt o x) c.held fs e
+        go None a = holds-nothing c.held fs e
+        go (Some o) a = says_save (by o) p (save q x) a (S.attempt o x) c.held fs e
     says-turn p c fs (share q b) e = holds-nothing c.held fs e
 
     pub says_run : (xs : List (Call S)) (p : ℕ) (c : Content) (fs : List (Filing S)) → Holds c.held fs

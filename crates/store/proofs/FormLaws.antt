@@ -1,5 +1,6 @@
 -- The lines that an insert files in another form than 32 digits, and that each is found whichever form it has.
 -- Assumes nothing.
+use Rattle.std.specs.Prelude.{Result, ⊤, Err, Option, Some, None}
 use mathlib.Core.Bool.{Bool, true, false}
 use mathlib.Core.List.{List, [], ◌∷◌, ◌++◌}
 use mathlib.Core.Option.{some}
@@ -9,18 +10,13 @@ use native.Mathlib.Omega.{arith}
 use lib.ListN.{length, take}
 use Rattle.text.specs.Bytes.{pick}
 use Rattle.text.specs.Utf8.{is_utf8, valid_run}
-use Rattle.text.specs.declared.uuid.UuidParse.{UuidParse}
-use Rattle.text.specs.declared.uuid.UuidParse.TheVariants.{Parsed, Invalid}
-use Rattle.store.specs.declared.calls.Answer.TheVariants as A
 use Rattle.store.specs.declared.calls.Tally.{Tally}
-use Rattle.store.specs.declared.owners.Owner.{Owner}
-use Rattle.store.specs.Parties.{by_owner}
+use Rattle.store.specs.Parties.{by_owner, Owner}
 use Rattle.store.specs.Book.{Caller, caller, Turn, room_for, by_room, under, Reached, after, stopped, reach}
 use Rattle.store.specs.Book.{insert_turn, on_reached, insert_lines}
 use Rattle.store.specs.Book.{book_walk, other_spelling, other_spellings, book_insert, Saving, Call, insert, Reply}
 use Rattle.store.specs.Book.{book_turn}
 use Rattle.store.specs.Shares.{with_held}
-use Rattle.store.specs.declared.table.Room.{Room}
 use Rattle.store.specs.Decode.{content}
 use Rattle.store.specs.Filings.{Filing, filed_line, filed_lines}
 use Rattle.store.specs.Forms.{other_filings, CountsFilings, FoundAnyForm}
@@ -33,15 +29,18 @@ use Rattle.store.proofs.HeldLaws.{same_refl, find-file}
 use Rattle.store.proofs.WalkLaws.{count_least}
 use Rattle.store.proofs.Saves.{whole_guarantee}
 use Rattle.store.proofs.WantedLaws.{wanted_uuid}
+use Rattle.store.specs.declared.calls.StoreError.TheVariants as E
+use Rattle.store.specs.declared.table.Full.{Full}
+use Rattle.text.specs.declared.uuid.Spelled.{Spelled}
 
 -- ---- the number of filings
 
 module _ {S : Saving} (p : ℕ) (x : Call S) (a : Reply S) (by : Caller) where
-  one_filing : (l : List ℕ) (w : UuidParse) → wanted l ≡ w → (fs : List (Filing S))
+  one_filing : (l : List ℕ) (w : Option Spelled) → wanted l ≡ w → (fs : List (Filing S))
       → other_spelling w + other_filings fs ≡ other_filings (filed_line p x a by.owner l w ++ fs)
   unfolding other_filings
-  one_filing l Invalid e fs = omega arith
-  one_filing l (Parsed g) e fs = ap (λ (w : UuidParse). other_spelling w + other_filings fs) (sym (wanted_uuid l g e))
+  one_filing l None e fs = omega arith
+  one_filing l (Some g) e fs = ap (λ (w : Option Spelled). other_spelling w + other_filings fs) (sym (wanted_uuid l g e))
 
   walked-filings : (ls : List (List ℕ)) (hs : List Held) (c k : ℕ) → (insert_lines by hs c ls).answer.count ≡ c + k
       → other_spellings (take k ls) ≡ other_filings (filed_lines p x a by hs ls)
@@ -89,7 +88,7 @@ counts-filings p n m c q o own s =
     go : (b : Bool)
         → other_spellings (take
         (pick b (insert_lines by c.held 0 (lines_of s))
-        (insert_turn c.held (A.NotUtf8 (valid_run s)) 0)).answer.count
+        (insert_turn c.held (Err (E.NotUtf8 (valid_run s))) 0)).answer.count
         (lines_of s))
         ≡ other_filings (pick b (filed_lines p (insert q s) a by c.held (lines_of s)) [])
     go false = refl
@@ -128,4 +127,4 @@ found_any_form n m ln lm xs p o own s passed l g hs valid cut reached e q room =
     leaves = ((whole_guarantee n m ln lm xs).insert_room p o own s passed l [] g hs valid cut reached e q).held
 
     held : by_room (room_for by its hs) hs hs onward ≡ file its hs
-    held = ap (λ (r : Room). by_room r hs hs onward) room
+    held = ap (λ (r : Result ⊤ Full). by_room r hs hs onward) room

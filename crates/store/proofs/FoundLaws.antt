@@ -1,6 +1,7 @@
 -- A saved line is wanted under its own UUID, and after a save that answers done it is found until something else is
 -- filed under that UUID or the store is cleared: the filings of two lists of calls, one after the other, are joined.
 -- Assumes nothing.
+use Rattle.std.specs.Prelude.{Result, Ok, Err, ⊤, Some, None}
 use mathlib.Core.Bool.{Bool, true, false}
 use mathlib.Core.List.{List, [], ◌∷◌, ◌++◌, append_assoc, append-nil}
 use mathlib.Core.Option.{Option, none, some}
@@ -13,31 +14,23 @@ use lib.ListN.{length, drop_of_length-le}
 use lib.Seq.{take_all}
 use Rattle.text.specs.Bytes.{pick, first_of}
 use Rattle.text.specs.declared.uuid.Form.TheVariants as Fm
-use Rattle.text.specs.declared.uuid.UuidParse.TheVariants.{Parsed}
 use Rattle.text.proofs.BytesLaws.{first_le}
 use Rattle.map.specs.declared.error.MappingError.{MappingError}
-use Rattle.map.specs.declared.error.MappingAnswer.{MappingAnswer}
-use Rattle.map.specs.declared.error.MappingAnswer.TheVariants.{Accepted, Refused}
 use Rattle.map.specs.Build.{checks_of}
 use Rattle.text.specs.Search.{begins_text, first_text, platform_key, lf}
 use Rattle.map.proofs.BuiltLaws.{built_positive}
 use Rattle.store.proofs.LimitLaws.{built_fits}
 use Rattle.map.proofs.ContentLaws.{built_platform, built_uuid, built_utf8, built_lf}
-use Rattle.store.specs.declared.calls.SaveAnswer.TheVariants as Sv
 use Rattle.store.specs.declared.calls.Saved.{Saved}
 use Rattle.text.specs.declared.uuid.Uuid.{Uuid}
-use Rattle.store.specs.declared.owners.Owner.{Owner}
-use Rattle.store.specs.declared.owners.Owner.TheVariants as O
 use Rattle.store.specs.declared.parties.Party.{Party}
-use Rattle.store.specs.Parties.{owner_of, by_owner, Named}
+use Rattle.store.specs.Parties.{owner_of, by_owner, Named, Owner}
 use Rattle.store.specs.Held.{Key, Held, key_by, same_key, file, find, index_max, text_max}
 use Rattle.store.specs.Lines.{lines_of, wanted}
 use Rattle.store.specs.Book.{Caller, caller, turn, room_for, by_room, under, insert_lines, Attempt, refused, files}
 use Rattle.store.specs.Book.{Turn, Saving, book_attempt, Call, clear, insert, save, share, Reply, saved, replied}
 use Rattle.store.specs.Book.{book_turn, book_after, run_book}
 use Rattle.store.specs.Shares.{Content, nothing_held}
-use Rattle.store.specs.declared.table.Room.{Room}
-use Rattle.store.specs.declared.table.Room.TheVariants as R
 use Rattle.store.specs.Store.{found, no_owner, looked_in, looked_at, look_by, look_up}
 use Rattle.store.specs.Saves.{SaveArgs, SaveCall, unsaved_name, refused_save, attempt_after, attempt_of, Passes}
 use Rattle.store.specs.Saves.{ReadsBack, saving}
@@ -54,6 +47,10 @@ use Rattle.store.proofs.StoreLaws.{whole-look_up, whole-next, next-held}
 use Rattle.store.proofs.NextLaws.{insert_holds}
 use Rattle.store.proofs.WantedLaws.{platform-none, wanted_is}
 use Rattle.store.proofs.Saves.{builds, attempt_files, whole_guarantee}
+use Rattle.store.specs.declared.calls.SaveError.TheVariants as Sv
+use Rattle.store.specs.declared.calls.SaveError.{SaveError}
+use Rattle.store.specs.declared.table.Full.TheVariants as R
+use Rattle.store.specs.declared.table.Full.{Full}
 
 -- ---- a saved line, inserted anew
 
@@ -81,11 +78,11 @@ found_some none l e = let z : ◌≡◌ {A = ℕ} 0 1 = cc in absurd (omega arit
 found_some (some x) l e = let w : x ≡ l = cc in ap some w
 
 -- filing a line that is held leaves every look-up
-find_again : (u k : Key) (l : List ℕ) (hs : List Held) (r : Room) → find u hs ≡ some l
+find_again : (u k : Key) (l : List ℕ) (hs : List Held) (r : Result ⊤ Full) → find u hs ≡ some l
     → find k (by_room r hs hs (file (record { key = u; line = l }) hs)) ≡ find k hs
-find_again u k l hs R.IndexFull e = refl
-find_again u k l hs R.TextFull e = refl
-find_again u k l hs R.Fits e = find-file k (record { key = u; line = l }) hs ∙ go (same_key k u) refl
+find_again u k l hs (Err R.Index) e = refl
+find_again u k l hs (Err R.Text) e = refl
+find_again u k l hs (Ok _) e = find-file k (record { key = u; line = l }) hs ∙ go (same_key k u) refl
   where
     go : (t : Bool) → same_key k u ≡ t → pick t (some l) (find k hs) ≡ find k hs
     go true q = sym (ap (λ (x : Key). find x hs) (same_eq k u q) ∙ e)
@@ -109,7 +106,7 @@ module _ (c : SaveCall) (p : Passes c.args) where
       (ltb (first_text platform_key a.name) (length a.name)) p.name in
       omega (arith, ltb-false (first_text platform_key a.name) (length a.name) x, text_most platform_key a.name)
 
-  line_wanted : wanted (saved_line a) ≡ Parsed (record { id = a.uuid; form = Fm.Simple })
+  line_wanted : wanted (saved_line a) ≡ Some (record { id = a.uuid; form = Fm.Simple })
   line_wanted =
       wanted_is (saved_line a)
       (platform-none (saved_line a)
@@ -125,7 +122,7 @@ module _ (c : SaveCall) (p : Passes c.args) where
     abbrev lines : List Held
     lines = (booked n m xs).content.held
 
-    module _ (by : Named) (o : ℕ) (own : owner_of by.party ≡ O.Byte o) where
+    module _ (by : Named) (o : ℕ) (own : owner_of by.party ≡ Some o) where
       abbrev its : Held
       its = under o a.uuid (saved_line a)
 
@@ -167,20 +164,20 @@ module _ (c : SaveCall) (p : Passes c.args) where
         t' : List ℕ
         t' = (next n m xs (insert by (saved_line a))).text
 
-        looks : (o : ℕ) → owner_of by.party ≡ O.Byte o
+        looks : (o : ℕ) → owner_of by.party ≡ Some o
             → look_by (key_by o a.uuid) (stored n m xs).index (stored n m xs).text ≡ found (saved_line a)
             → (w : Owner) → by_owner w no_owner (λ r. look_by (key_by r u) i' t')
             ≡ by_owner w no_owner (λ r. look_by (key_by r u) (stored n m xs).index (stored n m xs).text)
-        looks o own z O.Nobody = refl
-        looks o own z (O.Byte r) = same_by by o own z (key_by r u)
+        looks o own z None = refl
+        looks o own z (Some r) = same_by by o own z (key_by r u)
 
         go : (w : Owner) → owner_of by.party ≡ w
             → by_owner w no_owner (λ o. look_by (key_by o a.uuid) (stored n m xs).index (stored n m xs).text)
             ≡ found (saved_line a)
             → by_owner (owner_of q) no_owner (λ r. look_by (key_by r u) i' t')
             ≡ by_owner (owner_of q) no_owner (λ r. look_by (key_by r u) (stored n m xs).index (stored n m xs).text)
-        go O.Nobody own z = let y : ◌≡◌ {A = ℕ} 0 1 = cc in absurd (omega arith)
-        go (O.Byte o) own z = looks o own z (owner_of q)
+        go None own z = let y : ◌≡◌ {A = ℕ} 0 1 = cc in absurd (omega arith)
+        go (Some o) own z = looks o own z (owner_of q)
 
     pub saved_again : SavedAgain n m xs a
     saved_again = record { is_wanted = line_wanted; one_line = line_one; same = same_finds }
@@ -232,22 +229,22 @@ filings_kept n m (y ∷ ys) p c fs e =
 -- it has passed its checks, there was room, and the answer is build's
 record Accepts (n m : ℕ) (d : Content) (o : ℕ) (c : SaveCall) (v : Saved) : Type 0 where
   passed : Passes c.args
-  room : room_for (caller n m d.shares o) (built_held o c.args) d.held ≡ R.Fits
+  room : room_for (caller n m d.shares o) (built_held o c.args) d.held ≡ Ok tt
   value : v ≡ built_save c.args
 
 same_saved : (x y : Saved) → ◌≡◌ {A = Reply saving} (saved x) (saved y) → x ≡ y
 same_saved x y e = cc
 
-full_not_done : Sv.NoRoom ≡ Sv.Done → ⊥
+full_not_done : ◌≡◌ {A = Result ⊤ SaveError} (Err Sv.NoRoom) (Ok tt) → ⊥
 full_not_done e = let z : ◌≡◌ {A = ℕ} 0 1 = cc in omega arith
 
-crowded_not_done : Sv.NoText ≡ Sv.Done → ⊥
+crowded_not_done : ◌≡◌ {A = Result ⊤ SaveError} (Err Sv.NoText) (Ok tt) → ⊥
 crowded_not_done e = let z : ◌≡◌ {A = ℕ} 0 1 = cc in omega arith
 
-unsaved_not_done : Sv.UnsavedName ≡ Sv.Done → ⊥
+unsaved_not_done : ◌≡◌ {A = Result ⊤ SaveError} (Err Sv.UnsavedName) (Ok tt) → ⊥
 unsaved_not_done e = let z : ◌≡◌ {A = ℕ} 0 1 = cc in omega arith
 
-refused_not_done : (x : MappingError) → Sv.Refused x ≡ Sv.Done → ⊥
+refused_not_done : (x : MappingError) → ◌≡◌ {A = Result ⊤ SaveError} (Err (Sv.Refused x)) (Ok tt) → ⊥
 refused_not_done x e = let z : ◌≡◌ {A = ℕ} 0 1 = cc in omega arith
 
 abbrev tries : Caller → List Held → Attempt Saved → Turn Saved
@@ -256,8 +253,8 @@ tries b hs x = book_attempt (refused_save Sv.NoRoom) (refused_save Sv.NoText) b 
 abbrev Says : Caller → List Held → Saved → Attempt Saved → Type 0
 Says b hs v x = ◌≡◌ {A = Reply saving} (saved (tries b hs x).answer) (saved v)
 
-accepts : (n m : ℕ) (d : Content) (p : Named) (o : ℕ) → owner_of p.party ≡ O.Byte o → (c : SaveCall) (v : Saved)
-    → (book_turn {S = saving} n m d (save p c)).answer ≡ saved v → v.answer ≡ Sv.Done → Accepts n m d o c v
+accepts : (n m : ℕ) (d : Content) (p : Named) (o : ℕ) → owner_of p.party ≡ Some o → (c : SaveCall) (v : Saved)
+    → (book_turn {S = saving} n m d (save p c)).answer ≡ saved v → v.answer ≡ Ok tt → Accepts n m d o c v
 unfolding book_turn attempt_of
 accepts n m d p o own c v e done =
     checked (checks_of a.slots a.buttons a.axes a.name) refl
@@ -274,33 +271,33 @@ accepts n m d p o own c v e done =
     by : ℕ → Caller
     by r = caller n m d.shares r
 
-    room? : (r : Room) → room_for (by o) (built_held o a) hs ≡ r → Passes a
+    room? : (r : Result ⊤ Full) → room_for (by o) (built_held o a) hs ≡ r → Passes a
         → ◌≡◌ {A = Reply saving}
         (saved (by_room r (turn (refused_save Sv.NoRoom) hs) (turn (refused_save Sv.NoText) hs)
         (turn (built_save a) (file (built_held o a) hs))).answer)
         (saved v)
         → Accepts n m d o c v
-    room? R.IndexFull q ok w =
+    room? (Err R.Index) q ok w =
         absurd (full_not_done (ap (λ (x : Saved). x.answer) (same_saved (refused_save Sv.NoRoom) v w) ∙ done))
-    room? R.TextFull q ok w =
+    room? (Err R.Text) q ok w =
         absurd (crowded_not_done (ap (λ (x : Saved). x.answer) (same_saved (refused_save Sv.NoText) v w) ∙ done))
-    room? R.Fits q ok w = record { passed = ok; room = q; value = sym (same_saved (built_save a) v w) }
+    room? (Ok _) q ok w = record { passed = ok; room = q; value = sym (same_saved (built_save a) v w) }
 
-    named : (b : Bool) → unsaved_name a.name ≡ b → checks_of a.slots a.buttons a.axes a.name ≡ Accepted
+    named : (b : Bool) → unsaved_name a.name ≡ b → checks_of a.slots a.buttons a.axes a.name ≡ Ok tt
         → Says (by o) hs v (pick b (refused (refused_save Sv.UnsavedName)) (files (built_held o a) (built_save a)))
         → Accepts n m d o c v
     named true q ok w =
         absurd (unsaved_not_done (ap (λ (x : Saved). x.answer) (same_saved (refused_save Sv.UnsavedName) v w) ∙ done))
     named false q ok w = room? (room_for (by o) (built_held o a) hs) refl (record { build = ok; name = q }) w
 
-    checked : (r : MappingAnswer) → checks_of a.slots a.buttons a.axes a.name ≡ r
+    checked : (r : Result ⊤ MappingError) → checks_of a.slots a.buttons a.axes a.name ≡ r
         → Says (by o) hs v (attempt_after o a r) → Accepts n m d o c v
-    checked Accepted ok w = named (unsaved_name a.name) refl ok w
-    checked (Refused x) ok w =
+    checked (Ok _) ok w = named (unsaved_name a.name) refl ok w
+    checked (Err x) ok w =
         absurd (refused_not_done x (ap (λ (y : Saved). y.answer) (same_saved (refused_save (Sv.Refused x)) v w) ∙ done))
 
 module _ (n m : ℕ) (ln : n ≤ index_max) (lm : m ≤ text_max) where
-  module _ (xs : Calls) (p : Named) (o : ℕ) (mine : owner_of p.party ≡ O.Byte o) (c : SaveCall) (v : Saved)
+  module _ (xs : Calls) (p : Named) (o : ℕ) (mine : owner_of p.party ≡ Some o) (c : SaveCall) (v : Saved)
       (ok : Accepts n m (booked n m xs).content o c v) where
     abbrev before : List (Filing saving)
     before = filings 0 n m nothing_held [] xs
@@ -324,7 +321,7 @@ module _ (n m : ℕ) (ln : n ≤ index_max) (lm : m ≤ text_max) where
         ∙ ap (λ (y : Attempt Saved). before
         ++ filed_attempt place (save p c) reply (caller_after n m xs o) (book_lines n m xs) y)
         (attempt_files o c.args ok.passed)
-        ∙ ap (λ (r : Room). before ++ by_room r [] [] (own ∷ [])) ok.room)
+        ∙ ap (λ (r : Result ⊤ Full). before ++ by_room r [] [] (own ∷ [])) ok.room)
 
     last_own : (ys : Calls) → has_clear ys ≡ false
         → last_filed (key_by o c.args.uuid) (filed_after n m (xs ++ (save p c ∷ [])) ys) ≡ none

@@ -17,7 +17,7 @@ use Rattle.store.specs.Layout.{Shape, Shapes, texts}
 use Rattle.store.proofs.BoolLaws.{and_left, and_right, and_both, or_false, or_left, or_right}
 
 -- laws of keys
-eqb-sym : (x y : ℕ) → eqb x y ≡ eqb y x
+pub eqb-sym : (x y : ℕ) → eqb x y ≡ eqb y x
 eqb-sym x y = go (eqb x y) refl
   where
     go : (b : Bool) → eqb x y ≡ b → b ≡ eqb y x

@@ -1,5 +1,6 @@
 -- The steps of an insert: where a line goes, and the turns and exits of the loop.
 -- Assumes nothing.
+use Rattle.std.specs.Prelude.{Option as Optional, Result, Ok, Err, ⊤, Some, None}
 use mathlib.Core.Bool.{Bool, true, false}
 use mathlib.Core.List.{List, ◌++◌}
 use mathlib.Core.Option.{Option, none, some}
@@ -14,12 +15,8 @@ use borrow.Author.Tests.{lt-ltb, le-ltb}
 use Rattle.text.specs.Bytes.{pick}
 use Rattle.text.specs.Utf8.{is_utf8, valid_run}
 use Rattle.text.specs.declared.uuid.Spelled.{Spelled}
-use Rattle.text.specs.declared.uuid.UuidParse.{UuidParse}
-use Rattle.text.specs.declared.uuid.UuidParse.TheVariants.{Parsed, Invalid}
 use Rattle.store.specs.declared.calls.Tally.{Tally}
 use Rattle.store.specs.declared.batch.Walked.{Walked}
-use Rattle.store.specs.declared.table.Room.{Room}
-use Rattle.store.specs.declared.table.Room.TheVariants as R
 use Rattle.store.specs.Table.{Takes, onward, halted, Went, Encoded, Batches, InsertsAll}
 use Rattle.store.specs.Book.{Caller, caller, room_for, by_room, Turn, under, Reached, after, stopped, reach}
 use Rattle.store.specs.Book.{reach_wanted, insert_turn, insert_lines, book_walk}
@@ -39,24 +36,27 @@ use Rattle.store.proofs.DecodeLaws.{length_text, decode_encoded}
 use Rattle.store.proofs.EncodesLaws.{content_encodes}
 use Rattle.store.proofs.LineLaws.{lines_end}
 use Rattle.store.proofs.PartLaws.{Whole, whole}
-use Rattle.store.specs.declared.calls.Answer.TheVariants as A
+use Rattle.store.specs.declared.calls.StoreError.TheVariants as E
+use Rattle.store.specs.declared.calls.StoreError.{StoreError}
+use Rattle.store.specs.declared.table.Full.TheVariants as R
+use Rattle.store.specs.declared.table.Full.{Full}
 
 -- one line: where it goes, by the tests
 module _ (by : Caller) (hs : List Held) (l : List ℕ) where
-  pub reach-not : wanted l ≡ Invalid → reach by hs l ≡ after hs
+  pub reach-not : wanted l ≡ None → reach by hs l ≡ after hs
   unfolding reach
   reach-not e = rw e
 
-  pub reach_long : (u : Spelled) → wanted l ≡ Parsed u → line_max < length l → reach by hs l ≡ stopped A.LineTooLong
+  pub reach_long : (u : Spelled) → wanted l ≡ Some u → line_max < length l → reach by hs l ≡ stopped (Err E.LineTooLong)
   unfolding reach
   reach_long u e q = rw (e, lt-ltb line_max (length l) q)
 
-  pub reach_room : (u : Spelled) → wanted l ≡ Parsed u → length l ≤ line_max → (r : Room)
+  pub reach_room : (u : Spelled) → wanted l ≡ Some u → length l ≤ line_max → (r : Result ⊤ Full)
       → room_for by (under by.owner u.id l) hs ≡ r
-      → reach by hs l ≡ by_room r (stopped A.NoRoom) (stopped A.NoText) (after (file (under by.owner u.id l) hs))
+      → reach by hs l ≡ by_room r (stopped (Err E.NoRoom)) (stopped (Err E.NoText)) (after (file (under by.owner u.id l) hs))
   unfolding reach
   reach_room u e q r p = rw (e, le-ltb line_max (length l) q)
-      (ap (λ (x : Room). by_room x (stopped A.NoRoom) (stopped A.NoText)
+      (ap (λ (x : Result ⊤ Full). by_room x (stopped (Err E.NoRoom)) (stopped (Err E.NoText))
       (after (file (under by.owner u.id l) hs))) p)
 
 -- the others' lines stay
@@ -71,20 +71,20 @@ reach_others by hs l = go (wanted l)
     its : Spelled → Held
     its u = under by.owner u.id l
 
-    fits : (u : Spelled) (r : Room)
-        → Others by hs (by_room r (stopped A.NoRoom) (stopped A.NoText) (after (file (its u) hs)))
-    fits u R.IndexFull = tt
-    fits u R.TextFull = tt
-    fits u R.Fits = not_of-file (its u) hs
+    fits : (u : Spelled) (r : Result ⊤ Full)
+        → Others by hs (by_room r (stopped (Err E.NoRoom)) (stopped (Err E.NoText)) (after (file (its u) hs)))
+    fits u (Err R.Index) = tt
+    fits u (Err R.Text) = tt
+    fits u (Ok _) = not_of-file (its u) hs
 
-    short : (u : Spelled) (b : Bool) → Others by hs (pick b (stopped A.LineTooLong)
-        (by_room (room_for by (its u) hs) (stopped A.NoRoom) (stopped A.NoText) (after (file (its u) hs))))
+    short : (u : Spelled) (b : Bool) → Others by hs (pick b (stopped (Err E.LineTooLong))
+        (by_room (room_for by (its u) hs) (stopped (Err E.NoRoom)) (stopped (Err E.NoText)) (after (file (its u) hs))))
     short u true = tt
     short u false = fits u (room_for by (its u) hs)
 
-    go : (p : UuidParse) → Others by hs (reach_wanted by hs l p)
-    go Invalid = refl
-    go (Parsed u) = short u (ltb line_max (length l))
+    go : (p : Optional Spelled) → Others by hs (reach_wanted by hs l p)
+    go None = refl
+    go (Some u) = short u (ltb line_max (length l))
 
 pub after_others : (by : Caller) (hs : List Held) (l : List ℕ) (ks : List Held) → reach by hs l ≡ after ks
     → not_of by.owner ks ≡ not_of by.owner hs
@@ -158,13 +158,13 @@ module _ (g : List ℕ) (own : ℕ) (i₀ t₀ s i t : List ℕ) (at count : ℕ
     subst (λ (z : Turn Tally). Encoded (length i₀) (length t₀) i' t' z.held) (sym e) x,
   )
 
-  pub insert_end : length s ≤ at → InsertsAll g i₀ t₀ own s (record { answer = A.Done; count = count }) i t
+  pub insert_end : length s ≤ at → InsertsAll g i₀ t₀ own s (record { answer = Ok tt; count = count }) i t
   unfolding insert_lines
   insert_end l hs₀ d =
       let x : Inserts g own i₀ t₀ s i t at count hs₀ = w.inserts hs₀ d in
-      ended hs₀ (insert_turn x.hs A.Done count)
+      ended hs₀ (insert_turn x.hs (Ok tt) count)
       (x.run ∙ ap (insert_lines (behind g i₀ t₀ own) x.hs count) (lines_end s at l))
-      (record { answer = A.Done; count = count }) refl i t (record { index = x.index; text = x.text })
+      (record { answer = Ok tt; count = count }) refl i t (record { index = x.index; text = x.text })
 
   -- a batch on
   module _ (r : Walked) (i' t' : List ℕ) (f : Batches g i t own s at r i' t') where
@@ -179,20 +179,22 @@ module _ (g : List ℕ) (own : ℕ) (i₀ t₀ s i t : List ℕ) (at count : ℕ
         (Encoded (length i) m i' t')) w.text
         (f x.hs (decoded hs₀ x)))
 
-    pub insert_stop : r.on ≡ false
-        → InsertsAll g i₀ t₀ own s (record { answer = r.answer; count = count + r.count }) i' t'
-    insert_stop n hs₀ d = go (w.inserts hs₀ d) (batch hs₀ (w.inserts hs₀ d))
+    pub insert_stop : (e : StoreError) → r.answer ≡ Err e
+        → InsertsAll g i₀ t₀ own s (record { answer = Err e; count = count + r.count }) i' t'
+    insert_stop e n hs₀ d = go (w.inserts hs₀ d) (batch hs₀ (w.inserts hs₀ d))
       where
         go : (x : Inserts g own i₀ t₀ s i t at count hs₀) → By x.hs
-            → (record { answer = r.answer; count = count + r.count }
+            → (record { answer = Err e; count = count + r.count }
             ≡ (insert_lines (behind g i₀ t₀ own) hs₀ 0 (lines_of s)).answer)
             × Encoded (length i₀) (length t₀) i' t' (insert_lines (behind g i₀ t₀ own) hs₀ 0 (lines_of s)).held
-        go x (onward ks o run k p) = absurd (true-false (sym o ∙ n))
-        go x (halted ks o run k p) =
-            ended hs₀ (insert_turn ks r.answer (count + r.count)) (x.run ∙ run count)
-            (record { answer = r.answer; count = count + r.count }) refl i' t' p
+        go x (onward ks o run k p) = let z : ◌≡◌ {A = ℕ} 0 1 = cc in absurd (omega arith)
+        go x (halted ks v o run k p) =
+            let z : v ≡ e = cc in
+            ended hs₀ (insert_turn ks (Err v) (count + r.count)) (x.run ∙ run count)
+            (record { answer = Err e; count = count + r.count })
+            (ap (λ (m : StoreError). record { answer = Err m; count = count + r.count }) (sym z)) i' t' p
 
-    pub insert_turn_lem : r.on ≡ true → Went s at 0 r → Inserting g own i₀ t₀ s i' t' r.at (count + r.count)
+    pub insert_turn_lem : r.answer ≡ Ok tt → Went s at 0 r → Inserting g own i₀ t₀ s i' t' r.at (count + r.count)
     insert_turn_lem n b =
         let q : (hs : List Held) × (decode i₀ t₀ ≡ some hs) = lines_of_lem (decode i₀ t₀) w.sound in
         let y : Inserts g own i₀ t₀ s i' t' r.at (count + r.count) q.0 = next q.0
@@ -212,21 +214,21 @@ module _ (g : List ℕ) (own : ℕ) (i₀ t₀ s i t : List ℕ) (at count : ℕ
         next hs₀ x = go (batch hs₀ x)
           where
             go : By x.hs → Inserts g own i₀ t₀ s i' t' r.at (count + r.count) hs₀
-            go (halted ks o run k p) = absurd (true-false (sym n ∙ o))
+            go (halted ks v o run k p) = let z : ◌≡◌ {A = ℕ} 0 1 = cc in absurd (omega arith)
             go (onward ks o run k p) =
                 record { hs = ks; good = k x.good; index = p.index; text = p.text; run = x.run ∙ run count }
 
 -- ---- `walk_insert`
 
 pub walk_unsound : (own : ℕ) (i t s : List ℕ) → known (content i t) ≡ false
-    → record { answer = record { answer = A.Unsound; count = 0 }; index = i; text = t } ≡ store_walk i t own s
+    → record { answer = record { answer = Err E.Unsound; count = 0 }; index = i; text = t } ≡ store_walk i t own s
 unfolding store_walk
 walk_unsound own i t s e = sym (go (content i t) e)
   where
     go : (o : Option Content) → known o ≡ false
-        → on_lines i t o (record { answer = A.Unsound; count = 0 })
+        → on_lines i t o (record { answer = Err E.Unsound; count = 0 })
         (λ c. book_walk (caller (length i) (length t) c.shares own) c.held s)
-        ≡ record { answer = record { answer = A.Unsound; count = 0 }; index = i; text = t }
+        ≡ record { answer = record { answer = Err E.Unsound; count = 0 }; index = i; text = t }
     go none q = refl
     go (some c) q = absurd (true-false q)
 
@@ -248,29 +250,29 @@ module _ (own : ℕ) (i t s : List ℕ) (c : Content) (d : content i t ≡ some 
         index = encode_index (length i) c.shares z.held;
         text = encode_text (length t) z.held;
       }) (sym e)
-      ∙ sym (ap (λ (o : Option Content). on_lines i t o (record { answer = A.Unsound; count = 0 })
+      ∙ sym (ap (λ (o : Option Content). on_lines i t o (record { answer = Err E.Unsound; count = 0 })
       (λ c. book_walk (caller (length i) (length t) c.shares own) c.held s)) d)
 
   walk_bad : Bytes i → is_utf8 s ≡ false
-      → record { answer = record { answer = A.NotUtf8 (valid_run s); count = 0 }; index = i; text = t }
+      → record { answer = record { answer = Err (E.NotUtf8 (valid_run s)); count = 0 }; index = i; text = t }
       ≡ store_walk i t own s
   unfolding book_walk
   walk_bad b e =
       let l = content_encodes i t c b d in
       ap₂ (λ (x y : List ℕ). record
-      { answer = record { answer = A.NotUtf8 (valid_run s); count = 0 }; index = x; text = y })
+      { answer = record { answer = Err (E.NotUtf8 (valid_run s)); count = 0 }; index = x; text = y })
       l.index l.text
-      ∙ stored (insert_turn c.held (A.NotUtf8 (valid_run s)) 0) (rw e)
+      ∙ stored (insert_turn c.held (Err (E.NotUtf8 (valid_run s))) 0) (rw e)
 
 pub walk-not_utf8 : (own : ℕ) (i t s : List ℕ) → Bytes i → known (content i t) ≡ true → is_utf8 s ≡ false → (p : ℕ)
     → p ≡ valid_run s
-    → record { answer = record { answer = A.NotUtf8 p; count = 0 }; index = i; text = t } ≡ store_walk i t own s
+    → record { answer = record { answer = Err (E.NotUtf8 p); count = 0 }; index = i; text = t } ≡ store_walk i t own s
 walk-not_utf8 own i t s b k e p q =
-    ap (λ (x : ℕ). record { answer = record { answer = A.NotUtf8 x; count = 0 }; index = i; text = t }) q
+    ap (λ (x : ℕ). record { answer = record { answer = Err (E.NotUtf8 x); count = 0 }; index = i; text = t }) q
     ∙ go (content i t) refl k
   where
     go : (o : Option Content) → content i t ≡ o → known o ≡ true
-        → record { answer = record { answer = A.NotUtf8 (valid_run s); count = 0 }; index = i; text = t }
+        → record { answer = record { answer = Err (E.NotUtf8 (valid_run s)); count = 0 }; index = i; text = t }
         ≡ store_walk i t own s
     go none d z = absurd (true-false (sym z))
     go (some c) d z = walk_bad own i t s c d b e

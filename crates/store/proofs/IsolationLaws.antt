@@ -1,5 +1,6 @@
 -- A party's look-ups go by what it filed itself since the last clear, which its own calls and their results tell.
 -- Assumes nothing.
+use Rattle.std.specs.Prelude.{Option as Optional, Some, None}
 use mathlib.Core.Bool.{Bool, true, false}
 use mathlib.Core.List.{List, [], ◌∷◌, ◌++◌, append-nil}
 use mathlib.Core.Option.{Option, none, some}
@@ -11,12 +12,8 @@ use Rattle.text.specs.Bytes.{pick}
 use Rattle.text.specs.Utf8.{is_utf8}
 use Rattle.text.specs.Uuid.{without_checksum}
 use Rattle.text.specs.declared.uuid.Uuid.{Uuid}
-use Rattle.text.specs.declared.uuid.UuidParse.{UuidParse}
-use Rattle.text.specs.declared.uuid.UuidParse.TheVariants.{Parsed, Invalid}
 use Rattle.store.specs.declared.calls.Saved.{Saved}
-use Rattle.store.specs.declared.owners.Owner.{Owner}
-use Rattle.store.specs.declared.owners.Owner.TheVariants as O
-use Rattle.store.specs.Parties.{owner_of, by_owner}
+use Rattle.store.specs.Parties.{owner_of, by_owner, Owner}
 use Rattle.store.specs.Held.{Key, Held, key_by, same_key, index_max, text_max}
 use Rattle.store.specs.Lines.{lines_of, wanted}
 use Rattle.store.specs.Refusals.{save_number}
@@ -31,12 +28,13 @@ use Rattle.store.specs.Filings.{line_filed}
 use Rattle.store.specs.Guarantee.{Calls, stored, last_of}
 use Rattle.store.specs.Near.{nobody, near_in, near_up}
 use Rattle.store.specs.Isolation.{Own, clears, inserts, saves, own_call, Deed, and_deed, deeds, Isolated}
-use Rattle.store.specs.declared.calls.SaveAnswer.TheVariants as Sv
 use Rattle.store.proofs.BoolLaws.{and_false_left}
 use Rattle.store.proofs.NearLaws.{near_after}
 use Rattle.store.proofs.Saves.{builds, whole_guarantee}
 use Rattle.store.proofs.ToldLaws.{helds, helds_append, wanted_under, told_lines, insert_told, told_attempt}
 use Rattle.store.proofs.ToldLaws.{save_told}
+use Rattle.store.specs.declared.calls.SaveError.TheVariants as Sv
+use Rattle.text.specs.declared.uuid.Spelled.{Spelled}
 
 -- ---- the last line under a key
 
@@ -107,9 +105,9 @@ owned_lines q [] c = tt
 owned_lines q (l ∷ ls) zero = tt
 owned_lines q (l ∷ ls) (suc c) = go (wanted l) (owned_lines q ls c)
   where
-    go : (y : UuidParse) → Owned q (told_lines q ls c) → Owned q (wanted_under q l y ++ told_lines q ls c)
-    go Invalid w = w
-    go (Parsed g) w = (refl, w)
+    go : (y : Optional Spelled) → Owned q (told_lines q ls c) → Owned q (wanted_under q l y ++ told_lines q ls c)
+    go None w = w
+    go (Some g) w = (refl, w)
 
 owned_save : (q : ℕ) (c : SaveCall) (k : ℕ) → Owned q (told_attempt (attempt_of q c.args) k)
 owned_save q c k = go (attempt_of q c.args) refl
@@ -203,8 +201,8 @@ module _ (k : Key) where
             (after_call o gs (by_owner w none (λ v. pick (eqb v o) (some (inserts s)) none))
             (by_owner w (turn (inserted nobody_inserts) d.held)
             (λ v. replied {S = saving} inserted (book_insert (by v) d.held s))).answer)
-        go O.Nobody a = skips-none fs gs e
-        go (O.Byte v) a = own? a v (eqb v o) refl
+        go None a = skips-none fs gs e
+        go (Some v) a = own? a v (eqb v o) refl
     turn_alike p d fs gs (save q c) e = go (owner_of q.party) (book_turn n m d (save q c)).answer
       where
         by : ℕ → Caller
@@ -239,8 +237,8 @@ module _ (k : Key) where
             (λ v. replied {S = saving} saved
             (book_attempt (refused_save Sv.NoRoom) (refused_save Sv.NoText) (by v) d.held
             (attempt_of v c.args)))).answer)
-        go O.Nobody a = skips-none fs gs e
-        go (O.Byte v) a = own? a v (eqb v o) refl
+        go None a = skips-none fs gs e
+        go (Some v) a = own? a v (eqb v o) refl
     turn_alike p d fs gs (share q b) e = skips-none fs gs e
 
     run_alike : (xs : Calls) (p : ℕ) (d : Content) (fs : List (Filing saving)) (gs : List Held) → Alike fs gs

@@ -4,7 +4,7 @@ pub mod BoolLaws
 pub mod HeldLaws
 pub mod LimitLaws
 pub mod BufferLaws
-pub mod EightLaws
+pub mod ByteLaws
 pub mod WriteLaws
 pub mod ChainLaws
 pub mod OrderLaws

@@ -1,5 +1,6 @@
 -- A look-up in a sound store: the line of the number before with that key is the line held.
 -- Assumes nothing.
+use Rattle.std.specs.Prelude.{Option as Optional, Some, None, Ok, Err}
 use mathlib.Core.Bool.{Bool, true, false}
 use mathlib.Core.List.{List, [], ◌∷◌, ◌++◌}
 use mathlib.Core.Logic.{⊎_elim}
@@ -13,23 +14,22 @@ use lib.ListN.{length, take, drop}
 use borrow.Author.Tests.{eq-eqb, ne_eqb, eqb-true, eqb-false, ltb-true, ltb-false, lt-ltb}
 use Rattle.text.specs.Bytes.{pick}
 use Rattle.store.specs.declared.table.Fill.{Fill}
-use Rattle.store.specs.declared.look.Seen.{Seen}
 use Rattle.store.specs.declared.look.Part.{Part}
-use Rattle.store.specs.declared.calls.Look.TheVariants as L
 use Rattle.store.specs.Decode.{decode, content}
 use Rattle.store.specs.Shares.{Content}
 use Rattle.store.specs.Held.{Key, Held, same_key, find}
 use Rattle.store.specs.Inner.{known}
 use Rattle.store.specs.Keys.{rows_max, Sought}
 use Rattle.store.specs.Rows.{Row, row_in, key_in, start_in, len_in, row_put, Long}
-use Rattle.store.specs.Table.{living, held_at, line_at, InRows, Loads, len_before, Sees}
-use Rattle.store.specs.Sights.{Ready, Agree, Spot, nowhere, there}
+use Rattle.store.specs.Table.{living, held_at, line_at, InRows, Loads, len_before}
+use Rattle.store.specs.Sights.{Ready, Agree, Spot, nowhere, there, Sees}
 use Rattle.store.specs.Store.{Looked, nothing, unsound, looked_in, looked_at, look_by, says_of, line_of}
 use Rattle.store.specs.Store as store
 use Rattle.store.proofs.ChainLaws.{unlike}
 use Rattle.store.proofs.HeldLaws.{same_refl, same_eq}
 use Rattle.store.proofs.TableLaws.{chained_agree}
 use Rattle.store.proofs.WriteLaws.{put_long, row_same, row_other}
+use Rattle.store.specs.declared.calls.LookError.TheVariants as L
 
 look_unsound : (k : Key) (i t : List ℕ) → known (content i t) ≡ false → look_by k i t ≡ unsound
 unfolding look_by
@@ -156,7 +156,7 @@ module _ (k : Key) (i t a b heads next : List ℕ) (f : Fill) (hs : List Held)
     len_is = el ∙ ap (λ (c : Bool). pick c 0 (len_in b (r - 1))) (ne_eqb r 0 (λ z. omega arith))
         ∙ sym (ap (λ (v : Row). v.len) (agree (r - 1) (omega arith)))
 
-  pub spot_none : len ≡ 0 → Spot t (find k hs) (record { start = 0; len = 0 })
+  pub spot_none : len ≡ 0 → Spot t (find k hs) None
   spot_none z = nowhere (ap (find k) x.tabled.is ∙ go (eqb r 0) refl) refl
     where
       go : (c : Bool) → eqb r 0 ≡ c → find k (living S f.count) ≡ none
@@ -169,7 +169,7 @@ module _ (k : Key) (i t a b heads next : List ℕ) (f : Fill) (hs : List Held)
           one p ∙ find_gone (r - 1) (sym (len_is p) ∙ z)
 
   pub spot_line : (len ≡ 0 → ⊥) → (start : ℕ) → start ≡ start_in b (r - 1)
-      → Spot t (find k hs) (record { start = start; len = len })
+      → Spot t (find k hs) (Some (record { start = start; len = len }))
   spot_line z start es =
       let p : 0 < r = some-before b r len el z in
       let l : r - 1 < f.count = omega arith in
@@ -177,12 +177,12 @@ module _ (k : Key) (i t a b heads next : List ℕ) (f : Fill) (hs : List Held)
       let w : start_in a (r - 1) + len_in a (r - 1) ≤ length t
       = subst (λ (c : Bool). start_in a (r - 1) + len_in a (r - 1) ≤ length (pick c t []))
       (lt-ltb (r - 1) f.count l) (x.tabled.inside (r - 1) l) in
-      there
+      there _
       (ap (find k) x.tabled.is ∙ one p ∙ find_here (r - 1) (at_key p) (λ y. z (len_is p ∙ y))
       ∙ ap (λ (c : Bool). some (take (len_in a (r - 1)) (drop (start_in a (r - 1)) (pick c t []))))
       (lt-ltb (r - 1) f.count l)
       ∙ ap₂ (λ (v q : ℕ). some (take v (drop q t))) (sym (len_is p)) (sym st))
-      (omega arith) (omega (arith, w, len_is p, st))
+      refl (omega (arith, w, len_is p, st))
 
 -- ---- a key written down under number n
 
@@ -204,31 +204,20 @@ module _ (a heads next : List ℕ) (n : ℕ) (k : Key) (l : n < rows_max) (p : R
 -- ---- what a look-up says
 
 module _ (k : Key) (i t : List ℕ) where
-  -- what is seen where a look-up comes to x
-  sees : (r : Seen) (x : Looked) → look_by k i t ≡ x → r.how ≡ says_of x
-      → r.start + r.len ≤ length t → take r.len (drop r.start t) ≡ line_of x → Sees i t k r
-  sees r x e h l q = record { how = h ∙ ap says_of (sym e); within = l; line = q ∙ ap line_of (sym e) }
+  pub sees_unsound : known (content i t) ≡ false → Sees t (look_by k i t) (Err L.Unsound)
+  sees_unsound e = subst (λ (x : Looked). Sees t x (Err L.Unsound)) (sym (look_unsound k i t e))
+      (record { how = refl; within = tt; line = refl })
 
-  pub sees_unsound : known (content i t) ≡ false → Sees i t k (record { how = L.Unsound; start = 0; len = 0 })
-  sees_unsound e = sees _ unsound (look_unsound k i t e) refl (omega arith) refl
-
-  module _ (c : Content) (e : content i t ≡ some c) (r : Part) (s : Spot t (find k c.held) r) where
-    looks : (o : Option (List ℕ)) → find k c.held ≡ o → look_by k i t ≡ looked_in o
-    unfolding look_by
-    looks o q = ap (looked_at k) e ∙ ap looked_in q
-
-    pub sees_none : r.len ≡ 0 → Sees i t k (record { how = L.Missing; start = 0; len = 0 })
-    sees_none z = go s
-      where
-        go : Spot t (find k c.held) r → Sees i t k (record { how = L.Missing; start = 0; len = 0 })
-        go (nowhere q y) = sees _ nothing (looks none q) refl (omega arith) refl
-        go (there q y w) = absurd (omega (arith, y, z))
-
-    pub sees_line : (r.len ≡ 0 → ⊥) → Sees i t k (record { how = L.Found; start = r.start; len = r.len })
-    sees_line z = go s
-      where
-        go : Spot t (find k c.held) r → Sees i t k (record { how = L.Found; start = r.start; len = r.len })
-        go (nowhere q y) = absurd (z y)
-        go (there q y w) =
-            sees _ (store.found (take r.len (drop r.start t)))
-            (looks (some (take r.len (drop r.start t))) q) refl w refl
+  pub sees_spot : (c : Content) → content i t ≡ some c → (r : Optional Part) → Spot t (find k c.held) r
+      → Sees t (look_by k i t) (Ok r)
+  unfolding look_by
+  sees_spot c e r s = subst (λ (o : Option Content). Sees t (looked_at k o) (Ok r)) (sym e) (go s)
+    where
+      go : Spot t (find k c.held) r → Sees t (looked_in (find k c.held)) (Ok r)
+      go (nowhere q z) =
+          subst (λ (o : Option (List ℕ)). Sees t (looked_in o) (Ok r)) (sym q)
+          (subst (λ (v : Optional Part). Sees t nothing (Ok v)) (sym z) (record { how = refl; within = tt; line = refl }))
+      go (there p q z w) =
+          subst (λ (o : Option (List ℕ)). Sees t (looked_in o) (Ok r)) (sym q)
+          (subst (λ (v : Optional Part). Sees t (store.found (take p.len (drop p.start t))) (Ok v)) (sym z)
+          (record { how = refl; within = w; line = refl }))

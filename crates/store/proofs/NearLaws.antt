@@ -1,24 +1,22 @@
 -- A look-up that also tries a UUID without its checksum: what it says beside the old one, and after every list of calls.
 -- Assumes nothing.
+use Rattle.std.specs.Prelude.{Option as Optional, Some, None, Ok, Err}
 use mathlib.Core.Bool.{false}
 use mathlib.Core.List.{List}
 use mathlib.Core.Option.{Option, none, some}
 use mathlib.Core.Path.{◌≡◌, refl, sym, ap, ◌∙◌, subst}
-use Prim.Native.Nat.{ℕ, ◌≤◌, ◌<◌}
+use Prim.Native.Nat.{ℕ, ◌≤◌}
 use native.Mathlib.Omega.{arith}
 use Rattle.text.specs.Uuid.{without_checksum}
 use Rattle.store.specs.declared.look.Part.{Part}
-use Rattle.store.specs.declared.near.NearSeen.{NearSeen}
-use Rattle.store.specs.declared.near.NearLook.TheVariants as N
+use Rattle.store.specs.declared.near.Nearness.{Nearness}
 use Rattle.store.specs.Shares.{Content}
 use Rattle.store.specs.Decode.{content}
 use Rattle.store.specs.Filings.{line_filed}
 use Rattle.store.specs.Guarantee.{Calls, Guarantee, stored, last_of}
 use Rattle.text.specs.declared.uuid.Uuid.{Uuid}
-use Rattle.store.specs.declared.owners.Owner.{Owner}
-use Rattle.store.specs.declared.owners.Owner.TheVariants as O
 use Rattle.store.specs.declared.parties.Party.{Party}
-use Rattle.store.specs.Parties.{owner_of, by_owner}
+use Rattle.store.specs.Parties.{owner_of, by_owner, Owner}
 use Rattle.store.specs.Held.{Key, key_by, find, index_max, text_max}
 use Rattle.store.specs.Inner.{known}
 use Rattle.store.specs.Near.{nobody, near_in, plain_key, near_at, near_by}
@@ -28,6 +26,8 @@ use Rattle.store.specs.Sights.{Spot, nowhere, there, NearSees}
 use Rattle.store.specs.Store.{Looked, nothing, unsound, no_owner, looked_in, looked_at, look_by, look_up}
 use Rattle.store.specs.Store as store
 use Rattle.store.proofs.Saves.{whole_guarantee}
+use Rattle.store.specs.declared.calls.LookError.TheVariants as L
+use Rattle.store.specs.declared.near.Nearness.TheVariants as N
 
 -- ---- beside the old look-up
 
@@ -76,8 +76,8 @@ beside_look_up p u i t = who (owner_of p)
         → Beside (by_owner w nobody (λ o. near_at (key_by o u) (content i t)))
         (by_owner w no_owner (λ o. looked_at (key_by o u) (content i t)))
         (by_owner w no_owner (λ o. looked_at (key_by o (without_checksum u)) (content i t)))
-    who (O.Byte o) = go o (content i t)
-    who O.Nobody = record {
+    who (Some o) = go o (content i t)
+    who None = record {
       exact_found = λ l. (λ e. clash cc, λ e. clash cc);
       near_only = λ l. (λ e. clash cc, λ e. let q = e.0 in clash cc);
       neither_held = (λ e. clash cc, λ e. let q = e.0 in clash cc);
@@ -119,73 +119,68 @@ near_filed n m xs g p u = go (owner_of p) refl
 
     go : (w : Owner) → owner_of p ≡ w
         → near_up p u i t ≡ by_owner w nobody (λ o. near_in (last o u) (last o (without_checksum u)))
-    go O.Nobody e = (beside_look_up p u i t).for_no_owner.1 (looks u O.Nobody e)
-    go (O.Byte o) e =
-        near_found p u i t (last o u) (last o (without_checksum u)) (looks u (O.Byte o) e)
-        (looks (without_checksum u) (O.Byte o) e)
+    go None e = (beside_look_up p u i t).for_no_owner.1 (looks u None e)
+    go (Some o) e =
+        near_found p u i t (last o u) (last o (without_checksum u)) (looks u (Some o) e)
+        (looks (without_checksum u) (Some o) e)
 
 pub near_after : (n m : ℕ) → n ≤ index_max → m ≤ text_max → (xs : Calls) → NearAfter n m xs
 near_after n m ln lm xs = near_filed n m xs (whole_guarantee n m ln lm xs)
 
 -- ---- what a look-up sees
 
-module _ (t : List ℕ) (a b : Option (List ℕ)) (whole : Part) (s : Spot t a whole) where
-  pub sees_exact : 0 < whole.len
-      → NearSees t (near_in a b) (record { how = N.Exact; start = whole.start; len = whole.len })
-  sees_exact l = go s
+module _ (t : List ℕ) (a b : Option (List ℕ)) (whole : Optional Part) (s : Spot t a whole) where
+  pub sees_exact : (q : Part) → whole ≡ Some q → NearSees t (near_in a b) (Ok (Some (N.Exact, q)))
+  sees_exact q e = go s
     where
-      Goal : Option (List ℕ) → Type 0
-      Goal o = NearSees t (near_in o b) (record { how = N.Exact; start = whole.start; len = whole.len })
+      go : Spot t a whole → NearSees t (near_in a b) (Ok (Some (N.Exact, q)))
+      go (nowhere z y) = clash cc
+      go (there p z y w) =
+          let n : p ≡ q = cc in
+          subst (λ (v : Part). NearSees t (near_in a b) (Ok (Some (N.Exact, v)))) n
+          (subst (λ (o : Option (List ℕ)). NearSees t (near_in o b) (Ok (Some (N.Exact, p)))) (sym z)
+          (record { how = refl; within = w; line = refl }))
 
-      go : Spot t a whole → Goal a
-      go (nowhere q z) = absurd (omega (arith, z, l))
-      go (there q z w) = subst Goal (sym q) (record { how = refl; within = w; line = refl })
-
-  module _ (second : Part) (s' : Spot t b second) (z : whole.len ≡ 0) where
+  module _ (second : Optional Part) (s' : Spot t b second) (z : whole ≡ None) where
     first-none : a ≡ none
     first-none = go s
       where
         go : Spot t a whole → a ≡ none
         go (nowhere q y) = q
-        go (there q y w) = absurd (omega (arith, y, z))
+        go (there p q y w) = clash cc
 
-    pub sees_near : 0 < second.len
-        → NearSees t (near_in a b) (record { how = N.Near; start = second.start; len = second.len })
-    sees_near l = go s'
+    pub sees_near : (q : Part) → second ≡ Some q → NearSees t (near_in a b) (Ok (Some (N.Near, q)))
+    sees_near q e = go s'
       where
-        Goal : Option (List ℕ) → Option (List ℕ) → Type 0
-        Goal o p = NearSees t (near_in o p) (record { how = N.Near; start = second.start; len = second.len })
+        go : Spot t b second → NearSees t (near_in a b) (Ok (Some (N.Near, q)))
+        go (nowhere v y) = clash cc
+        go (there p v y w) =
+            let n : p ≡ q = cc in
+            subst (λ (m : Part). NearSees t (near_in a b) (Ok (Some (N.Near, m)))) n
+            (subst (λ (o : Option (List ℕ)). NearSees t (near_in o b) (Ok (Some (N.Near, p)))) (sym first-none)
+            (subst (λ (o : Option (List ℕ)). NearSees t (near_in none o) (Ok (Some (N.Near, p)))) (sym v)
+            (record { how = refl; within = w; line = refl })))
 
-        go : Spot t b second → Goal a b
-        go (nowhere q y) = absurd (omega (arith, y, l))
-        go (there q y w) =
-            subst (λ (o : Option (List ℕ)). Goal o b) (sym first-none)
-            (subst (Goal none) (sym q) (record { how = refl; within = w; line = refl }))
-
-    pub sees_neither : second.len ≡ 0 → NearSees t (near_in a b) (record { how = N.Missing; start = 0; len = 0 })
-    sees_neither y = go s'
+    pub sees_neither : second ≡ None → NearSees t (near_in a b) (Ok None)
+    sees_neither e = go s'
       where
-        Goal : Option (List ℕ) → Option (List ℕ) → Type 0
-        Goal o p = NearSees t (near_in o p) (record { how = N.Missing; start = 0; len = 0 })
-
-        go : Spot t b second → Goal a b
-        go (there q u w) = absurd (omega (arith, u, y))
-        go (nowhere q u) =
-            subst (λ (o : Option (List ℕ)). Goal o b) (sym first-none)
-            (subst (Goal none) (sym q) (record { how = refl; within = omega arith; line = refl }))
+        go : Spot t b second → NearSees t (near_in a b) (Ok None)
+        go (there p v y w) = clash cc
+        go (nowhere v y) =
+            subst (λ (o : Option (List ℕ)). NearSees t (near_in o b) (Ok None)) (sym first-none)
+            (subst (λ (o : Option (List ℕ)). NearSees t (near_in none o) (Ok None)) (sym v)
+            (record { how = refl; within = tt; line = refl }))
 
 module _ (k : Key) (i t : List ℕ) where
-  pub near_unsound : known (content i t) ≡ false
-      → NearSees t (near_by k i t) (record { how = N.Unsound; start = 0; len = 0 })
+  pub near_unsound : known (content i t) ≡ false → NearSees t (near_by k i t) (Err L.Unsound)
   unfolding near_by
   near_unsound e = go (content i t) e
     where
-      go : (o : Option Content) → known o ≡ false
-          → NearSees t (near_at k o) (record { how = N.Unsound; start = 0; len = 0 })
-      go none q = record { how = refl; within = omega arith; line = refl }
+      go : (o : Option Content) → known o ≡ false → NearSees t (near_at k o) (Err L.Unsound)
+      go none q = record { how = refl; within = tt; line = refl }
       go (some c) q = clash cc
 
-  pub near_sound : (c : Content) → content i t ≡ some c → (r : NearSeen)
-      → NearSees t (near_in (find k c.held) (find (plain_key k) c.held)) r → NearSees t (near_by k i t) r
+  pub near_sound : (c : Content) → content i t ≡ some c → (r : Optional (Nearness × Part))
+      → NearSees t (near_in (find k c.held) (find (plain_key k) c.held)) (Ok r) → NearSees t (near_by k i t) (Ok r)
   unfolding near_by
-  near_sound c e r s = subst (λ (o : Option Content). NearSees t (near_at k o) r) (sym e) s
+  near_sound c e r s = subst (λ (o : Option Content). NearSees t (near_at k o) (Ok r)) (sym e) s

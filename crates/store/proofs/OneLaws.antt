@@ -1,5 +1,6 @@
 -- One line filed by number: what `survey`, `file_row` and `settle` say together.
 -- Assumes nothing.
+use Rattle.std.specs.Prelude.{Result, Ok, Err}
 use mathlib.Core.Bool.{true}
 use mathlib.Core.List.{List}
 use mathlib.Core.Option.{some}
@@ -10,9 +11,6 @@ use lib.ListN.{length, take, drop}
 use lib.Seq.{take-length}
 use Rattle.store.specs.declared.claims.Dues.{Dues}
 use Rattle.store.specs.declared.table.Fill.{Fill}
-use Rattle.store.specs.declared.table.Room.{Room}
-use Rattle.store.specs.declared.table.Room.TheVariants as R
-use Rattle.store.specs.declared.table.Tried.{Tried}
 use Rattle.store.specs.Book.{room_for, by_room}
 use Rattle.store.specs.Claims.{Owed}
 use Rattle.store.specs.Decode.{decode}
@@ -22,7 +20,8 @@ use Rattle.store.specs.Layout.{Bytes}
 use Rattle.store.specs.Table.{Loads, Tabled, Files', Filed, fits, full, Fileable, FilesRow, FilesLine, SomeDues}
 use Rattle.store.specs.Table.{Settles, Settled, Encoded}
 use Rattle.store.proofs.DecodeLaws.{laid, lines_of_lem, index_kept, text_kept}
-use Rattle.store.proofs.RoomLaws.{index_not, text_not}
+use Rattle.store.specs.declared.table.Full.TheVariants as R
+use Rattle.store.specs.declared.table.Full.{Full}
 
 module _ (d : Dues) (i t s : List ℕ) (a : List ℕ) (heads next : List ℕ) (f : Fill) (loads : Loads i a heads next f)
     (k : Key) (some_byte : 1 ≤ length s) (most : length s ≤ line_max) where
@@ -46,7 +45,7 @@ module _ (d : Dues) (i t s : List ℕ) (a : List ℕ) (heads next : List ℕ) (f
       let q : (hs : List Held) × (decode i t ≡ some hs) = lines_of_lem (decode i t) e in
       (g, s, (f.count, (q.0, ready g q.0 q.1 (o q.0 q.1))))
 
-  module _ (b : List ℕ) (heads' next' : List ℕ) (r : Tried)
+  module _ (b : List ℕ) (heads' next' : List ℕ) (r : Result Fill Full)
       (w : FilesRow d i t a heads next f k 0 (length s) b heads' next' r) where
     abbrev h : Held
     h = record { key = k; line = s }
@@ -63,46 +62,45 @@ module _ (d : Dues) (i t s : List ℕ) (a : List ℕ) (heads next : List ℕ) (f
     same g hs = ap (λ (l : List ℕ). room_for (behind g i t k.owner) (record { key = k; line = l }) hs) whole
 
     -- without room
-    pub one_full : (v : Room) → r.room ≡ v → (v ≡ R.Fits → ⊥)
-        → ((ks : List Held) (hs : List Held) → by_room v hs hs ks ≡ hs) → Bytes i
-        → FilesLine d i t (record { key = k; line = s }) v i t
-    one_full v e n stays b g hs q o = go (filed g hs q o)
+    stays : (x : Full) (ks hs : List Held) → by_room (Err x) hs hs ks ≡ hs
+    stays R.Index ks hs = refl
+    stays R.Text ks hs = refl
+
+    pub one_full : (x : Full) → r ≡ Err x → Bytes i → FilesLine d i t (record { key = k; line = s }) (Err x) i t
+    one_full x e b g hs q o = go (filed g hs q o)
       where
-        go : By g hs → (v ≡ room_for (behind g i t k.owner) (record { key = k; line = s }) hs)
-            × Encoded (length i) (length t) i t (by_room v hs hs (file (record { key = k; line = s }) hs))
-        go (fits p c y) = absurd (n (sym e ∙ c))
-        go (full p c y) = (
-          sym e ∙ sym p ∙ same g hs,
-          subst (λ (ks : List Held). Encoded (length i) (length t) i t ks) (sym (stays _ hs))
-              (record { index = index_kept i t hs (laid i t hs b q); text = text_kept i t hs (laid i t hs b q) }),
-        )
-
-    pub one_index : r.room ≡ R.IndexFull → Bytes i → FilesLine d i t (record { key = k; line = s }) R.IndexFull i t
-    one_index e b = one_full R.IndexFull e index_not (λ ks hs. refl) b
-
-    pub one_text : r.room ≡ R.TextFull → Bytes i → FilesLine d i t (record { key = k; line = s }) R.TextFull i t
-    one_text e b = one_full R.TextFull e text_not (λ ks hs. refl) b
+        go : By g hs → (Err x ≡ room_for (behind g i t k.owner) (record { key = k; line = s }) hs)
+            × Encoded (length i) (length t) i t (by_room (Err x) hs hs (file (record { key = k; line = s }) hs))
+        go (fits f' p c y) = let z : ◌≡◌ {A = ℕ} 0 1 = cc in absurd (omega arith)
+        go (full v p c y) =
+            let z : x ≡ v = cc in (
+              ap (λ (w : Full). Err w) z ∙ sym p ∙ same g hs,
+              subst (λ (ks : List Held). Encoded (length i) (length t) i t ks) (sym (stays x _ hs))
+                  (record { index = index_kept i t hs (laid i t hs b q); text = text_kept i t hs (laid i t hs b q) }),
+            )
 
     -- with room
-    module _ (e : r.room ≡ R.Fits) where
+    module _ (f' : Fill) (e : r ≡ Ok f') where
       there : (g : List ℕ) (hs : List Held) → By g hs
-          → (R.Fits ≡ room_for (behind g i t k.owner) (record { key = k; line = s }) hs)
-          × Tabled i t s b f.count r.fill.count (file (record { key = k; line = s }) hs)
-      there g hs (full p c y) = absurd (c e)
-      there g hs (fits p c y) = (
-        sym p ∙ same g hs,
-        subst (λ (l : List ℕ). Tabled i t s b f.count r.fill.count
-            (file (record { key = k; line = l }) hs)) whole
-            y.tabled,
-      )
+          → ((Ok tt) ≡ room_for (behind g i t k.owner) (record { key = k; line = s }) hs)
+          × Tabled i t s b f.count f'.count (file (record { key = k; line = s }) hs)
+      there g hs (full v p c y) = let z : ◌≡◌ {A = ℕ} 0 1 = cc in absurd (omega arith)
+      there g hs (fits f'' p c y) =
+          let z : f'' ≡ f' = cc in (
+            sym p ∙ same g hs,
+            subst (λ (w : Fill). Tabled i t s b f.count w.count (file (record { key = k; line = s }) hs)) z
+                (subst (λ (l : List ℕ). Tabled i t s b f.count f''.count
+                (file (record { key = k; line = l }) hs)) whole
+                y.tabled),
+          )
 
-      pub one_settles : known (decode i t) ≡ true → SomeDues d k.owner i t → Settles i t s b f r.fill.count
+      pub one_settles : known (decode i t) ≡ true → SomeDues d k.owner i t → Settles i t s b f f'.count
       one_settles z (g, o) =
           let q : (hs : List Held) × (decode i t ≡ some hs) = lines_of_lem (decode i t) z in
           (file (record { key = k; line = s }) q.0, (there g q.0 (filed g q.0 q.1 (o q.0 q.1))).1)
 
-      pub one_filed : (i' t' : List ℕ) → Settled i t s b f r.fill.count i' t'
-          → FilesLine d i t (record { key = k; line = s }) R.Fits i' t'
+      pub one_filed : (i' t' : List ℕ) → Settled i t s b f f'.count i' t'
+          → FilesLine d i t (record { key = k; line = s }) (Ok tt) i' t'
       one_filed i' t' z g hs q o =
           let x = there g hs (filed g hs q o) in
           let y = z (file (record { key = k; line = s }) hs) x.1 in

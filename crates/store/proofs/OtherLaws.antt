@@ -1,5 +1,6 @@
 -- Lines in another form than 32 digits: counted line by line, and those that an insert filed.
 -- Assumes nothing.
+use Rattle.std.specs.Prelude.{Some, Option, None}
 use mathlib.Core.Bool.{Bool, true, false}
 use mathlib.Core.List.{List, [], ◌∷◌}
 use mathlib.Core.Path.{◌≡◌, refl, sym, ap, ◌∙◌}
@@ -12,8 +13,6 @@ use Rattle.text.specs.Uuid.{uuid_of}
 use Rattle.text.specs.Spellings.{form_length}
 use Rattle.text.specs.declared.uuid.Form.{Form}
 use Rattle.text.specs.declared.uuid.Form.TheVariants as Fm
-use Rattle.text.specs.declared.uuid.UuidParse.{UuidParse}
-use Rattle.text.specs.declared.uuid.UuidParse.TheVariants.{Parsed, Invalid}
 use Rattle.text.proofs.BytesLaws.{first_le}
 use Rattle.text.proofs.SpellingLaws.{reader_forms}
 use Rattle.line.specs.Fields.{first_field}
@@ -23,12 +22,11 @@ use Rattle.store.specs.Book.{other_form, other_spelling, other_spellings, insert
 use Rattle.store.specs.Inner.{first_line}
 use Rattle.store.specs.Lines.{lines_of, for_platform, wanted}
 use Rattle.store.specs.Store.{Done, unchanged, store_walk, own_insert, store_insert}
-use Rattle.store.specs.declared.owners.Owner.{Owner}
-use Rattle.store.specs.declared.owners.Owner.TheVariants as O
 use Rattle.store.specs.declared.parties.Party.{Party}
-use Rattle.store.specs.Parties.{owner_of, by_owner}
+use Rattle.store.specs.Parties.{owner_of, by_owner, Owner}
 use Rattle.store.proofs.LineLaws.{cut_at, lines_end, plus_minus}
 use Rattle.store.proofs.WantedLaws.{wanted_is, wanted-not}
+use Rattle.text.specs.declared.uuid.Spelled.{Spelled}
 
 others_cons : (l : List ℕ) (ls : List (List ℕ)) → other_spellings (l ∷ ls) ≡ other_spelling (wanted l) + other_spellings ls
 unfolding other_spellings
@@ -51,9 +49,9 @@ simple_form Fm.Braced e = absurd (omega (arith, e))
 simple_form Fm.Urn e = absurd (omega (arith, e))
 simple_form Fm.Xinput e = absurd (omega (arith, e))
 
-simple_read : (s : List ℕ) → length s ≡ 32 → (w : UuidParse) → uuid_of s ≡ w → 0 ≡ other_spelling w
-simple_read s l Invalid e = refl
-simple_read s l (Parsed g) e = simple_form g.form (sym l ∙ (reader_forms s g e).fits)
+simple_read : (s : List ℕ) → length s ≡ 32 → (w : Option Spelled) → uuid_of s ≡ w → 0 ≡ other_spelling w
+simple_read s l None e = refl
+simple_read s l (Some g) e = simple_form g.form (sym l ∙ (reader_forms s g e).fits)
 
 pub others_simple : (l : List ℕ) → first_of (byte ",") l ≡ 32 → 0 ≡ other_spelling (wanted l)
 others_simple l e = go (for_platform l) refl
@@ -63,7 +61,7 @@ others_simple l e = go (for_platform l) refl
 
     go : (b : Bool) → for_platform l ≡ b → 0 ≡ other_spelling (wanted l)
     go true p = simple_read (first_field l) long (wanted l) (sym (wanted_is l p))
-    go false p = sym (ap (λ (w : UuidParse). other_spelling w) (wanted-not l p))
+    go false p = sym (ap (λ (w : Option Spelled). other_spelling w) (wanted-not l p))
 
 -- the loop of `other_spellings`: what is counted and what is left make up the whole
 pub record Othering (s : List ℕ) (count at left other : ℕ) : Type 0 where
@@ -118,7 +116,7 @@ pub other_part : (s : List ℕ) (at len v : ℕ) → v ≡ other_spelling (wante
 other_part s at len v e = e ∙ ap (λ (k : ℕ). other_spelling (wanted (take k (drop at s)))) (plus_minus at len)
 
 -- what an owner's walk comes to, with that number
-pub insert_told : (p : Party) (o : ℕ) → owner_of p ≡ O.Byte o → (i t s i' t' : List ℕ) (w : Tally) (k : ℕ)
+pub insert_told : (p : Party) (o : ℕ) → owner_of p ≡ Some o → (i t s i' t' : List ℕ) (w : Tally) (k : ℕ)
     → record { answer = w; index = i'; text = t' } ≡ store_walk i t o s
     → k ≡ other_spellings (take w.count (lines_of s))
     → record {

@@ -1,22 +1,21 @@
 -- What a call of a party comes to, by its owner: 24 first, or what the call does for that owner.
 -- Assumes nothing.
+use Rattle.std.specs.Prelude.{Some, None}
 use mathlib.Core.List.{List}
 use mathlib.Core.Path.{◌≡◌, sym, ap}
 use Prim.Native.Nat.{ℕ}
 use Rattle.text.specs.declared.uuid.Uuid.{Uuid}
-use Rattle.store.specs.declared.calls.SaveAnswer.TheVariants as Sv
-use Rattle.store.specs.declared.owners.Owner.{Owner}
-use Rattle.store.specs.declared.owners.Owner.TheVariants as O
 use Rattle.store.specs.declared.parties.Party.{Party}
-use Rattle.store.specs.Parties.{owner_of, by_owner}
+use Rattle.store.specs.Parties.{owner_of, by_owner, Owner}
 use Rattle.store.specs.Held.{key_by}
 use Rattle.store.specs.Book.{nobody_inserts}
 use Rattle.store.specs.Store.{unchanged, own_insert, store_insert, store_attempt, no_owner, look_by, look_up}
 use Rattle.store.specs.Near.{nobody, near_by, near_up}
 use Rattle.store.specs.Saves.{SaveArgs, refused_save, attempt_of, store_save}
+use Rattle.store.specs.declared.calls.SaveError.TheVariants as Sv
 
 module _ (p : Party) (i t : List ℕ) where
-  module _ (e : owner_of p ≡ O.Nobody) where
+  module _ (e : owner_of p ≡ None) where
     pub look_nobody : (u : Uuid) → no_owner ≡ look_up p u i t
     unfolding look_up
     look_nobody u = sym (ap (λ (w : Owner). by_owner w no_owner (λ o. look_by (key_by o u) i t)) e)
@@ -36,7 +35,7 @@ module _ (p : Party) (i t : List ℕ) where
         (λ o. store_attempt (refused_save Sv.Unsound) (refused_save Sv.NoRoom) (refused_save Sv.NoText) i t o
         (attempt_of o a))) e)
 
-  module _ (o : ℕ) (e : owner_of p ≡ O.Byte o) where
+  module _ (o : ℕ) (e : owner_of p ≡ Some o) where
     pub look_owner : (u : Uuid) → look_by (key_by o u) i t ≡ look_up p u i t
     unfolding look_up
     look_owner u = sym (ap (λ (w : Owner). by_owner w no_owner (λ v. look_by (key_by v u) i t)) e)

@@ -1,5 +1,6 @@
 -- Request P9's cases, computed by the definitions.
 -- Assumes nothing.
+use Rattle.std.specs.Prelude.{Ok, Err}
 use mathlib.Core.Path.{◌≡◌, refl}
 use mathlib.Core.Option.{none, some}
 use mathlib.Core.List.{List, [], ◌∷◌, ◌++◌, map}
@@ -12,12 +13,9 @@ use Rattle.text.specs.Uuid.{hex_digit, read_hex, uuid_of, big_endian, without_ch
 use Rattle.text.specs.Search.{first_text}
 use Rattle.text.specs.declared.uuid.Uuid.{Uuid}
 use Rattle.map.specs.declared.mapping_data.MappingData.{MappingData}
-use Rattle.store.specs.declared.calls.Answer.TheVariants as A
-use Rattle.store.specs.declared.calls.SaveAnswer.TheVariants as Sv
 use Rattle.store.specs.declared.parties.Party.TheVariants as P
 use Rattle.store.specs.Parties.{Named}
 use Rattle.store.specs.Held.{Held, key_by, same_key, strike, file, find, holds, distinct}
-use Rattle.store.specs.declared.table.Room.TheVariants as R
 use Rattle.store.specs.Shares.{no_shares, Content, use_of, claims_from, share_sizes}
 use Rattle.store.specs.Layout.{record_bytes, records, texts, padded, share_records, encode_index, encode_text}
 use Rattle.store.specs.Decode.{body_at, owner_at, head_at, head_fits, zeroes, walk, decode, is_share_of, shares_at}
@@ -29,10 +27,12 @@ use Rattle.store.specs.Store.{store_clear, store_walk, own_insert, store_insert,
 use Rattle.store.specs.Store.{found, nothing, unsound, no_owner, says_of, line_of}
 use Rattle.store.specs.Saves.{save_args, store_save, refused_save}
 use Rattle.store.specs.Refusals.{outcome_number, number, save_number, look_outcome}
-use Rattle.store.specs.declared.refusal.LookOutcome.TheVariants.{CannotLook}
 use Rattle.store.specs.Guarantee.{Calls, stored}
 use Rattle.store.specs.Near.{near, nobody, near_by, near_up, near_says, near_outcome}
 use Rattle.line.specs.Refusals.{refusal}
+use Rattle.store.specs.declared.calls.StoreError.TheVariants as E
+use Rattle.store.specs.declared.calls.SaveError.TheVariants as Sv
+use Rattle.store.specs.declared.table.Full.TheVariants as R
 
 -- U, and zeros with a one
 nil : Uuid
@@ -109,21 +109,21 @@ module _ where
 
 module _ where
   index_of_42 : room_for (caller 42 2 no_shares 3) (under 3 nil (ascii "a")) (under 0 nil (ascii "b") ∷ [])
-      ≡ R.IndexFull
+      ≡ Err R.Index
   unfolding room_for no_index_of no_text share_sizes claims_from use_of strike record_sizes same_key nil file
   index_of_42 = refl
 
-  index_of_43 : room_for (caller 43 2 no_shares 3) (under 3 nil (ascii "a")) (under 0 nil (ascii "b") ∷ []) ≡ R.Fits
+  index_of_43 : room_for (caller 43 2 no_shares 3) (under 3 nil (ascii "a")) (under 0 nil (ascii "b") ∷ []) ≡ Ok tt
   unfolding room_for no_index_of no_text share_sizes claims_from use_of strike record_sizes same_key nil file
   index_of_43 = refl
 
   -- another party's line of the same UUID counts; P10: "25, [..] in place of 21 for text"
-  text_of_1 : room_for (caller 43 1 no_shares 3) (under 3 nil (ascii "a")) (under 0 nil (ascii "b") ∷ []) ≡ R.TextFull
+  text_of_1 : room_for (caller 43 1 no_shares 3) (under 3 nil (ascii "a")) (under 0 nil (ascii "b") ∷ []) ≡ Err R.Text
   unfolding room_for no_index_of no_text share_sizes claims_from use_of strike record_sizes same_key nil file
   text_of_1 = refl
 
   -- the caller's own does not
-  own_left_out : room_for (caller 22 1 no_shares 3) (under 3 nil (ascii "a")) (under 3 nil (ascii "b") ∷ []) ≡ R.Fits
+  own_left_out : room_for (caller 22 1 no_shares 3) (under 3 nil (ascii "a")) (under 3 nil (ascii "b") ∷ []) ≡ Ok tt
   unfolding room_for no_index_of no_text share_sizes claims_from use_of strike record_sizes same_key nil file
   own_left_out = refl
 
@@ -132,11 +132,11 @@ module _ where
 module _ where
   -- before 19 and 10; "an insert then counts 0 lines"
   nobody_inserts_lem : store_insert (9 ∷ []) [] (P.Organiser 0) (255 ∷ [])
-      ≡ record { answer = record { answer = A.NoOwner; count = 0; not_simple = 0 }; index = 9 ∷ []; text = [] }
+      ≡ record { answer = record { answer = Err E.NoOwner; count = 0; not_simple = 0 }; index = 9 ∷ []; text = [] }
   unfolding store_insert
   nobody_inserts_lem = refl
 
-  nobody_number : number A.NoOwner ≡ 24
+  nobody_number : number (Err E.NoOwner) ≡ 24
   nobody_number = refl
 
   -- before 10, 13 and 17, whatever is saved
@@ -146,14 +146,14 @@ module _ where
   unfolding store_save
   nobody_saves d = refl
 
-  nobody_save_number : save_number Sv.NoOwner ≡ 24
+  nobody_save_number : save_number (Err Sv.NoOwner) ≡ 24
   nobody_save_number = refl
 
   nobody_looks : look_up (P.Organiser 0) nil (9 ∷ []) [] ≡ no_owner
   unfolding look_up
   nobody_looks = refl
 
-  nobody_is_told : look_outcome (says_of (look_up (P.Organiser 0) nil (9 ∷ []) [])) ≡ CannotLook (refusal 24)
+  nobody_is_told : look_outcome (says_of (look_up (P.Organiser 0) nil (9 ∷ []) [])) ≡ Err (refusal 24)
   unfolding look_up
   nobody_is_told = refl
 

@@ -2,6 +2,7 @@
 -- the index, and what all parties then claim fits in the text. What a record takes depends on its owner alone, so
 -- the records of a list are added up here, and nowhere else.
 -- Assumes nothing.
+use Rattle.std.specs.Prelude.{Result, Ok, Err, ⊤}
 use mathlib.Core.Bool.{Bool, true, false}
 use mathlib.Core.List.{List, [], ◌∷◌, ◌++◌}
 use mathlib.Core.Path.{◌≡◌, refl, sym, ap, ap₂, ◌∙◌}
@@ -11,8 +12,6 @@ use lib.Dec.{ltb}
 use lib.ListN.{length, length-append}
 use borrow.Author.Tests.{ltb-false, lt-ltb, le-ltb}
 use Rattle.text.specs.Bytes.{pick}
-use Rattle.store.specs.declared.table.Room.{Room}
-use Rattle.store.specs.declared.table.Room.TheVariants as R
 use Rattle.store.specs.Book.{Caller, caller, record_sizes, no_index_of, no_text, room_for, by_room}
 use Rattle.store.specs.Inner.{sizes}
 use Rattle.store.specs.Held.{Held, strike, file, record_size}
@@ -23,6 +22,8 @@ use Rattle.store.proofs.RecordLaws.{length-record}
 use Rattle.store.proofs.RowLaws.{sizes_cons, sizes-none}
 use Rattle.store.proofs.ShareLaws.{length_shares}
 use Rattle.store.proofs.ClaimLaws.{none-lengths, lengths-texts}
+use Rattle.store.specs.declared.table.Full.TheVariants as R
+use Rattle.store.specs.declared.table.Full.{Full}
 
 pub sizes_sum : (hs : List Held) (off : ℕ) → sizes off hs ≡ record_sizes hs
 unfolding record_sizes
@@ -45,19 +46,19 @@ sizes-file h hs = sizes_sum (file h hs) 0 ∙ unfold file in (sizes_snoc (strike
 
 -- ---- what there is room for fits
 
-pub index_not : R.IndexFull ≡ R.Fits → ⊥
-index_not e = let z : ◌≡◌ {A = ℕ} 0 1 = ap (λ (r : Room). by_room r 0 0 1) e in absurd (omega arith)
+pub index_not : ◌≡◌ {A = Result ⊤ Full} (Err R.Index) (Ok tt) → ⊥
+index_not e = let z : ◌≡◌ {A = ℕ} 0 1 = ap (λ (r : Result ⊤ Full). by_room r 0 0 1) e in absurd (omega arith)
 
-pub text_not : R.TextFull ≡ R.Fits → ⊥
-text_not e = let z : ◌≡◌ {A = ℕ} 0 1 = ap (λ (r : Room). by_room r 0 0 1) e in absurd (omega arith)
+pub text_not : ◌≡◌ {A = Result ⊤ Full} (Err R.Text) (Ok tt) → ⊥
+text_not e = let z : ◌≡◌ {A = ℕ} 0 1 = ap (λ (r : Result ⊤ Full). by_room r 0 0 1) e in absurd (omega arith)
 
-both_false : (a b : Bool) → pick a R.IndexFull (pick b R.TextFull R.Fits) ≡ R.Fits → (a ≡ false) × (b ≡ false)
+both_false : (a b : Bool) → ◌≡◌ {A = Result ⊤ Full} (pick a (Err R.Index) (pick b (Err R.Text) (Ok tt))) (Ok tt) → (a ≡ false) × (b ≡ false)
 both_false true b e = absurd (index_not e)
 both_false false true e = absurd (text_not e)
 both_false false false e = (refl, refl)
 
 module _ (c : Caller) (h : Held) (hs : List Held) where
-  pub fits_index : room_for c h hs ≡ R.Fits → share_sizes c.shares + sizes 0 (file h hs) ≤ c.index
+  pub fits_index : room_for c h hs ≡ Ok tt → share_sizes c.shares + sizes 0 (file h hs) ≤ c.index
   unfolding room_for no_index_of
   fits_index e = omega (
     arith,
@@ -65,14 +66,14 @@ module _ (c : Caller) (h : Held) (hs : List Held) where
     ltb-false c.index _ (both_false _ (no_text c h hs) e).0,
   )
 
-  pub fits_claims : room_for c h hs ≡ R.Fits → claims c.shares (file h hs) ≤ c.text
+  pub fits_claims : room_for c h hs ≡ Ok tt → claims c.shares (file h hs) ≤ c.text
   unfolding room_for no_text
   fits_claims e = ltb-false c.text (claims c.shares (file h hs)) (both_false (no_index_of c h hs) _ e).1
 
   -- and it is told so
-  pub index_full : c.index < share_sizes c.shares + sizes 0 (file h hs) → room_for c h hs ≡ R.IndexFull
+  pub index_full : c.index < share_sizes c.shares + sizes 0 (file h hs) → room_for c h hs ≡ Err R.Index
   unfolding room_for no_index_of
-  index_full l = ap (λ (b : Bool). pick b R.IndexFull (pick (no_text c h hs) R.TextFull R.Fits))
+  index_full l = ap (λ (b : Bool). pick b (Err R.Index) (pick (no_text c h hs) (Err R.Text) (Ok tt)))
       (lt-ltb c.index _ (omega (arith, sizes-file h hs)))
 
   module _ (l : share_sizes c.shares + sizes 0 (file h hs) ≤ c.index) where
@@ -80,14 +81,14 @@ module _ (c : Caller) (h : Held) (hs : List Held) where
     unfolding no_index_of
     within = le-ltb c.index _ (omega (arith, sizes-file h hs))
 
-    pub text_full : c.text < claims c.shares (file h hs) → room_for c h hs ≡ R.TextFull
+    pub text_full : c.text < claims c.shares (file h hs) → room_for c h hs ≡ Err R.Text
     unfolding room_for no_text
-    text_full m = ap₂ (λ (a b : Bool). pick a R.IndexFull (pick b R.TextFull R.Fits)) within
+    text_full m = ap₂ (λ (a b : Bool). pick a (Err R.Index) (pick b (Err R.Text) (Ok tt))) within
         (lt-ltb c.text (claims c.shares (file h hs)) m)
 
-    pub both_fit : claims c.shares (file h hs) ≤ c.text → room_for c h hs ≡ R.Fits
+    pub both_fit : claims c.shares (file h hs) ≤ c.text → room_for c h hs ≡ Ok tt
     unfolding room_for no_text
-    both_fit m = ap₂ (λ (a b : Bool). pick a R.IndexFull (pick b R.TextFull R.Fits)) within
+    both_fit m = ap₂ (λ (a b : Bool). pick a (Err R.Index) (pick b (Err R.Text) (Ok tt))) within
         (le-ltb c.text (claims c.shares (file h hs)) m)
 
 -- whoever calls
@@ -101,12 +102,12 @@ room_by n m s o h hs = refl
 -- the records of the shares and of the filed list, as they would lie in the index, and what is then claimed of the text
 pub room_fits : (c : Caller) (h : Held) (hs : List Held)
     → room_for c h hs
-    ≡ pick (ltb c.index (length (share_records 0 c.shares ++ records 0 (file h hs)))) R.IndexFull
-    (pick (ltb c.text (claims c.shares (file h hs))) R.TextFull R.Fits)
+    ≡ pick (ltb c.index (length (share_records 0 c.shares ++ records 0 (file h hs)))) (Err R.Index)
+    (pick (ltb c.text (claims c.shares (file h hs))) (Err R.Text) (Ok tt))
 unfolding room_for no_index_of no_text
 room_fits c h hs =
-    ap (λ (k : ℕ). pick (ltb c.index k) R.IndexFull
-    (pick (ltb c.text (claims c.shares (file h hs))) R.TextFull R.Fits)) (sym long)
+    ap (λ (k : ℕ). pick (ltb c.index k) (Err R.Index)
+    (pick (ltb c.text (claims c.shares (file h hs))) (Err R.Text) (Ok tt))) (sym long)
   where
     long : length (share_records 0 c.shares ++ records 0 (file h hs))
         ≡ share_sizes c.shares + (record_sizes (strike h.key hs) + record_size h.key.owner)

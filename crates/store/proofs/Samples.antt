@@ -1,5 +1,6 @@
 -- Document 01's examples and traps of the store, computed by the definitions.
 -- Assumes nothing.
+use Rattle.std.specs.Prelude.{Ok, Err, Some, None}
 use mathlib.Core.Path.{◌≡◌, refl}
 use mathlib.Core.Option.{none, some}
 use mathlib.Core.List.{List, [], ◌∷◌, ◌++◌}
@@ -10,11 +11,8 @@ use Rattle.text.specs.Utf8.{begins, first_length, char_length, run_of, valid_run
 use Rattle.text.specs.Uuid.{hex_digit, read_hex, hyphenated, uuid_of, big_endian}
 use Rattle.text.specs.declared.uuid.Form.TheVariants as Fm
 use Rattle.text.specs.declared.uuid.Uuid.{Uuid}
-use Rattle.text.specs.declared.uuid.UuidParse.TheVariants.{Parsed, Invalid}
-use Rattle.store.specs.declared.calls.Answer.TheVariants as A
 use Rattle.store.specs.declared.parties.Party.TheVariants as P
 use Rattle.store.specs.Held.{Held, key_by, same_key, strike, file, holds, distinct}
-use Rattle.store.specs.declared.table.Room.TheVariants as R
 use Rattle.store.specs.Shares.{no_shares, Content, nothing_held, use_of, claims_from, share_sizes}
 use Rattle.store.specs.Layout.{record_bytes, records, texts, padded, share_records, encode_index, encode_text}
 use Rattle.store.specs.Decode.{body_at, owner_at, head_at, head_fits, zeroes, walk, decode, is_share_of, shares_at}
@@ -24,6 +22,8 @@ use Rattle.text.specs.Search.{first_text}
 use Rattle.store.specs.Book.{caller, under, record_sizes, no_index_of, no_text, room_for, reach, insert_lines, book_walk}
 use Rattle.store.specs.Book.{other_spellings}
 use Rattle.store.specs.Store.{store_clear, store_walk, own_insert, store_insert}
+use Rattle.store.specs.declared.calls.StoreError.TheVariants as E
+use Rattle.store.specs.declared.table.Full.TheVariants as R
 
 -- UUIDs of zeros, and of zeros and a one
 nil : Uuid
@@ -78,69 +78,69 @@ module _ where
 -- ---- wanted lines
 
 module _ where
-  no_platform : wanted (u ++ ascii ",T") ≡ Parsed (record { id = nil; form = Fm.Simple })
+  no_platform : wanted (u ++ ascii ",T") ≡ Some (record { id = nil; form = Fm.Simple })
   unfolding wanted for_platform first_text uuid_of read_hex hex_digit first_of same u nil
   no_platform = refl
 
-  uuid_alone : wanted u ≡ Parsed (record { id = nil; form = Fm.Simple })
+  uuid_alone : wanted u ≡ Some (record { id = nil; form = Fm.Simple })
   unfolding wanted for_platform first_text uuid_of read_hex hex_digit first_of same u nil
   uuid_alone = refl
 
-  for_linux : wanted (u ++ ascii ",T,platform:Linux,") ≡ Parsed (record { id = nil; form = Fm.Simple })
+  for_linux : wanted (u ++ ascii ",T,platform:Linux,") ≡ Some (record { id = nil; form = Fm.Simple })
   unfolding wanted for_platform first_text uuid_of read_hex hex_digit first_of same u nil
   for_linux = refl
 
-  in_the_name : wanted (u ++ ascii ",myplatform:Linux,platform:Windows") ≡ Parsed (record { id = nil; form = Fm.Simple })
+  in_the_name : wanted (u ++ ascii ",myplatform:Linux,platform:Windows") ≡ Some (record { id = nil; form = Fm.Simple })
   unfolding wanted for_platform first_text uuid_of read_hex hex_digit first_of same u nil
   in_the_name = refl
 
-  first-counts : wanted (u ++ ascii ",T,platform:Windows,platform:Linux") ≡ Invalid
+  first-counts : wanted (u ++ ascii ",T,platform:Windows,platform:Linux") ≡ None
   unfolding wanted for_platform first_text first_of same u
   first-counts = refl
 
-  cr_kept : wanted (u ++ ascii ",T,platform:Linux\r") ≡ Invalid
+  cr_kept : wanted (u ++ ascii ",T,platform:Linux\r") ≡ None
   unfolding wanted for_platform first_text first_of same u
   cr_kept = refl
 
-  not_exactly : wanted (u ++ ascii ",T,platform:Linux:x") ≡ Invalid
+  not_exactly : wanted (u ++ ascii ",T,platform:Linux:x") ≡ None
   unfolding wanted for_platform first_text first_of same u
   not_exactly = refl
 
-  twice : wanted (u ++ ascii ",T,platform:platform:Linux") ≡ Invalid
+  twice : wanted (u ++ ascii ",T,platform:platform:Linux") ≡ None
   unfolding wanted for_platform first_text first_of same u
   twice = refl
 
-  nothing_follows : wanted (u ++ ascii ",T,platform:") ≡ Invalid
+  nothing_follows : wanted (u ++ ascii ",T,platform:") ≡ None
   unfolding wanted for_platform first_text first_of same u
   nothing_follows = refl
 
-  xinput_unwanted : wanted (ascii "xinput,T,a:b1,") ≡ Invalid
+  xinput_unwanted : wanted (ascii "xinput,T,a:b1,") ≡ None
   unfolding wanted for_platform first_text uuid_of first_of same
   xinput_unwanted = refl
 
 -- ---- no room
 
 module _ where
-  index_of_20 : room_for (caller 20 1 no_shares 0) (under 0 nil (ascii "a")) [] ≡ R.IndexFull
+  index_of_20 : room_for (caller 20 1 no_shares 0) (under 0 nil (ascii "a")) [] ≡ Err R.Index
   unfolding room_for no_index_of no_text share_sizes claims_from use_of record_sizes strike file
   index_of_20 = refl
 
-  fresh_fits : room_for (caller 21 1 no_shares 0) (under 0 nil (ascii "a")) [] ≡ R.Fits
+  fresh_fits : room_for (caller 21 1 no_shares 0) (under 0 nil (ascii "a")) [] ≡ Ok tt
   unfolding room_for no_index_of no_text share_sizes claims_from use_of record_sizes strike file
   fresh_fits = refl
 
   own_line_left_out : room_for (caller 21 60 no_shares 0) (under 0 nil (replicate 60 97))
-      (under 0 nil (replicate 60 98) ∷ []) ≡ R.Fits
+      (under 0 nil (replicate 60 98) ∷ []) ≡ Ok tt
   unfolding room_for no_index_of no_text share_sizes claims_from use_of record_sizes strike same_key nil file
   own_line_left_out = refl
 
   other_line_counts : room_for (caller 41 3 no_shares 0) (under 0 nil (ascii "a")) (under 0 one (ascii "b") ∷ [])
-      ≡ R.IndexFull
+      ≡ Err R.Index
   unfolding room_for no_index_of no_text share_sizes claims_from use_of record_sizes strike same_key nil one file
   other_line_counts = refl
 
   -- document 01's 21 for text; P10: "25, that sum too large on a filing, in place of 21 for text"
-  text_of_one : room_for (caller 42 1 no_shares 0) (under 0 nil (ascii "a")) (under 0 one (ascii "b") ∷ []) ≡ R.TextFull
+  text_of_one : room_for (caller 42 1 no_shares 0) (under 0 nil (ascii "a")) (under 0 one (ascii "b") ∷ []) ≡ Err R.Text
   unfolding room_for no_index_of no_text share_sizes claims_from use_of record_sizes strike same_key nil one file
   text_of_one = refl
 
@@ -246,14 +246,14 @@ module _ where
 module _ where
   -- 19 comes before 10
   unsound_first : store_insert (9 ∷ []) [] P.Hall (255 ∷ [])
-      ≡ record { answer = record { answer = A.Unsound; count = 0; not_simple = 0 }; index = 9 ∷ []; text = [] }
+      ≡ record { answer = record { answer = Err E.Unsound; count = 0; not_simple = 0 }; index = 9 ∷ []; text = [] }
   unfolding store_insert own_insert store_walk other_spellings content shares_at is_share_of decode walk head_at owner_at zeroes
       lines_of
   unsound_first = refl
 
   -- 10 at the length of the valid run, and nothing filed
   not_utf8 : store_insert (0 ∷ []) [] P.Hall (65 ∷ 195 ∷ [])
-      ≡ record { answer = record { answer = A.NotUtf8 1; count = 0; not_simple = 0 }; index = 0 ∷ []; text = [] }
+      ≡ record { answer = record { answer = Err (E.NotUtf8 1); count = 0; not_simple = 0 }; index = 0 ∷ []; text = [] }
   unfolding store_insert own_insert store_walk other_spellings content shares_at is_share_of decode walk head_at owner_at zeroes
       distinct book_walk is_utf8 valid_run run_of char_length first_length begins encode_index share_records encode_text
       records texts padded
@@ -262,7 +262,7 @@ module _ where
   -- an unwanted line is counted, a wanted one filed without its CR
   filed : store_insert (replicate 22 0) (replicate 33 0) P.Hall (ascii "x\n" ++ (u ++ ascii "\r\n"))
       ≡ record {
-        answer = record { answer = A.Done; count = 2; not_simple = 0 };
+        answer = record { answer = Ok tt; count = 2; not_simple = 0 };
         index = rec nil 0 32 ++ (0 ∷ []);
         text =
             u ++ (0 ∷ []);
@@ -276,7 +276,7 @@ module _ where
   -- "index of 20 bytes": 21, after one line
   full : store_insert (replicate 20 0) (replicate 33 0) P.Hall (ascii "x\n" ++ u)
       ≡ record {
-        answer = record { answer = A.NoRoom; count = 1; not_simple = 0 };
+        answer = record { answer = Err E.NoRoom; count = 1; not_simple = 0 };
         index = replicate 20 0;
         text = replicate 33 0;
       }
@@ -292,13 +292,13 @@ module _ where
       (h ++ (ascii "\n{" ++ (h ++ (ascii "},T\n" ++ (u ++ (ascii "\nxinput,T\n" ++ (h ++ (ascii ",platform:Mac\n"
       ++ ascii "00000000-0000-0000-0000-000000000001"))))))))
       ).answer
-      ≡ record { answer = A.NoRoom; count = 5; not_simple = 2 }
+      ≡ record { answer = Err E.NoRoom; count = 5; not_simple = 2 }
   unfolding store_insert own_insert store_walk other_spellings content shares_at is_share_of decode walk head_at owner_at zeroes
       distinct book_walk is_utf8 valid_run run_of char_length first_length begins lines_of insert_lines reach wanted
       for_platform first_text uuid_of hyphenated read_hex hex_digit first_of same room_for no_index_of no_text share_sizes
       claims_from use_of record_sizes strike file same_key h u nil
   forms = refl
 
-  cleared : store_clear (9 ∷ []) (1 ∷ 2 ∷ []) ≡ record { answer = A.Done; index = 0 ∷ []; text = 0 ∷ 0 ∷ [] }
+  cleared : store_clear (9 ∷ []) (1 ∷ 2 ∷ []) ≡ record { answer = Ok tt; index = 0 ∷ []; text = 0 ∷ 0 ∷ [] }
   unfolding store_clear
   cleared = refl

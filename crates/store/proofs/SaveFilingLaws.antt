@@ -1,5 +1,6 @@
 -- What a save filed is what it attempted, and the save stands at its filing's place in the list of calls.
 -- Assumes nothing.
+use Rattle.std.specs.Prelude.{Option as Optional, Result, Ok, Err, ⊤, Some, None}
 use mathlib.Core.Bool.{Bool, true, false}
 use mathlib.Core.List.{List, [], ◌∷◌, ◌++◌}
 use mathlib.Core.Option.{Option, none, some}
@@ -8,24 +9,21 @@ use Prim.Native.Nat.{ℕ, suc, ◌+◌}
 use native.Mathlib.Omega.{arith}
 use Rattle.text.specs.Bytes.{pick}
 use Rattle.text.specs.Utf8.{is_utf8}
-use Rattle.text.specs.declared.uuid.UuidParse.{UuidParse}
-use Rattle.text.specs.declared.uuid.UuidParse.TheVariants.{Parsed, Invalid}
-use Rattle.store.specs.declared.owners.Owner.{Owner}
-use Rattle.store.specs.declared.owners.Owner.TheVariants as O
-use Rattle.store.specs.Parties.{owner_of, by_owner, Named}
+use Rattle.store.specs.Parties.{owner_of, by_owner, Named, Owner}
 use Rattle.store.specs.Book.{Caller, caller, turn, room_for, by_room, Reached, after, stopped, reach, on_reached}
 use Rattle.store.specs.Book.{replied}
 use Rattle.store.specs.Book.{Attempt, refused, files, Saving, book_attempt, Call, clear, insert, save, Reply}
 use Rattle.store.specs.Book.{saved}
 use Rattle.store.specs.Book.{share, book_turn, book_after, run_book}
 use Rattle.store.specs.Shares.{Content, nothing_held}
-use Rattle.store.specs.declared.table.Room.{Room}
-use Rattle.store.specs.declared.table.Room.TheVariants as R
 use Rattle.store.specs.Filings.{Filing, filing, filed_line, filed_lines, filed_attempt, filed_as, filed_by, since}
 use Rattle.store.specs.Filings.{filings, later_or, last_filed, nth}
 use Rattle.store.specs.Held.{Key, Held, same_key, file}
 use Rattle.store.specs.Lines.{lines_of, wanted}
 use Rattle.store.proofs.HeldLaws.{same_eq}
+use Rattle.store.specs.declared.table.Full.TheVariants as R
+use Rattle.store.specs.declared.table.Full.{Full}
+use Rattle.text.specs.declared.uuid.Spelled.{Spelled}
 
 abbrev Every : {A : Type 0} → (A → Type 0) → List A → Type 0
 Every P [] = Unit {0}
@@ -47,9 +45,9 @@ module _ (S : Saving) where
     answer_is : f.answer ≡ r
 
   module _ (c : Caller) (p : ℕ) (x : Call S) (r : Reply S) where
-    by_line : (l : List ℕ) (y : UuidParse) → Every (By p x r) (filed_line p x r c.owner l y)
-    by_line l Invalid = tt
-    by_line l (Parsed u) = (record { at_is = refl; by_is = refl; answer_is = refl }, tt)
+    by_line : (l : List ℕ) (y : Optional Spelled) → Every (By p x r) (filed_line p x r c.owner l y)
+    by_line l None = tt
+    by_line l (Some u) = (record { at_is = refl; by_is = refl; answer_is = refl }, tt)
 
     by_lines : (ls : List (List ℕ)) (hs : List Held) → Every (By p x r) (filed_lines p x r c hs ls)
     unfolding filed_lines
@@ -75,10 +73,10 @@ module _ (S : Saving) where
     by_save (refused v) hs = tt
     by_save (files h v) hs = go (room_for c h hs)
       where
-        go : (b : Room) → Every (By p x r) (by_room b [] [] (filing p x r h ∷ []))
-        go R.IndexFull = tt
-        go R.TextFull = tt
-        go R.Fits = (record { at_is = refl; by_is = refl; answer_is = refl }, tt)
+        go : (b : Result ⊤ Full) → Every (By p x r) (by_room b [] [] (filing p x r h ∷ []))
+        go (Err R.Index) = tt
+        go (Err R.Text) = tt
+        go (Ok u) = (record { at_is = refl; by_is = refl; answer_is = refl }, tt)
 
   by_as : (p n m : ℕ) (r : Reply S) (c : Content) (x : Call S) → Every (By p x r) (filed_as p r n m c x)
   by_as p n m r c clear = tt
@@ -88,22 +86,22 @@ module _ (S : Saving) where
           → Every (By p (insert q s) r) (by_owner w []
           (λ o. pick (is_utf8 s)
           (filed_lines p (insert q s) r (caller n m c.shares o) c.held (lines_of s)) []))
-      go O.Nobody = tt
-      go (O.Byte o) = by_insert (caller n m c.shares o) p (insert q s) r s c.held
+      go None = tt
+      go (Some o) = by_insert (caller n m c.shares o) p (insert q s) r s c.held
   by_as p n m r c (save q a) = go (owner_of q.party)
     where
       go : (w : Owner)
           → Every (By p (save q a) r) (by_owner w []
           (λ o. filed_attempt p (save q a) r (caller n m c.shares o) c.held (S.attempt o a)))
-      go O.Nobody = tt
-      go (O.Byte o) = by_save (caller n m c.shares o) p (save q a) r (S.attempt o a) c.held
+      go None = tt
+      go (Some o) = by_save (caller n m c.shares o) p (save q a) r (S.attempt o a) c.held
   by_as p n m r c (share q b) = tt
 
   -- where a save filed it, the line and the answer are those of the attempt for its owner
   record Honestly (f : Filing S) (q : Named) (a : S.Args) : Type 0 where
     owner : ℕ
     value : S.Value
-    own : owner_of q.party ≡ O.Byte owner
+    own : owner_of q.party ≡ Some owner
     attempted : S.attempt owner a ≡ files f.held value
     answers : f.answer ≡ saved value
 
@@ -134,22 +132,22 @@ module _ (S : Saving) where
         its : Reply S
         its = (book_turn n m c (save q x)).answer
 
-        answer : (o : ℕ) → owner_of q.party ≡ O.Byte o → (h : Held) (v : S.Value) → S.attempt o x ≡ files h v
-            → room_for (by o) h c.held ≡ R.Fits → its ≡ saved v
+        answer : (o : ℕ) → owner_of q.party ≡ Some o → (h : Held) (v : S.Value) → S.attempt o x ≡ files h v
+            → room_for (by o) h c.held ≡ Ok tt → its ≡ saved v
         answer o w h v e r =
             unfold book_turn in (ap (λ (y : Owner). (by_owner y (turn (saved S.nobody) c.held)
             (λ o. replied {S = S} saved
             (book_attempt S.full S.crowded (by o) c.held (S.attempt o x)))).answer) w
             ∙ ap (λ (y : Attempt S.Value). saved (book_attempt S.full S.crowded (by o) c.held y).answer) e
-            ∙ ap (λ (b : Room). saved (by_room b (turn S.full c.held) (turn S.crowded c.held)
+            ∙ ap (λ (b : Result ⊤ Full). saved (by_room b (turn S.full c.held) (turn S.crowded c.held)
             (turn v (file h c.held))).answer) r)
 
-        fits : (o : ℕ) → owner_of q.party ≡ O.Byte o → (h : Held) (v : S.Value) → S.attempt o x ≡ files h v
-            → (b : Room) → room_for (by o) h c.held ≡ b
+        fits : (o : ℕ) → owner_of q.party ≡ Some o → (h : Held) (v : S.Value) → S.attempt o x ≡ files h v
+            → (b : Result ⊤ Full) → room_for (by o) h c.held ≡ b
             → Every Honest (by_room b [] [] (filing p (save q x) its h ∷ []))
-        fits o w h v e R.IndexFull r = tt
-        fits o w h v e R.TextFull r = tt
-        fits o w h v e R.Fits r = (
+        fits o w h v e (Err R.Index) r = tt
+        fits o w h v e (Err R.Text) r = tt
+        fits o w h v e (Ok u) r = (
           λ r' a z. record {
             owner = o;
             value = v;
@@ -160,7 +158,7 @@ module _ (S : Saving) where
           tt,
         )
 
-        tried : (o : ℕ) → owner_of q.party ≡ O.Byte o → (y : Attempt S.Value) → S.attempt o x ≡ y
+        tried : (o : ℕ) → owner_of q.party ≡ Some o → (y : Attempt S.Value) → S.attempt o x ≡ y
             → Every Honest (filed_attempt p (save q x) its (by o) c.held y)
         tried o w (refused v) e = tt
         tried o w (files h v) e = fits o w h v e (room_for (by o) h c.held) refl
@@ -168,8 +166,8 @@ module _ (S : Saving) where
         go : (w : Owner) → owner_of q.party ≡ w
             → Every Honest (by_owner w []
             (λ o. filed_attempt p (save q x) its (by o) c.held (S.attempt o x)))
-        go O.Nobody e = tt
-        go (O.Byte o) e = tried o e (S.attempt o x) refl
+        go None e = tt
+        go (Some o) e = tried o e (S.attempt o x) refl
     honest_turn p c (share q b) = tt
 
     -- what holds of the filings of every call holds of those of a list
@@ -252,7 +250,7 @@ module _ (S : Saving) where
     pub record SaveFiled (xs : List (Call S)) (k : Key) (f : Filing S) (q : Named) (a : S.Args) : Type 0 where
       pub owner : ℕ
       pub value : S.Value
-      pub own : owner_of q.party ≡ O.Byte owner
+      pub own : owner_of q.party ≡ Some owner
       pub attempted : S.attempt owner a ≡ files f.held value
       pub under : f.held.key ≡ k
       pub stands : nth xs f.at ≡ some (save q a)

@@ -1,5 +1,6 @@
 -- Demand 3, whole: the guarantee with document 01's save, whose built lines fit and read back.
 -- Assumes nothing.
+use Rattle.std.specs.Prelude.{Some, None, Result, Ok, Err, ⊤}
 use mathlib.Core.Path.{◌≡◌, refl, sym, subst, ap, ◌∙◌}
 use mathlib.Core.Bool.{Bool, true, false}
 use mathlib.Core.Option.{some}
@@ -13,16 +14,11 @@ use Rattle.text.specs.Uuid.{uuid_text}
 use Rattle.text.specs.declared.uuid.Uuid.{Uuid}
 use Rattle.text.proofs.UuidLaws.{uuid_text-length}
 use Rattle.line.specs.Maps.{to_map}
-use Rattle.map.specs.declared.error.MappingAnswer.{MappingAnswer}
-use Rattle.map.specs.declared.error.MappingAnswer.TheVariants.{Accepted, Refused}
 use Rattle.map.specs.declared.mapping_data.MappingData.{MappingData}
 use Rattle.map.specs.Build.{checks_of, filled_buttons, filled_axes, ended, pair_texts, built_line, name_start_of, built_map}
-use Rattle.store.specs.declared.calls.SaveAnswer.TheVariants as Sv
 use Rattle.store.specs.declared.calls.Saved.{Saved}
-use Rattle.store.specs.declared.owners.Owner.{Owner}
-use Rattle.store.specs.declared.owners.Owner.TheVariants as O
 use Rattle.store.specs.declared.parties.Party.{Party}
-use Rattle.store.specs.Parties.{owner_of, by_owner, Named}
+use Rattle.store.specs.Parties.{owner_of, by_owner, Named, Owner}
 use Rattle.store.specs.Held.{Key, Held, key_by, find, index_max, text_max}
 use Rattle.store.specs.Layout.{Shape}
 use Rattle.store.specs.Shares.{nothing_held, with_held}
@@ -42,6 +38,8 @@ use Rattle.store.proofs.FilingsLaws.{says_run}
 use Rattle.store.proofs.SaveFilingLaws.{SaveFiled, last_saved}
 use Rattle.store.proofs.StoreLaws.{whole, whole-held, whole-look_up, whole-next, next-held}
 use Rattle.store.proofs.NextLaws.{save_answers, save_holds, insert_answers, insert_holds}
+use Rattle.store.specs.declared.calls.SaveError.TheVariants as Sv
+use Rattle.map.specs.declared.error.MappingError.{MappingError}
 
 -- the bytes of a built line at the name's place
 name_bytes : (d : MappingData) (buttons axes name : List ℕ) (uuid : Uuid)
@@ -65,16 +63,16 @@ pub files_are : (o : ℕ) (a : SaveArgs) (h : Held) (v : Saved) → attempt_of o
 unfolding attempt_of
 files_are o a h v e = go (checks_of a.slots a.buttons a.axes a.name) refl e
   where
-    name : (b : Bool) → unsaved_name a.name ≡ b → checks_of a.slots a.buttons a.axes a.name ≡ Accepted
+    name : (b : Bool) → unsaved_name a.name ≡ b → checks_of a.slots a.buttons a.axes a.name ≡ Ok tt
         → pick b (refused (refused_save Sv.UnsavedName)) (files (built_held o a) (built_save a)) ≡ files h v
         → Files o a h v
     name true n p q = let z : ◌≡◌ {A = ℕ} 0 1 = cc in absurd (omega arith)
     name false n p q = record { passed = record { build = p; name = n }; line = cc; value = cc }
 
-    go : (r : MappingAnswer) → checks_of a.slots a.buttons a.axes a.name ≡ r → attempt_after o a r ≡ files h v
+    go : (r : Result ⊤ MappingError) → checks_of a.slots a.buttons a.axes a.name ≡ r → attempt_after o a r ≡ files h v
         → Files o a h v
-    go Accepted p q = name (unsaved_name a.name) refl p q
-    go (Refused x) p q = let z : ◌≡◌ {A = ℕ} 0 1 = cc in absurd (omega arith)
+    go (Ok _) p q = name (unsaved_name a.name) refl p q
+    go (Err x) p q = let z : ◌≡◌ {A = ℕ} 0 1 = cc in absurd (omega arith)
 
 -- and the other way round
 pub attempt_files : (o : ℕ) (a : SaveArgs) → Passes a → attempt_of o a ≡ files (built_held o a) (built_save a)
@@ -134,7 +132,7 @@ module _ (n m : ℕ) (ln : n ≤ index_max) (lm : m ≤ text_max) (xs : Calls) w
         done = ap (λ (v : Saved). v.answer) (sym z.value);
         line = ap (λ (h : Held). h.line) (sym z.line);
         map = ap (λ (v : Saved). v.map) (sym z.value);
-        by = w.own ∙ ap (λ (o : ℕ). O.Byte o)
+        by = w.own ∙ ap (λ (o : ℕ). Some o)
             (ap (λ (h : Held). h.key.owner) z.line ∙ ap (λ (x : Key). x.owner) w.under);
         under = ap (λ (h : Held). h.key.uuid) z.line ∙ ap (λ (x : Key). x.uuid) w.under;
         reads = builds.reads w.owner c f.held w.value w.attempted;
@@ -154,8 +152,8 @@ module _ (n m : ℕ) (ln : n ≤ index_max) (lm : m ≤ text_max) (xs : Calls) w
       go : (w : Owner)
           → by_owner w no_owner (λ o. look_by (key_by o u) (stored n m xs).index (stored n m xs).text)
           ≡ by_owner w no_owner (λ o. looked_in (line_filed (last_of n m xs (key_by o u))))
-      go O.Nobody = refl
-      go (O.Byte o) = finds_key (key_by o u)
+      go None = refl
+      go (Some o) = finds_key (key_by o u)
 
   -- what is held after a call that leaves the shares
   pub held_next : (x : Call saving) → shares_after n m (booked n m xs).content x ≡ (booked n m xs).content.shares

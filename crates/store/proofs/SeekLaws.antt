@@ -1,16 +1,17 @@
 -- A byte and a text sought in a text: what a turn of each search passes over.
 -- Assumes nothing.
-use mathlib.Core.Bool.{Bool, true, false}
-use mathlib.Core.List.{List}
+use mathlib.Core.Bool.{Bool, true, false, ◌&&◌}
+use mathlib.Core.List.{List, [], ◌∷◌}
 use mathlib.Core.Logic.{⊎_elim}
-use mathlib.Core.Path.{◌≡◌, refl, sym, ap, ◌∙◌}
-use Prim.Native.Nat.{ℕ, zero, suc, ◌+◌, ◌-◌, ◌≤◌, ◌<◌}
+use mathlib.Core.Path.{◌≡◌, refl, sym, ap, ap₂, ◌∙◌}
+use Prim.Native.Nat.{ℕ, zero, suc, ◌+◌, ◌-◌, ◌*◌, ◌≤◌, ◌<◌}
 use native.Mathlib.Omega.{arith}
 use lib.Dec.{eqb}
+use lib.Pointwise.{pointwise}
 use lib.ListN.{length, take, drop, get_or, length-drop}
 use lib.Seq.{get_or-take, get_or-drop}
 use borrow.Author.Tests.{eqb-false, eqb-true}
-use Rattle.text.specs.Bytes.{first_of}
+use Rattle.text.specs.Bytes.{first_of, same}
 use Rattle.text.specs.Inner.{every}
 use Rattle.text.proofs.ListLaws.{lt_or_le, part_to_end}
 use Rattle.text.proofs.BlockLaws.{every-next, and_parts}
@@ -18,6 +19,7 @@ use Rattle.text.proofs.BytesLaws.{same_equal, first_at_lem, first_on, first_end,
 use Rattle.text.specs.Search.{begins_text, first_text}
 use Rattle.store.specs.Inner.{is_not}
 use Rattle.store.proofs.BoolLaws.{not-not}
+use Rattle.store.proofs.HeldLaws.{eqb-sym}
 use Rattle.store.proofs.WantedLaws.{text_at, text_on, text_within}
 
 -- n bytes that are none of b
@@ -31,6 +33,17 @@ others_go b s i (suc n) h e =
     let on = first_on b s (i + n) (omega arith) (eqb-false (get_or s (i + n) 0) b (not-not _ w.1)) in
     ap (λ (k : ℕ). k + first_of b (drop k s)) z ∙ omega (arith, on, others_go b s i n (omega arith) w.0)
 
+-- a block of sixteen of them
+pub others_on : (b : ℕ) (s : List ℕ) (k : ℕ) → 16 * k + 16 ≤ length s
+    → 16 * k + first_of b (drop (16 * k) s) ≡ first_of b s → (r : Bool)
+    → r ≡ every (is_not b) (take (16 * k + 16 - 16 * k) (drop (16 * k) s)) → r ≡ true
+    → 16 * (k + 1) + first_of b (drop (16 * (k + 1)) s) ≡ first_of b s
+others_on b s k h e r n t =
+    let z : 16 * k + 16 ≡ 16 * (k + 1) = omega arith in
+    let w : 16 * k + 16 - 16 * k ≡ 16 = omega arith in
+    sym (ap (λ (j : ℕ). j + first_of b (drop j s)) z)
+    ∙ others_go b s (16 * k) 16 h (sym (ap (λ (j : ℕ). every (is_not b) (take j (drop (16 * k) s))) w) ∙ sym n ∙ t) ∙ e
+
 -- what is found in the part from k on lies within the text
 module _ (b : ℕ) (s : List ℕ) (k r : ℕ) (e : r ≡ first_of b (take (length s - k) (drop k s))) where
   pub part_first : r ≡ first_of b (drop k s)
@@ -38,6 +51,17 @@ module _ (b : ℕ) (s : List ℕ) (k r : ℕ) (e : r ≡ first_of b (take (lengt
 
   pub part_within : k ≤ length s → k + r ≤ length s
   part_within h = omega (arith, part_first, first_le b (drop k s), length-drop k s)
+
+-- `starts_with` on slices compares a text's beginning
+same_is : (p s : List ℕ) → pointwise eqb p s ≡ same s p
+unfolding same
+same_is [] [] = refl
+same_is [] (y ∷ s) = refl
+same_is (x ∷ p) [] = refl
+same_is (x ∷ p) (y ∷ s) = ap₂ (λ (a b : Bool). a && b) (eqb-sym x y) (same_is p s)
+
+pub begins_is : (p s : List ℕ) → pointwise eqb p (take (length p) s) ≡ begins_text p s
+begins_is p s = same_is p (take (length p) s)
 
 -- a text that p stands at the beginning of has p's bytes
 begins-byte : (p s : List ℕ) (i d : ℕ) → d < length p → begins_text p (drop i s) ≡ true → get_or s (i + d) 0 ≡ get_or p d 0

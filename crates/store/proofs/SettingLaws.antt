@@ -1,5 +1,6 @@
 -- A share setting weighed and written: whether there is room for it, and the index with its record.
 -- Assumes nothing.
+use Rattle.std.specs.Prelude.{Result, Ok, Err, ⊤}
 use mathlib.Core.Bool.{Bool, true, false}
 use mathlib.Core.List.{List, [], ◌∷◌, ◌++◌, append_assoc}
 use mathlib.Core.Path.{◌≡◌, refl, sym, ap, ap₂, ◌∙◌}
@@ -13,8 +14,6 @@ use borrow.Author.Tests.{lt-ltb, le-ltb, ltb-false}
 use borrow.Rule.Slice.PartMut.{put_mid, mid_of}
 use Rattle.text.proofs.LentLaws.{tail_part, tail_back}
 use Rattle.text.specs.Bytes.{pick}
-use Rattle.store.specs.declared.table.Room.{Room}
-use Rattle.store.specs.declared.table.Room.TheVariants as R
 use Rattle.store.specs.Fronts.{Changes, Changed}
 use Rattle.store.specs.Held.{Held}
 use Rattle.store.specs.Inner.{sizes}
@@ -23,6 +22,8 @@ use Rattle.store.specs.Settings.{UsedBy, Weighs, Weighed, Writes}
 use Rattle.store.specs.Shares.{use_of, larger, claims, share_size, share_sizes}
 use Rattle.store.proofs.ClaimLaws.{one_least}
 use Rattle.store.proofs.ShareLaws.{length_shares}
+use Rattle.store.specs.declared.table.Full.TheVariants as R
+use Rattle.store.specs.declared.table.Full.{Full}
 
 -- ---- `share_room`
 
@@ -34,15 +35,15 @@ larger_share u b = go (ltb u b) refl
     go false e = ltb-false u b e
 
 module _ (a : List ℕ) (n : ℕ) (g : List ℕ) (m i end : ℕ) where
-  weighed : (r : Room) (x y : Bool)
+  weighed : (r : Result ⊤ Full) (x y : Bool)
       → ((hs : List Held) → UsedBy a n hs → ltb m (claims g hs) ≡ x) → ltb i end ≡ y
-      → r ≡ pick x R.TextFull (pick y R.IndexFull R.Fits) → Weighed a n g m i end r
+      → r ≡ pick x (Err R.Text) (pick y (Err R.Index) (Ok tt)) → Weighed a n g m i end r
   weighed r x y ex ey e hs u =
-      e ∙ ap₂ (λ (v w : Bool). pick v R.TextFull (pick w R.IndexFull R.Fits)) (sym (ex hs u)) (sym ey)
+      e ∙ ap₂ (λ (v w : Bool). pick v (Err R.Text) (pick w (Err R.Index) (Ok tt))) (sym (ex hs u)) (sym ey)
 
-  pub room_bytes : (bytes : ℕ) → Weighs a n g bytes m → m < bytes → Weighed a n g m i end R.TextFull
+  pub room_bytes : (bytes : ℕ) → Weighs a n g bytes m → m < bytes → Weighed a n g m i end (Err R.Text)
   room_bytes bytes w l =
-      weighed R.TextFull true (ltb i end)
+      weighed (Err R.Text) true (ltb i end)
       (λ hs u. lt-ltb m (claims g hs) (omega (
         arith,
         l,
@@ -52,17 +53,17 @@ module _ (a : List ℕ) (n : ℕ) (g : List ℕ) (m i end : ℕ) where
       ))) refl refl
 
   module _ (sum : ℕ) (s : (hs : List Held) → UsedBy a n hs → sum ≡ claims g hs) where
-    pub room_text : m < sum → Weighed a n g m i end R.TextFull
+    pub room_text : m < sum → Weighed a n g m i end (Err R.Text)
     room_text l =
-        weighed R.TextFull true (ltb i end) (λ hs u. lt-ltb m (claims g hs) (omega (arith, l, s hs u))) refl refl
+        weighed (Err R.Text) true (ltb i end) (λ hs u. lt-ltb m (claims g hs) (omega (arith, l, s hs u))) refl refl
 
-    pub room_index : sum ≤ m → i < end → Weighed a n g m i end R.IndexFull
+    pub room_index : sum ≤ m → i < end → Weighed a n g m i end (Err R.Index)
     room_index l k =
-        weighed R.IndexFull false true (λ hs u. le-ltb m (claims g hs) (omega (arith, l, s hs u))) (lt-ltb i end k) refl
+        weighed (Err R.Index) false true (λ hs u. le-ltb m (claims g hs) (omega (arith, l, s hs u))) (lt-ltb i end k) refl
 
-    pub room_fits : sum ≤ m → end ≤ i → Weighed a n g m i end R.Fits
+    pub room_fits : sum ≤ m → end ≤ i → Weighed a n g m i end (Ok tt)
     room_fits l k =
-        weighed R.Fits false false (λ hs u. le-ltb m (claims g hs) (omega (arith, l, s hs u))) (le-ltb i end k) refl
+        weighed (Ok tt) false false (λ hs u. le-ltb m (claims g hs) (omega (arith, l, s hs u))) (le-ltb i end k) refl
 
 -- ---- the records before a share and behind it
 

@@ -1,18 +1,21 @@
 -- The records of the shares read one after the other; a share set: its record written, taken out or put in between.
 -- Assumes nothing.
-use mathlib.Core.Bool.{Bool, true, false, ◌&&◌}
-use mathlib.Core.List.{List, [], ◌∷◌, ◌++◌, append_assoc, append-nil}
-use mathlib.Core.Path.{◌≡◌, refl, sym, ap, ap₂, ◌∙◌, subst}
+use mathlib.Core.Bool.{Bool, true, false}
+use mathlib.Core.List.{List, [], ◌∷◌, ◌++◌, append_assoc}
+use mathlib.Core.Path.{◌≡◌, refl, sym, ap, ap₂, ◌∙◌}
 use Prim.Native.Nat.{ℕ, zero, suc, ◌+◌, ◌-◌, ◌*◌, ◌≤◌, ◌<◌}
 use native.Mathlib.Numerals.{add-one}
 use native.Mathlib.Omega.{arith}
 use lib.Dec.{eqb, leb}
 use lib.ListN.{length, get_or, set, take, drop, replicate, length-append, length-replicate, length-drop}
-use lib.ListN.{replicate-append-replicate, drop_of_length-le, get_or-append}
-use lib.Seq.{drop-drop, drop-cons, take-suc, take_at, drop_at, set_at, get_or-take, length-take-le}
-use lib.Seq.{append_snoc, take_all}
-use borrow.Author.Tests.{eq-eqb, ne_eqb, le-leb, lt-leb, leb-true, leb-false, eqb-true, eqb-false}
+use lib.ListN.{replicate-append-replicate}
+use lib.Seq.{drop-drop, take_at, drop_at, set_at, length-take-le}
+use lib.Seq.{append_snoc}
+use borrow.Author.Tests.{eq-eqb, ne_eqb, lt-leb, leb-true, leb-false, eqb-true, eqb-false}
 use borrow.Rule.Slice.PartMut.{put_mid, mid_of}
+use Rattle.std.specs.Bool.{MatchBool}
+use Rattle.std.specs.List.{All, AllWithin, HoldsAt}
+use Rattle.std.proofs.lemmas.List.Elements.{All-from_all_within}
 use Rattle.text.proofs.LentLaws.{tail_lent}
 use Rattle.text.specs.Bytes.{pick, written}
 use Rattle.text.specs.Uuid.{big_endian}
@@ -26,13 +29,6 @@ use Rattle.store.proofs.ShareLaws.{shares_take, shares_pass, shares_done, other_
 use Rattle.store.proofs.ShareLaws.{is_share, share_none, share_some, share_drop, length_share}
 
 -- ---- what stands at the front
-
--- `kind_four`
-pub four_short : (i : List ℕ) → length i < 4 → false ≡ starts_share i
-four_short i l = sym (and_false_left _ _ (lt-leb 4 (length i) l))
-
-pub four_long : (i : List ℕ) (b : Bool) → 4 ≤ length i → b ≡ eqb (get_or i 0 0) 4 → b ≡ starts_share i
-four_long i b l e = e ∙ ap (λ (c : Bool). c && eqb (get_or i 0 0) 4) (sym (le-leb 4 (length i) l))
 
 pub starts_long : (i : List ℕ) → starts_share i ≡ true → 4 ≤ length i
 starts_long i e = leb-true 4 (length i) (and_left _ _ e)
@@ -182,14 +178,17 @@ module _ (i g : List ℕ) (at o : ℕ) (w : Reading i g at o) where
 
 -- ---- `any_share`
 
-pub none-turn : (s : List ℕ) (o : ℕ) → o < length s → take o s ≡ replicate o 0 → get_or s o 0 ≡ 0
-    → take (o + 1) s ≡ replicate (o + 1) 0
-none-turn s o l e z =
-    ap (λ (k : ℕ). take k s) (add-one o) ∙ take-suc s o 0 l
-    ∙ ap₂ (λ (q : List ℕ) (x : ℕ). q ++ (x ∷ [])) e z ∙ replicate-append-replicate o 1 0
+all_none : (s : List ℕ) → All (λ (x : ℕ). x ≡ 0) s → s ≡ replicate (length s) 0
+all_none [] a = refl
+all_none (x ∷ s) a =
+    ap₂ (λ (y : ℕ) (q : List ℕ). y ∷ q) (a 0 0 (omega arith)) (all_none s (λ k d l. a (suc k) d (omega arith)))
 
-pub none_all : (s : List ℕ) (o : ℕ) → length s ≡ owners → o ≡ owners → take o s ≡ replicate o 0 → s ≡ no_shares
-none_all s o l e q = sym (take_all o s (omega (arith, l, e))) ∙ q ∙ ap (λ (k : ℕ). replicate {A = ℕ} k 0) e
+pub no_share : (s : List ℕ) (r : Bool) → length s ≡ owners
+    → MatchBool r ((k : ℕ) × (k < length s) × HoldsAt (λ (x : ℕ). x ≡ 0 → ⊥) s k) (AllWithin (λ (x : ℕ). x ≡ 0) s 0 (length s))
+    → r ≡ false → s ≡ no_shares
+no_share s true l h e = absurd (true-false e)
+no_share s false l h e =
+    all_none s (All-from_all_within (λ (x : ℕ). x ≡ 0) s h) ∙ ap (λ (k : ℕ). replicate {A = ℕ} k 0) l
 
 -- ---- `share_place`
 
@@ -244,66 +243,6 @@ gap_closed d p ys l e at ea ey =
     (ap (take at) e ∙ take_at (drop 4 d) (drop (length d - 4) d) at s) four
 
 -- ---- `open_gap`
-
--- the bytes from k on stand four places further
-abbrev pub Opened : List ℕ → List ℕ → ℕ → Type 0
-Opened d p k = (k + 4 ≤ length d) × (p ≡ take (k + 4) d ++ drop k (take (length d - 4) d))
-
-pub open_first : (d : List ℕ) (k : ℕ) → 4 ≤ length d → k ≡ length d - 4 → Opened d d k
-open_first d k l e =
-    let m : length (take (length d - 4) d) ≡ length d - 4 = length-take-le (length d - 4) d (omega arith) in
-    let past : length (take (length d - 4) d) ≤ k = omega (arith, m, e) in
-    let gone : drop k (take (length d - 4) d) ≡ [] = drop_of_length-le (take (length d - 4) d) past in (
-      omega (arith, l, e),
-      sym (ap₂ (λ (x y : List ℕ). x ++ y) (take_all (k + 4) d (omega (arith, l, e))) gone ∙ append-nil d),
-    )
-
-module _ (d p : List ℕ) where
-  abbrev moved : List ℕ
-  moved = take (length d - 4) d
-
-  moved_long : length moved ≡ length d - 4
-  moved_long = length-take-le (length d - 4) d (omega arith)
-
-  pub open_long : (k : ℕ) → Opened d p k → length p ≡ length d
-  open_long k o =
-      ap length o.1 ∙ length-append (take (k + 4) d) (drop k moved)
-      ∙ ap₂ (λ (x y : ℕ). x + y) (length-take-le (k + 4) d o.0) (length-drop k moved)
-      ∙ omega (arith, moved_long, o.0)
-
-  -- the byte at k is stored four places further
-  move_up : (k : ℕ) → Opened d p (k + 1) → Opened d (set p (k + 4) (get_or p k 0)) k
-  move_up k o =
-      let up : k + 1 + 4 ≡ suc (k + 4) = omega arith in
-      let front : take (k + 1 + 4) d ≡ take (k + 4) d ++ (get_or d (k + 4) 0 ∷ [])
-      = ap (λ (n : ℕ). take n d) up ∙ take-suc d (k + 4) 0 (omega (arith, o.0)) in
-      let is : p ≡ take (k + 4) d ++ (get_or d (k + 4) 0 ∷ drop (k + 1) moved)
-      = o.1 ∙ ap (λ (q : List ℕ). q ++ drop (k + 1) moved) front
-      ∙ append_snoc (take (k + 4) d) (get_or d (k + 4) 0) (drop (k + 1) moved) in
-      let read : get_or p k 0 ≡ get_or moved k 0
-      = ap (λ (q : List ℕ). get_or q k 0) o.1
-      ∙ get_or-append (take (k + 1 + 4) d) (drop (k + 1) moved) 0 k
-      (omega (arith, length-take-le (k + 1 + 4) d o.0))
-      ∙ get_or-take (k + 1 + 4) d k 0 (omega arith)
-      ∙ sym (get_or-take (length d - 4) d k 0 (omega (arith, o.0))) in
-      let behind : drop k moved ≡ get_or moved k 0 ∷ drop (k + 1) moved
-      = drop-cons moved k 0 (omega (arith, moved_long, o.0))
-      ∙ ap (λ (n : ℕ). get_or moved k 0 ∷ drop n moved) (sym (add-one k)) in (
-        omega (arith, o.0),
-        ap (λ (q : List ℕ). set q (k + 4) (get_or p k 0)) is
-            ∙ set_at (take (k + 4) d) (get_or d (k + 4) 0) (drop (k + 1) moved) (get_or p k 0) (k + 4)
-            (length-take-le (k + 4) d (omega (arith, o.0)))
-            ∙ ap (λ (x : ℕ). take (k + 4) d ++ (x ∷ drop (k + 1) moved)) read
-            ∙ ap (λ (q : List ℕ). take (k + 4) d ++ q) (sym behind),
-      )
-
-  pub open_turn : (k : ℕ) → 0 < k → Opened d p k → Opened d (set p (k - 1 + 4) (get_or p (k - 1) 0)) (k - 1)
-  open_turn k l o =
-      let e : k ≡ k - 1 + 1 = omega (arith, l) in
-      move_up (k - 1) (subst (Opened d p) e o)
-
-  pub open_last : (k : ℕ) → k ≡ 0 → Opened d p k → p ≡ take 4 d ++ take (length d - 4) d
-  open_last k e o = o.1 ∙ ap (λ (n : ℕ). take (n + 4) d ++ drop n moved) e
 
 pub opened_long : (d p : List ℕ) → 4 ≤ length d → p ≡ take 4 d ++ take (length d - 4) d → 4 ≤ length p
 opened_long d p l e =

@@ -1,5 +1,6 @@
 -- A party's share told and set: what is told is what the store holds, what a setting leaves is what the book holds.
 -- Assumes nothing.
+use Rattle.std.specs.Prelude.{Result, Ok, Err, ⊤}
 use mathlib.Core.Bool.{Bool, true, false}
 use mathlib.Core.List.{List, []}
 use mathlib.Core.Option.{Option, none, some}
@@ -11,12 +12,7 @@ use lib.ListN.{length, get_or, set, drop, length-set, length-drop}
 use lib.Seq.{get_or-set_same, get_or-set_other, set_out}
 use borrow.Author.Tests.{ltb-true, ltb-false, eqb-true, eqb-false}
 use Rattle.text.specs.Bytes.{pick}
-use Rattle.store.specs.declared.calls.Answer.{Answer}
-use Rattle.store.specs.declared.calls.Answer.TheVariants as A
-use Rattle.store.specs.declared.sharing.ShareTold.TheVariants as T
 use Rattle.store.specs.declared.soundness.Stock.{Stock}
-use Rattle.store.specs.declared.table.Room.{Room}
-use Rattle.store.specs.declared.table.Room.TheVariants as R
 use Rattle.store.specs.Book.{record_sizes, by_room, setting, over_text, over_index, book_share}
 use Rattle.store.specs.Claims.{Addable}
 use Rattle.store.specs.Decode.{content}
@@ -36,6 +32,10 @@ use Rattle.store.proofs.SettingLaws.{larger_share, sizes-set}
 use Rattle.store.proofs.ShareLaws.{given_front}
 use Rattle.store.proofs.SurveyLaws.{Holds, sound_holds}
 use Rattle.store.proofs.UseLaws.{tabled_use, tabled_addable}
+use Rattle.store.specs.declared.calls.StoreError.TheVariants as E
+use Rattle.store.specs.declared.table.Full.TheVariants as R
+use Rattle.store.specs.declared.calls.StoreError.{StoreError}
+use Rattle.store.specs.declared.table.Full.{Full}
 
 -- ---- the store, its shares and lines written down
 
@@ -52,13 +52,13 @@ pub record Stocked (i t g a : List ℕ) (r : Stock) : Type 0 where
   pub index_most : length i ≤ index_max
   pub text_most : length t ≤ text_max
 
-pub stocked : (i t g a heads next : List ℕ) (r : Stock) → Bytes i → Stocks i t g a heads next r → r.sound ≡ true
+pub stocked : (i t g a heads next : List ℕ) (r : Stock) → Bytes i → Stocks i t g a heads next r
     → Stocked i t g a r
-stocked i t g a heads next r b s e =
-    let p = s.front e in
-    let h : Holds i t g r.front = sound_holds i t g r.front p (sym s.is ∙ e) in
+stocked i t g a heads next r b s =
+    let p = s.front in
+    let h : Holds i t g r.front = sound_holds i t g r.front p s.is in
     let x : InRows (drop r.front i) t [] a heads next r.fill.count r.fill h.all.held
-    = (s.loads e).0 t [] h.all.held h.lines in
+    = s.loads.0 t [] h.all.held h.lines in
     let at : r.front ≡ share_sizes g = ends i t g r.front p b in
     record {
       all = h.all;
@@ -70,26 +70,26 @@ stocked i t g a heads next r b s e =
       front = at;
       end = x.end;
       fits = omega (arith, at, x.tabled.good.index, length-drop r.front i, p.within);
-      index_most = s.most e;
+      index_most = s.most;
       text_most = x.limits.1;
     }
 
 -- ---- `share_of`
 
 module _ (i t : List ℕ) (o : ℕ) where
-  pub told_unsound : known (content i t) ≡ false → T.Unsound ≡ store_told i t o
+  pub told_unsound : known (content i t) ≡ false → Err (record {}) ≡ store_told i t o
   unfolding store_told
   told_unsound e = go (content i t) e
     where
-      go : (x : Option Content) → known x ≡ false → T.Unsound ≡ told_of o x
+      go : (x : Option Content) → known x ≡ false → Err (record {}) ≡ told_of o x
       go none q = refl
       go (some c) q = absurd (true-false q)
 
   pub told_sound : (c : Content) → content i t ≡ some c → (share used : ℕ) → share ≡ get_or c.shares o 0
-      → used ≡ use_of o c.held → T.Told (record { share = share; used = used }) ≡ store_told i t o
+      → used ≡ use_of o c.held → Ok (record { share = share; used = used }) ≡ store_told i t o
   unfolding store_told
   told_sound c e share used s u =
-      ap₂ (λ (x y : ℕ). T.Told (record { share = x; used = y })) s u ∙ sym (ap (told_of o) e)
+      ap₂ (λ (x y : ℕ). Ok (record { share = x; used = y })) s u ∙ sym (ap (told_of o) e)
 
 -- ---- `set_share`
 
@@ -111,12 +111,12 @@ set_given g o b v l = record { each = length-set g o b ∙ v.each; two = λ q. g
     go q false e = omega (arith, get_or-set_other g o q b 0 (eqb-false q o e), v.two q)
 
 pub share_unsound : (i t : List ℕ) (o b : ℕ) → known (content i t) ≡ false
-    → record { answer = A.Unsound; index = i; text = t } ≡ store_share i t o b
+    → record { answer = Err E.Unsound; index = i; text = t } ≡ store_share i t o b
 unfolding store_share
 share_unsound i t o b e = go (content i t) e
   where
     go : (x : Option Content) → known x ≡ false
-        → record { answer = A.Unsound; index = i; text = t }
+        → record { answer = Err E.Unsound; index = i; text = t }
         ≡ on_shares i t x (λ c. book_share (length i) (length t) c o b)
     go none q = refl
     go (some c) q = absurd (true-false q)
@@ -126,21 +126,21 @@ module _ (i t : List ℕ) (y : Bytes i) (c : Content) (e : content i t ≡ some 
   later = set c.shares o b
 
   -- what comes of the room there is
-  pub share_by : (end : ℕ) → end ≡ share_sizes later + record_sizes c.held → (r : Room)
-      → r ≡ pick (ltb (length t) (claims later c.held)) R.TextFull (pick (ltb (length i) end) R.IndexFull R.Fits)
-      → by_room r (unchanged i t A.NoRoom) (unchanged i t A.ShareTooLarge)
-      (record { answer = A.Done; index = encode_index (length i) later c.held; text = t })
+  pub share_by : (end : ℕ) → end ≡ share_sizes later + record_sizes c.held → (r : Result ⊤ Full)
+      → r ≡ pick (ltb (length t) (claims later c.held)) (Err R.Text) (pick (ltb (length i) end) (Err R.Index) (Ok tt))
+      → by_room r (unchanged i t (Err E.NoRoom)) (unchanged i t (Err E.ShareTooLarge))
+      (record { answer = Ok tt; index = encode_index (length i) later c.held; text = t })
       ≡ store_share i t o b
   unfolding store_share book_share over_text over_index
   share_by end n r q =
-      ap (λ (x : Room). by_room x (unchanged i t A.NoRoom) (unchanged i t A.ShareTooLarge) done)
-      (q ∙ ap (λ (k : ℕ). pick (ltb (length t) (claims later c.held)) R.TextFull
-      (pick (ltb (length i) k) R.IndexFull R.Fits)) n)
+      ap (λ (x : Result ⊤ Full). by_room x (unchanged i t (Err E.NoRoom)) (unchanged i t (Err E.ShareTooLarge)) done)
+      (q ∙ ap (λ (k : ℕ). pick (ltb (length t) (claims later c.held)) (Err R.Text)
+      (pick (ltb (length i) k) (Err R.Index) (Ok tt))) n)
       ∙ go (ltb (length t) (claims later c.held)) (ltb (length i) (share_sizes later + record_sizes c.held))
       ∙ sym (ap (λ (x : Option Content). on_shares i t x (λ d. book_share (length i) (length t) d o b)) e)
     where
-      done : Done Answer
-      done = record { answer = A.Done; index = encode_index (length i) later c.held; text = t }
+      done : Done (Result ⊤ StoreError)
+      done = record { answer = Ok tt; index = encode_index (length i) later c.held; text = t }
 
       -- the buffers encode what is held
       index_kept : i ≡ encode_index (length i) c.shares c.held
@@ -149,19 +149,19 @@ module _ (i t : List ℕ) (y : Bytes i) (c : Content) (e : content i t ≡ some 
       text_kept : t ≡ encode_text (length t) c.held
       text_kept = (content_encodes i t c y e).text
 
-      kept : (a : Answer) → unchanged i t a ≡ holding i t a c
+      kept : (a : Result ⊤ StoreError) → unchanged i t a ≡ holding i t a c
       kept a = ap₂ (λ (x z : List ℕ). record { answer = a; index = x; text = z }) index_kept text_kept
 
       go : (x z : Bool)
-          → by_room (pick x R.TextFull (pick z R.IndexFull R.Fits)) (unchanged i t A.NoRoom)
-          (unchanged i t A.ShareTooLarge) done
-          ≡ holding i t (pick x (setting A.ShareTooLarge c) (pick z (setting A.NoRoom c)
-          (setting A.Done (with_share o b c)))).answer (pick x (setting A.ShareTooLarge c) (pick z (setting A.NoRoom c)
-          (setting A.Done (with_share o b c)))).content
-      go true z = kept A.ShareTooLarge
-      go false true = kept A.NoRoom
+          → by_room (pick x (Err R.Text) (pick z (Err R.Index) (Ok tt))) (unchanged i t (Err E.NoRoom))
+          (unchanged i t (Err E.ShareTooLarge)) done
+          ≡ holding i t (pick x (setting (Err E.ShareTooLarge) c) (pick z (setting (Err E.NoRoom) c)
+          (setting (Ok tt) (with_share o b c)))).answer (pick x (setting (Err E.ShareTooLarge) c) (pick z (setting (Err E.NoRoom) c)
+          (setting (Ok tt) (with_share o b c)))).content
+      go true z = kept (Err E.ShareTooLarge)
+      go false true = kept (Err E.NoRoom)
       go false false =
-          ap (λ (z : List ℕ). record { answer = A.Done; index = encode_index (length i) later c.held; text = z })
+          ap (λ (z : List ℕ). record { answer = Ok tt; index = encode_index (length i) later c.held; text = z })
           text_kept
 
 -- a setting of a store that is written down
@@ -189,45 +189,45 @@ module _ (i t g a : List ℕ) (r : Stock) (w : Stocked i t g a r) (o b : ℕ) (l
     end_sizes : end ≡ share_sizes (set g o b) + sizes 0 w.all.held
     end_sizes = omega (arith, sizes-set g o b has, w.front, w.end, ex, ey)
 
-    module _ (y' : Bytes i) (m : Room)
-        (em : m ≡ pick (ltb (length t) (claims (set g o b) w.all.held)) R.TextFull
-        (pick (ltb (length i) end) R.IndexFull R.Fits)) where
-      set-by : by_room m (unchanged i t A.NoRoom) (unchanged i t A.ShareTooLarge)
-          (record { answer = A.Done; index = encode_index (length i) (set g o b) w.all.held; text = t })
+    module _ (y' : Bytes i) (m : Result ⊤ Full)
+        (em : m ≡ pick (ltb (length t) (claims (set g o b) w.all.held)) (Err R.Text)
+        (pick (ltb (length i) end) (Err R.Index) (Ok tt))) where
+      set-by : by_room m (unchanged i t (Err E.NoRoom)) (unchanged i t (Err E.ShareTooLarge))
+          (record { answer = Ok tt; index = encode_index (length i) (set g o b) w.all.held; text = t })
           ≡ store_share i t o b
       set-by =
-          ap (λ (q : List ℕ). by_room m (unchanged i t A.NoRoom) (unchanged i t A.ShareTooLarge)
-          (record { answer = A.Done; index = encode_index (length i) (set q o b) w.all.held; text = t }))
+          ap (λ (q : List ℕ). by_room m (unchanged i t (Err E.NoRoom)) (unchanged i t (Err E.ShareTooLarge))
+          (record { answer = Ok tt; index = encode_index (length i) (set q o b) w.all.held; text = t }))
           w.shares
           ∙ share_by i t y' w.all w.is o b end
           (end_sizes ∙ ap₂ (λ (q : List ℕ) (k : ℕ). share_sizes (set q o b) + k) w.shares
           (sizes_sum w.all.held 0)) m
-          (em ∙ ap (λ (q : List ℕ). pick (ltb (length t) (claims (set q o b) w.all.held)) R.TextFull
-          (pick (ltb (length i) end) R.IndexFull R.Fits)) w.shares)
+          (em ∙ ap (λ (q : List ℕ). pick (ltb (length t) (claims (set q o b) w.all.held)) (Err R.Text)
+          (pick (ltb (length i) end) (Err R.Index) (Ok tt))) w.shares)
 
       -- in the three cases
-      abbrev by : Room → Done Answer
-      by x = by_room x (unchanged i t A.NoRoom) (unchanged i t A.ShareTooLarge)
-          (record { answer = A.Done; index = encode_index (length i) (set g o b) w.all.held; text = t })
+      abbrev by : Result ⊤ Full → Done (Result ⊤ StoreError)
+      by x = by_room x (unchanged i t (Err E.NoRoom)) (unchanged i t (Err E.ShareTooLarge))
+          (record { answer = Ok tt; index = encode_index (length i) (set g o b) w.all.held; text = t })
 
-      pub set_crowded : m ≡ R.TextFull → unchanged i t A.ShareTooLarge ≡ store_share i t o b
-      set_crowded f = sym (ap by f) ∙ set-by
+      pub set_crowded : (x : Full) → m ≡ Err x → x ≡ R.Text → unchanged i t (Err E.ShareTooLarge) ≡ store_share i t o b
+      set_crowded v f z = sym (ap by (f ∙ ap (λ (x : Full). Err x) z)) ∙ set-by
 
-      pub set_full : m ≡ R.IndexFull → unchanged i t A.NoRoom ≡ store_share i t o b
-      set_full f = sym (ap by f) ∙ set-by
+      pub set_full : (x : Full) → m ≡ Err x → x ≡ R.Index → unchanged i t (Err E.NoRoom) ≡ store_share i t o b
+      set_full v f z = sym (ap by (f ∙ ap (λ (x : Full). Err x) z)) ∙ set-by
 
-      pub set-done : m ≡ R.Fits → (i' : List ℕ) → i' ≡ encode_index (length i) (set g o b) w.all.held
-          → record { answer = A.Done; index = i'; text = t } ≡ store_share i t o b
+      pub set-done : m ≡ Ok tt → (i' : List ℕ) → i' ≡ encode_index (length i) (set g o b) w.all.held
+          → record { answer = Ok tt; index = i'; text = t } ≡ store_share i t o b
       set-done f i' e =
-          ap (λ (q : List ℕ). record { answer = A.Done; index = q; text = t }) e ∙ sym (ap by f) ∙ set-by
+          ap (λ (q : List ℕ). record { answer = Ok tt; index = q; text = t }) e ∙ sym (ap by f) ∙ set-by
 
-      fitting : (p q : Bool) → m ≡ pick p R.TextFull (pick q R.IndexFull R.Fits) → m ≡ R.Fits
+      fitting : (p q : Bool) → m ≡ pick p (Err R.Text) (pick q (Err R.Index) (Ok tt)) → m ≡ Ok tt
           → (p ≡ false) × (q ≡ false)
       fitting true q e f = absurd (text_not (sym e ∙ f))
       fitting false true e f = absurd (index_not (sym e ∙ f))
       fitting false false e f = (refl, refl)
 
-      pub set_writes : m ≡ R.Fits → (had : ℕ) → had ≡ get_or g o 0 → Writes i (set g o b) o had b g w.all.held
+      pub set_writes : m ≡ Ok tt → (had : ℕ) → had ≡ get_or g o 0 → Writes i (set g o b) o had b g w.all.held
       set_writes f had eh =
           let z = fitting (ltb (length t) (claims (set g o b) w.all.held)) (ltb (length i) end) em f in
           let hs = w.all.held in

@@ -1,5 +1,6 @@
 -- Request P10's cases, computed by the definitions.
 -- Assumes nothing.
+use Rattle.std.specs.Prelude.{Ok, Err}
 use mathlib.Core.Path.{◌≡◌, refl}
 use mathlib.Core.Option.{none, some}
 use mathlib.Core.List.{List, [], ◌∷◌, ◌++◌, map}
@@ -11,10 +12,7 @@ use Rattle.text.specs.Utf8.{begins, first_length, char_length, run_of, valid_run
 use Rattle.text.specs.Uuid.{hex_digit, read_hex, uuid_of, big_endian}
 use Rattle.text.specs.Search.{first_text}
 use Rattle.text.specs.declared.uuid.Uuid.{Uuid}
-use Rattle.store.specs.declared.calls.Answer.TheVariants as A
 use Rattle.store.specs.declared.parties.Party.TheVariants as P
-use Rattle.store.specs.declared.sharing.ShareTold.TheVariants as T
-use Rattle.store.specs.declared.table.Room.TheVariants as R
 use Rattle.store.specs.Parties.{Named, OwnerByte}
 use Rattle.store.specs.Held.{Held, key_by, same_key, strike, file, find, holds, distinct}
 use Rattle.store.specs.Shares.{no_shares, Content, nothing_held, use_of, claims_from, claims, share_sizes}
@@ -29,6 +27,8 @@ use Rattle.store.specs.Book.{over_text, over_index, book_share, other_spellings,
 use Rattle.store.specs.Store.{store_clear, store_walk, own_insert, store_insert, store_share, store_told, store_call}
 use Rattle.store.specs.Store.{run_store, look_by, look_up, found}
 use Rattle.store.specs.Guarantee.{Calls, stored}
+use Rattle.store.specs.declared.calls.StoreError.TheVariants as E
+use Rattle.store.specs.declared.table.Full.TheVariants as R
 
 -- U, and zeros with a one
 nil : Uuid
@@ -128,38 +128,38 @@ module _ where
 module _ where
   -- no share is set: "25, [..] in place of 21 for text"
   no_shares-set : room_for (caller 42 60 no_shares 0) (under 0 nil (ascii "a")) (under 0 one (replicate 60 97) ∷ [])
-      ≡ R.TextFull
+      ≡ Err R.Text
   unfolding room_for no_index_of no_text share_sizes claims_from use_of record_sizes strike file same_key nil one
   no_shares-set = refl
 
   -- 21 "comes before 25"
   both_too_small : room_for (caller 41 60 no_shares 0) (under 0 nil (ascii "a")) (under 0 one (replicate 60 97) ∷ [])
-      ≡ R.IndexFull
+      ≡ Err R.Index
   unfolding room_for no_index_of no_text share_sizes claims_from use_of record_sizes strike file same_key nil one
   both_too_small = refl
 
   -- "with kind 4's 4 bytes counted"
-  index_of_24 : room_for (caller 24 60 (only 3 9) 0) (under 0 nil (ascii "a")) [] ≡ R.IndexFull
+  index_of_24 : room_for (caller 24 60 (only 3 9) 0) (under 0 nil (ascii "a")) [] ≡ Err R.Index
   unfolding room_for no_index_of no_text share_sizes claims_from use_of record_sizes strike file nil only
   index_of_24 = refl
 
-  index_of_25 : room_for (caller 25 60 (only 3 9) 0) (under 0 nil (ascii "a")) [] ≡ R.Fits
+  index_of_25 : room_for (caller 25 60 (only 3 9) 0) (under 0 nil (ascii "a")) [] ≡ Ok tt
   unfolding room_for no_index_of no_text share_sizes claims_from use_of record_sizes strike file nil only
   index_of_25 = refl
 
   -- another's share is kept free: 9 of 60 bytes
-  line_of_52 : room_for (caller 25 60 (only 3 9) 0) (under 0 nil (replicate 52 97)) [] ≡ R.TextFull
+  line_of_52 : room_for (caller 25 60 (only 3 9) 0) (under 0 nil (replicate 52 97)) [] ≡ Err R.Text
   unfolding room_for no_index_of no_text share_sizes claims_from use_of record_sizes strike file nil only
   line_of_52 = refl
 
-  line_of_51 : room_for (caller 25 60 (only 3 9) 0) (under 0 nil (replicate 51 97)) [] ≡ R.Fits
+  line_of_51 : room_for (caller 25 60 (only 3 9) 0) (under 0 nil (replicate 51 97)) [] ≡ Ok tt
   unfolding room_for no_index_of no_text share_sizes claims_from use_of record_sizes strike file nil only
   line_of_51 = refl
 
   -- "A filing that leaves its party within its share": 40 bytes in use, of which the line replaced has 30; the new one
   -- has 90
   replaced : room_for (caller 64 100 (only 3 100) 3) (under 3 nil (replicate 90 97))
-      (under 3 one (replicate 10 97) ∷ under 3 nil (replicate 30 97) ∷ []) ≡ R.Fits
+      (under 3 one (replicate 10 97) ∷ under 3 nil (replicate 30 97) ∷ []) ≡ Ok tt
   unfolding room_for no_index_of no_text share_sizes claims_from use_of record_sizes strike file same_key nil one only
   replaced = refl
 
@@ -171,13 +171,13 @@ line_and n = rec one 0 1 ++ replicate n 0
 
 module _ where
   -- a damaged store stays as it is
-  nine_first : store_share (9 ∷ []) [] 3 65536 ≡ record { answer = A.Unsound; index = 9 ∷ []; text = [] }
+  nine_first : store_share (9 ∷ []) [] 3 65536 ≡ record { answer = Err E.Unsound; index = 9 ∷ []; text = [] }
   unfolding store_share content shares_at is_share_of decode walk head_at owner_at zeroes
   nine_first = refl
 
   -- 26 "before 21": neither 3 bytes of text nor 4 of index are left
   too_large_first : store_share (line_and 3) (ascii "a" ++ replicate 2 0) 3 3
-      ≡ record { answer = A.ShareTooLarge; index = line_and 3; text = ascii "a" ++ replicate 2 0 }
+      ≡ record { answer = Err E.ShareTooLarge; index = line_and 3; text = ascii "a" ++ replicate 2 0 }
   unfolding store_share content shares_at is_share_of decode walk head_at owner_at head_fits body_at zeroes distinct holds
       book_share over_text over_index share_sizes claims_from use_of record_sizes encode_index share_records encode_text records
       record_bytes texts padded big_endian line_and rec one
@@ -185,14 +185,14 @@ module _ where
 
   -- 21: 21 + 4 bytes don't lie in 24
   no_index : store_share (line_and 3) (ascii "a" ++ replicate 2 0) 3 2
-      ≡ record { answer = A.NoRoom; index = line_and 3; text = ascii "a" ++ replicate 2 0 }
+      ≡ record { answer = Err E.NoRoom; index = line_and 3; text = ascii "a" ++ replicate 2 0 }
   unfolding store_share content shares_at is_share_of decode walk head_at owner_at head_fits body_at zeroes distinct holds
       book_share over_text over_index share_sizes claims_from use_of record_sizes encode_index share_records encode_text records
       record_bytes texts padded big_endian line_and rec one
   no_index = refl
 
   accepted : store_share (line_and 4) (ascii "a" ++ replicate 2 0) 3 2
-      ≡ record { answer = A.Done; index = 4 ∷ 3 ∷ 0 ∷ 2 ∷ rec one 0 1; text = ascii "a" ++ replicate 2 0 }
+      ≡ record { answer = Ok tt; index = 4 ∷ 3 ∷ 0 ∷ 2 ∷ rec one 0 1; text = ascii "a" ++ replicate 2 0 }
   unfolding store_share content shares_at is_share_of decode walk head_at owner_at head_fits body_at zeroes distinct holds
       book_share over_text over_index share_sizes claims_from use_of record_sizes encode_index share_records encode_text records
       record_bytes texts padded big_endian line_and rec one
@@ -200,21 +200,21 @@ module _ where
 
   -- another share for the same party needs no room; share 0 takes its record out
   changed : store_share (4 ∷ 3 ∷ 0 ∷ 2 ∷ rec one 0 1) (ascii "a" ++ replicate 2 0) 3 1
-      ≡ record { answer = A.Done; index = 4 ∷ 3 ∷ 0 ∷ 1 ∷ rec one 0 1; text = ascii "a" ++ replicate 2 0 }
+      ≡ record { answer = Ok tt; index = 4 ∷ 3 ∷ 0 ∷ 1 ∷ rec one 0 1; text = ascii "a" ++ replicate 2 0 }
   unfolding store_share content shares_at is_share_of decode walk head_at owner_at head_fits body_at zeroes distinct holds
       book_share over_text over_index share_sizes claims_from use_of record_sizes encode_index share_records encode_text records
       record_bytes texts padded big_endian rec one
   changed = refl
 
   taken_out : store_share (4 ∷ 3 ∷ 0 ∷ 2 ∷ rec one 0 1) (ascii "a" ++ replicate 2 0) 3 0
-      ≡ record { answer = A.Done; index = line_and 4; text = ascii "a" ++ replicate 2 0 }
+      ≡ record { answer = Ok tt; index = line_and 4; text = ascii "a" ++ replicate 2 0 }
   unfolding store_share content shares_at is_share_of decode walk head_at owner_at head_fits body_at zeroes distinct holds
       book_share over_text over_index share_sizes claims_from use_of record_sizes encode_index share_records encode_text records
       record_bytes texts padded big_endian line_and rec one
   taken_out = refl
 
   -- a share below the present use: "the larger of use and share" is the use
-  use_60 : (book_share 25 60 (holding no_shares (under 0 nil (replicate 60 97) ∷ [])) 0 30).answer ≡ A.Done
+  use_60 : (book_share 25 60 (holding no_shares (under 0 nil (replicate 60 97) ∷ [])) 0 30).answer ≡ Ok tt
   unfolding book_share over_text over_index share_sizes claims_from use_of record_sizes holding nil
   use_60 = refl
 
@@ -223,24 +223,24 @@ module _ where
   claims_60 = refl
 
   -- what two bytes can't hold exceeds every text
-  most : (book_share 4 65535 nothing_held 1 65535).answer ≡ A.Done
+  most : (book_share 4 65535 nothing_held 1 65535).answer ≡ Ok tt
   unfolding book_share over_text over_index share_sizes claims_from use_of record_sizes
   most = refl
 
-  one_more : (book_share 4 65535 nothing_held 1 65536).answer ≡ A.ShareTooLarge
+  one_more : (book_share 4 65535 nothing_held 1 65536).answer ≡ Err E.ShareTooLarge
   unfolding book_share over_text over_index share_sizes claims_from use_of record_sizes
   one_more = refl
 
   -- where the sum exceeds the text without the share, too: another program wrote the shares
-  still_too_large : (store_share (4 ∷ 1 ∷ 0 ∷ 9 ∷ 4 ∷ 2 ∷ 0 ∷ 9 ∷ []) (replicate 5 0) 1 0).answer ≡ A.ShareTooLarge
+  still_too_large : (store_share (4 ∷ 1 ∷ 0 ∷ 9 ∷ 4 ∷ 2 ∷ 0 ∷ 9 ∷ []) (replicate 5 0) 1 0).answer ≡ Err E.ShareTooLarge
   unfolding store_share content shares_at is_share_of decode walk head_at owner_at zeroes distinct book_share over_text over_index
       share_sizes claims_from use_of record_sizes
   still_too_large = refl
 
-  numbers : map number (A.NoText ∷ A.ShareTooLarge ∷ []) ≡ 25 ∷ 26 ∷ []
+  numbers : map number ((Err E.NoText) ∷ (Err E.ShareTooLarge) ∷ []) ≡ 25 ∷ 26 ∷ []
   numbers = refl
 
-  told : store_told (4 ∷ 0 ∷ 0 ∷ 2 ∷ rec one 0 1) (ascii "a") 0 ≡ T.Told (record { share = 2; used = 1 })
+  told : store_told (4 ∷ 0 ∷ 0 ∷ 2 ∷ rec one 0 1) (ascii "a") 0 ≡ Ok (record { share = 2; used = 1 })
   unfolding store_told content shares_at is_share_of decode walk head_at owner_at head_fits body_at zeroes distinct holds
       record_bytes big_endian rec one use_of
   told = refl

@@ -1,6 +1,7 @@
 -- A filing that leaves its party within its share is never refused for text: it changes what its own party claims and
 -- nobody else's, and that is then the share, which it was at least before.
 -- Assumes nothing.
+use Rattle.std.specs.Prelude.{Result, Ok, Err, ⊤, Some}
 use mathlib.Core.Bool.{Bool, true, false}
 use mathlib.Core.List.{List, ◌∷◌, ◌++◌}
 use mathlib.Core.Path.{◌≡◌, refl, sym, ap, subst, ◌∙◌}
@@ -12,14 +13,8 @@ use borrow.Author.Tests.{ltb-false, le-ltb}
 use Rattle.text.specs.Bytes.{pick}
 use Rattle.text.specs.Utf8.{is_utf8}
 use Rattle.text.specs.declared.uuid.Spelled.{Spelled}
-use Rattle.text.specs.declared.uuid.UuidParse.TheVariants.{Parsed}
-use Rattle.store.specs.declared.calls.Answer.TheVariants as A
 use Rattle.store.specs.declared.calls.Inserted.{Inserted}
-use Rattle.store.specs.declared.calls.SaveAnswer.TheVariants as Sv
 use Rattle.store.specs.declared.calls.Tally.{Tally}
-use Rattle.store.specs.declared.owners.Owner.TheVariants as O
-use Rattle.store.specs.declared.table.Room.{Room}
-use Rattle.store.specs.declared.table.Room.TheVariants as R
 use Rattle.store.specs.Parties.{owner_of, Named}
 use Rattle.store.specs.Held.{Held, file, index_max, text_max, line_max}
 use Rattle.store.specs.Shares.{use_of, larger, claims}
@@ -35,6 +30,10 @@ use Rattle.store.proofs.ClaimLaws.{not_of-file, claims_swap}
 use Rattle.store.proofs.Saves.{builds, whole_guarantee}
 use Rattle.store.proofs.StoreLaws.{still_fits}
 use Rattle.store.proofs.WalkLaws.{count_least}
+use Rattle.store.specs.declared.calls.StoreError.TheVariants as E
+use Rattle.store.specs.declared.calls.SaveError.TheVariants as Sv
+use Rattle.store.specs.declared.table.Full.TheVariants as R
+use Rattle.store.specs.declared.table.Full.{Full}
 
 -- ---- one filing
 
@@ -73,13 +72,13 @@ module _ (c : Caller) (h : Held) (hs : List Held) (byte : h.key.owner < length c
   unfolding no_text
   enough = le-ltb c.text (claims c.shares (file h hs)) (omega (arith, no_more, before))
 
-  pub never_text : room_for c h hs ≡ R.TextFull → ⊥
+  pub never_text : room_for c h hs ≡ Err R.Text → ⊥
   unfolding room_for
   never_text e =
       go (no_index_of c h hs)
-      (sym (ap (λ (b : Bool). pick (no_index_of c h hs) R.IndexFull (pick b R.TextFull R.Fits)) enough) ∙ e)
+      (sym (ap (λ (b : Bool). pick (no_index_of c h hs) (Err R.Index) (pick b (Err R.Text) (Ok tt))) enough) ∙ e)
     where
-      go : (b : Bool) → pick b R.IndexFull R.Fits ≡ R.TextFull → ⊥
+      go : (b : Bool) → ◌≡◌ {A = Result ⊤ Full} (pick b (Err R.Index) (Ok tt)) (Err R.Text) → ⊥
       go true q = let z : ◌≡◌ {A = ℕ} 0 1 = cc in absurd (omega arith)
       go false q = let z : ◌≡◌ {A = ℕ} 0 1 = cc in absurd (omega arith)
 
@@ -90,10 +89,10 @@ module _ (n m : ℕ) (ln : n ≤ index_max) (lm : m ≤ text_max) (xs : Calls) w
   fits = still_fits n m ln lm saving builds xs
 
   -- an owner is one of those that have a share
-  has_share : (p : Named) (o : ℕ) → owner_of p.party ≡ O.Byte o → o < length (booked n m xs).content.shares
+  has_share : (p : Named) (o : ℕ) → owner_of p.party ≡ Some o → o < length (booked n m xs).content.shares
   has_share p o own = omega (arith, owner_byte p o own, fits.given.each)
 
-  save_keeps : (p : Named) (o : ℕ) → owner_of p.party ≡ O.Byte o → (c : SaveCall) → Passes c.args
+  save_keeps : (p : Named) (o : ℕ) → owner_of p.party ≡ Some o → (c : SaveCall) → Passes c.args
       → use_of o (file (built_held o c.args) (book_lines n m xs)) ≤ share_after n m xs o
       → number_of (next n m xs (save p c)).answer ≡ 25 → ⊥
   save_keeps p o own c ok within e =
@@ -106,21 +105,21 @@ module _ (n m : ℕ) (ln : n ≤ index_max) (lm : m ≤ text_max) (xs : Calls) w
       h : Held
       h = built_held o c.args
 
-      go : (r : Room) → room_for by h (book_lines n m xs) ≡ r
+      go : (r : Result ⊤ Full) → room_for by h (book_lines n m xs) ≡ r
           → number_of {S = saving} (by_room r (saved (refused_save Sv.NoRoom)) (saved (refused_save Sv.NoText))
           (saved (built_save c.args))) ≡ 25 → ⊥
-      go R.IndexFull q z = omega (arith, z)
-      go R.TextFull q z = never_text by h (book_lines n m xs) (has_share p o own) fits.within within q
-      go R.Fits q z = omega (arith, z)
+      go (Err R.Index) q z = omega (arith, z)
+      go (Err R.Text) q z = never_text by h (book_lines n m xs) (has_share p o own) fits.within within q
+      go (Ok u) q z = omega (arith, z)
 
   same_inserted : (x y : Inserted) → ◌≡◌ {A = Reply saving} (inserted x) (inserted y) → x ≡ y
   same_inserted x y e = cc
 
-  insert_keeps : (p : Named) (o : ℕ) → owner_of p.party ≡ O.Byte o
+  insert_keeps : (p : Named) (o : ℕ) → owner_of p.party ≡ Some o
       → (s : List ℕ) (passed : List (List ℕ)) (l : List ℕ) (rest : List (List ℕ)) (u : Spelled) (hs : List Held)
       → is_utf8 s ≡ true → lines_of s ≡ passed ++ (l ∷ rest)
-      → insert_lines (caller_after n m xs o) (book_lines n m xs) 0 passed ≡ insert_turn hs A.Done (length passed)
-      → wanted l ≡ Parsed u → length l ≤ line_max
+      → insert_lines (caller_after n m xs o) (book_lines n m xs) 0 passed ≡ insert_turn hs (Ok tt) (length passed)
+      → wanted l ≡ Some u → length l ≤ line_max
       → use_of o (file (under o u.id l) hs) ≤ share_after n m xs o
       → (r : Inserted) → (next n m xs (insert p s)).answer ≡ inserted r → r.count ≡ length passed
       → number r.answer ≡ 25 → ⊥
@@ -146,16 +145,16 @@ module _ (n m : ℕ) (ln : n ≤ index_max) (lm : m ≤ text_max) (xs : Calls) w
       onward : Tally
       onward = (insert_lines by (file h hs) (suc (length passed)) rest).answer
 
-      go : (w : Room) → room_for by h hs ≡ w
+      go : (w : Result ⊤ Full) → room_for by h hs ≡ w
           → ◌≡◌ {A = Reply saving} (by_room w
-          (inserted (inserted_of s (record { answer = A.NoRoom; count = length passed })))
-          (inserted (inserted_of s (record { answer = A.NoText; count = length passed })))
+          (inserted (inserted_of s (record { answer = Err E.NoRoom; count = length passed })))
+          (inserted (inserted_of s (record { answer = Err E.NoText; count = length passed })))
           (inserted (inserted_of s onward))) (inserted r)
           → ⊥
-      go R.IndexFull w z =
+      go (Err R.Index) w z =
           omega (arith, e25, ap (λ (x : Inserted). number x.answer) (same_inserted _ r z))
-      go R.TextFull w z = never_text by h hs (has_share p o own) held within w
-      go R.Fits w z =
+      go (Err R.Text) w z = never_text by h hs (has_share p o own) held within w
+      go (Ok u) w z =
           omega (
             arith,
             count,

@@ -1,6 +1,7 @@
 -- A store's calls answer as the book's, and leave the buffers that encode the book's shares and lines, for every list
 -- of calls.
 -- Assumes nothing.
+use Rattle.std.specs.Prelude.{Some, None, Ok, Err}
 use mathlib.Core.List.{List, [], ◌∷◌}
 use mathlib.Core.Option.{some}
 use mathlib.Core.Path.{◌≡◌, refl, ap, ◌∙◌}
@@ -8,9 +9,7 @@ use Prim.Native.Nat.{ℕ, zero, suc, ◌-◌, ◌≤◌}
 use native.Mathlib.Nat.{sub-zero}
 use lib.ListN.{length, replicate}
 use borrow.Author.Tests.{le-leb}
-use Rattle.store.specs.declared.owners.Owner.{Owner}
-use Rattle.store.specs.declared.owners.Owner.TheVariants as O
-use Rattle.store.specs.Parties.{owner_of, by_owner}
+use Rattle.store.specs.Parties.{owner_of, by_owner, Owner}
 use Rattle.store.specs.Shares.{owners, no_shares, Content, nothing_held, share_sizes, with_held}
 use Rattle.store.specs.Book.{Caller, caller, Turn, turn, book_walk, inserted_of, book_insert}
 use Rattle.store.specs.Book.{nobody_inserts, book_attempt, Attempt, refused, files, Saving, Call, clear, insert}
@@ -28,8 +27,8 @@ use Rattle.store.proofs.BookLaws.{Fits, fits_none, share_held, keeps_turn, keeps
 use Rattle.store.proofs.BoolLaws.{and_both}
 use Rattle.store.proofs.DecodeLaws.{length_text}
 use Rattle.store.proofs.ShareLaws.{length_encoded, content_encoded}
-use Rattle.store.specs.declared.calls.Answer.TheVariants as A
 use Rattle.store.specs.declared.calls.Tally.{Tally}
+use Rattle.store.specs.declared.calls.StoreError.TheVariants as E
 
 none_written : (k o : ℕ) → share_records o (replicate k 0) ≡ []
 unfolding share_records
@@ -81,7 +80,7 @@ module _ (n m : ℕ) where
           ≡ with (g n m c).answer (with_held c (g n m c).held)
       on_lines_lem e g = rw (is_held, long_index, long_text)
 
-      clears : store_clear i t ≡ with A.Done nothing_held
+      clears : store_clear i t ≡ with (Ok tt) nothing_held
       unfolding store_clear
       clears =
           rw (
@@ -100,7 +99,7 @@ module _ (n m : ℕ) where
           ≡ with (book_walk (by o) c.held s).answer (with_held c (book_walk (by o) c.held s).held)
       unfolding store_walk
       walks o s =
-          on_lines_lem (record { answer = A.Unsound; count = 0 })
+          on_lines_lem (record { answer = Err E.Unsound; count = 0 })
           (λ a b d. book_walk (caller a b d.shares o) d.held s)
 
       inserts : (o : ℕ) (s : List ℕ)
@@ -144,8 +143,8 @@ module _ (n m : ℕ) where
               (λ o. replied {S = S} inserted (book_insert (by o) c.held s))).answer
               (with_held c (by_owner w (turn (inserted nobody_inserts) c.held)
               (λ o. replied {S = S} inserted (book_insert (by o) c.held s))).held)
-          go O.Nobody = refl
-          go (O.Byte o) = ap (answered inserted) (inserts o s)
+          go None = refl
+          go (Some o) = ap (answered inserted) (inserts o s)
       one_call {S} (save p a) = go (owner_of p.party)
         where
           attempt : ℕ → Turn S.Value
@@ -157,8 +156,8 @@ module _ (n m : ℕ) where
               ≡ with (by_owner w (turn (saved S.nobody) c.held) (λ o. replied {S = S} saved (attempt o))).answer
               (with_held c (by_owner w (turn (saved S.nobody) c.held)
               (λ o. replied {S = S} saved (attempt o))).held)
-          go O.Nobody = refl
-          go (O.Byte o) = ap (answered saved) (saves S.unsound S.full S.crowded o (S.attempt o a))
+          go None = refl
+          go (Some o) = ap (answered saved) (saves S.unsound S.full S.crowded o (S.attempt o a))
       one_call (share q b) = ap (answered shared) (shares q.byte b)
 
     module _ (S : Saving) (owed : Builds S) where

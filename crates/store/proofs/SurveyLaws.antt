@@ -1,5 +1,6 @@
 -- The loop of `survey`: it goes as `walk` does, writes the lines down, and tells whether a key stands twice.
 -- Assumes nothing.
+use Rattle.std.specs.Prelude.{Option as Optional, Some, None, is_some, IsSome}
 use mathlib.Core.Bool.{Bool, true, false, ◌&&◌}
 use mathlib.Core.List.{List}
 use mathlib.Core.Option.{Option, none, some}
@@ -14,6 +15,7 @@ use Rattle.store.specs.declared.chains.Verdict.TheVariants as Vd
 use Rattle.store.specs.declared.records.Head.{Head}
 use Rattle.store.specs.declared.table.Fill.{Fill}
 use Rattle.store.specs.declared.soundness.Stock.{Stock}
+use Rattle.store.specs.declared.soundness.Surveyed.{Surveyed}
 use Rattle.store.specs.Decode.{no_head, head_at, head_fits, walk, decode, zeroes, fronted, with_lines, content}
 use Rattle.store.specs.Held.{Held, index_max, text_max, record_size}
 use Rattle.store.specs.Layout.{Bytes}
@@ -22,7 +24,7 @@ use Rattle.store.specs.Shares.{Content}
 use Rattle.store.specs.Inner.{known}
 use Rattle.store.specs.Keys.{rows_max, Says, told_of, Chained, Sought}
 use Rattle.store.specs.Rows.{Row, key_in, row_put, Long}
-use Rattle.store.specs.Table.{Loads, Surveys, Stocks}
+use Rattle.store.specs.Table.{Loads, Surveys, OnceSurveyed, OnceStocked}
 use Rattle.store.proofs.BoolLaws.{true-false}
 use Rattle.store.proofs.ChainLaws.{says-turn, says_agree}
 use Rattle.store.proofs.DecodeLaws.{laid, lines_of_lem}
@@ -53,35 +55,32 @@ module _ (i t : List ℕ) (at : ℕ) (a : List ℕ) (heads next : List ℕ) (n u
   pub survey_less : n < rows_max
   survey_less = load_less i at a heads next n used w.loading
 
-  pub survey_end : no_head ≡ head_at (drop at i) → Bytes i → (b : Bool)
-      → b ≡ zeroes (drop at i) && zeroes (drop used t)
-      → Surveys i t a heads next
-      (record { whole = b; verdict = v; fill = record { count = n; end = at; used = used } })
-  survey_end e y b q = record {
-    is = q ∙ sym (walking_end i t _ at used w.walks no_head e refl);
-    most = survey_less;
-    says = w.says;
-    chained = w.loading.chained;
-    lists = λ z. list_end i at a n w.loading.listing no_head e refl;
-    loads = λ z. load_end i at a heads next n used w.loading no_head e refl y;
-  }
+  -- behind the last record
+  module _ (e : no_head ≡ head_at (drop at i)) (b : Bool) (q : b ≡ zeroes (drop at i) && zeroes (drop used t)) where
+    tail_is : b ≡ known (walk (suc (length i)) 0 i t)
+    tail_is = q ∙ sym (walking_end i t _ at used w.walks no_head e refl)
+
+    pub survey_tail : b ≡ false → known (walk (suc (length i)) 0 i t) ≡ false
+    survey_tail z = sym tail_is ∙ z
+
+    pub survey_end : b ≡ true → Bytes i
+        → Surveys i t a heads next (record { verdict = v; fill = record { count = n; end = at; used = used } })
+    survey_end z y = record {
+      is = sym tail_is ∙ z;
+      most = survey_less;
+      says = w.says;
+      chained = w.loading.chained;
+      lists = list_end i at a n w.loading.listing no_head e refl;
+      loads = load_end i at a heads next n used w.loading no_head e refl y;
+    }
 
   module _ (head : Head) (e : head ≡ head_at (drop at i)) (s : head.size ≡ record_size head.key.owner) (b : Bool)
       (fit : b ≡ head_fits used head (length t - used)) where
     some_size : head.size ≡ 0 → ⊥
     some_size z = omega (arith, s, (size_least head.key.owner).0)
 
-    pub survey_bad : b ≡ false
-        → Surveys i t a heads next
-        (record { whole = false; verdict = v; fill = record { count = n; end = at; used = used } })
-    survey_bad q = record {
-      is = walking_bad i t _ at used w.walks head e some_size b fit q;
-      most = survey_less;
-      says = w.says;
-      chained = w.loading.chained;
-      lists = λ z. absurd (true-false (sym z));
-      loads = λ z. absurd (true-false (sym z));
-    }
+    pub survey_bad : b ≡ false → known (walk (suc (length i)) 0 i t) ≡ false
+    survey_bad q = sym (walking_bad i t _ at used w.walks head e some_size b fit q)
 
     pub survey_on : b ≡ true → Walking i t (known (walk (suc (length i)) 0 i t)) (at + head.size) (used + head.len)
     survey_on q = walking_turn i t _ at used w.walks head e some_size b fit q
@@ -107,15 +106,6 @@ module _ (i t : List ℕ) (at : ℕ) (a : List ℕ) (heads next : List ℕ) (n u
             ∙ ap (λ (x : Row). x.key) (row_other a n head.key head.off head.len k (λ z. omega arith)))
 
 -- ---- `take_stock`
-
-pub no_stock : (i t g : List ℕ) (a : List ℕ) (heads next : List ℕ) (r : Stock) → r.sound ≡ false
-    → known (content i t) ≡ false → Stocks i t g a heads next r
-no_stock i t g a heads next r p q = record {
-  is = p ∙ sym q;
-  front = λ e. absurd (true-false (sym e ∙ p));
-  most = λ e. absurd (true-false (sym e ∙ p));
-  loads = λ e. absurd (true-false (sym e ∙ p));
-}
 
 module _ (i t : List ℕ) where
   known_with : (s : List ℕ) (o : Option (List Held)) → known (with_lines s o) ≡ known o
@@ -170,6 +160,21 @@ sound_holds i t g p f e = go (content i t) refl e
           shares = f.shares ∙ sym parts.1.0;
           lines = ap (λ (r : List ℕ). decode r t) f.rest ∙ parts.1.1;
         }
+
+-- a walk over whole records tells what it saw
+pub survey_some : (i t a heads next : List ℕ) (o : Optional Surveyed) → OnceSurveyed i t a heads next o
+    → known (walk (suc (length i)) 0 i t) ≡ true → IsSome o
+survey_some i t a heads next None w e = absurd (true-false (sym e ∙ w))
+survey_some i t a heads next (Some r) w e = refl
+
+pub survey_of : (i t a heads next : List ℕ) (o : Optional Surveyed) → OnceSurveyed i t a heads next o
+    → (r : Surveyed) → o ≡ Some r → Surveys i t a heads next r
+survey_of i t a heads next o w r e = subst (OnceSurveyed i t a heads next) e w
+
+pub stocked_is : (i t g a heads next : List ℕ) (o : Optional Stock) → OnceStocked i t g a heads next o
+    → is_some o ≡ known (content i t)
+stocked_is i t g a heads next None w = sym w
+stocked_is i t g a heads next (Some r) w = sym w.is
 
 -- the records of a sound store are whole
 pub walk_of : (i t : List ℕ) → Bytes i → known (decode i t) ≡ true → known (walk (suc (length i)) 0 i t) ≡ true

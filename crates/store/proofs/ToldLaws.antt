@@ -1,5 +1,6 @@
 -- A call's arguments and its reply say what it filed; so nothing of other parties' calls is needed.
 -- Assumes nothing.
+use Rattle.std.specs.Prelude.{Result, Ok, Err, ⊤, Option, Some, None}
 use mathlib.Core.Bool.{Bool, true, false}
 use mathlib.Core.List.{List, [], ◌∷◌, ◌++◌}
 use mathlib.Core.Path.{◌≡◌, refl, sym, ap, ◌∙◌}
@@ -9,13 +10,7 @@ use lib.Dec.{eqb}
 use borrow.Author.Tests.{eq-eqb, ne_eqb}
 use Rattle.text.specs.Bytes.{pick}
 use Rattle.text.specs.Utf8.{is_utf8, valid_run}
-use Rattle.text.specs.declared.uuid.UuidParse.{UuidParse}
-use Rattle.text.specs.declared.uuid.UuidParse.TheVariants.{Parsed, Invalid}
-use Rattle.store.specs.declared.calls.Answer.TheVariants as A
-use Rattle.store.specs.declared.calls.SaveAnswer.TheVariants as Sv
 use Rattle.store.specs.declared.calls.Saved.{Saved}
-use Rattle.store.specs.declared.table.Room.{Room}
-use Rattle.store.specs.declared.table.Room.TheVariants as R
 use Rattle.store.specs.Held.{Held, file}
 use Rattle.store.specs.Lines.{lines_of, wanted}
 use Rattle.store.specs.Refusals.{save_number}
@@ -26,6 +21,11 @@ use Rattle.store.specs.Book.{book_attempt}
 use Rattle.store.specs.Filings.{Filing, filing, filed_line, filed_lines, filed_attempt}
 use Rattle.store.specs.Saves.{SaveArgs, attempt_of, refused_save, saving}
 use Rattle.store.proofs.RefusedLaws.{files_done}
+use Rattle.store.specs.declared.calls.StoreError.TheVariants as E
+use Rattle.store.specs.declared.calls.SaveError.TheVariants as Sv
+use Rattle.store.specs.declared.table.Full.TheVariants as R
+use Rattle.store.specs.declared.table.Full.{Full}
+use Rattle.text.specs.declared.uuid.Spelled.{Spelled}
 
 -- the lines of filings
 unfoldable pub helds : List (Filing saving) → List Held
@@ -39,9 +39,9 @@ helds_append (f ∷ fs) gs = ap (λ (hs : List Held). f.held ∷ hs) (helds_appe
 
 -- ---- an insert
 
-abbrev pub wanted_under : ℕ → List ℕ → UuidParse → List Held
-wanted_under o l (Parsed g) = under o g.id l ∷ []
-wanted_under o l Invalid = []
+abbrev pub wanted_under : ℕ → List ℕ → Option Spelled → List Held
+wanted_under o l (Some g) = under o g.id l ∷ []
+wanted_under o l None = []
 
 -- of the lines that were walked, the wanted ones
 unfoldable pub told_lines : ℕ → List (List ℕ) → ℕ → List Held
@@ -67,11 +67,11 @@ module _ (by : Caller) where
       go (after ks) ih = omega (arith, ih ks)
 
   module _ (p : ℕ) (x : Call saving) (a : Reply saving) where
-    filed_line_lem : (l : List ℕ) (y : UuidParse) (fs : List (Filing saving))
+    filed_line_lem : (l : List ℕ) (y : Option Spelled) (fs : List (Filing saving))
         → helds (filed_line p x a by.owner l y ++ fs) ≡ wanted_under by.owner l y ++ helds fs
     unfolding helds
-    filed_line_lem l (Parsed u) fs = refl
-    filed_line_lem l Invalid fs = refl
+    filed_line_lem l (Some u) fs = refl
+    filed_line_lem l None fs = refl
 
     lines_told : (ls : List (List ℕ)) (hs : List Held)
         → helds (filed_lines p x a by hs ls) ≡ told_lines by.owner ls (walked hs ls)
@@ -104,7 +104,7 @@ module _ (by : Caller) where
         go : (b : Bool)
             → helds (pick b (filed_lines p x a by hs (lines_of s)) [])
             ≡ told_lines by.owner (lines_of s)
-            (pick b (insert_lines by hs 0 (lines_of s)) (insert_turn hs (A.NotUtf8 (valid_run s)) 0)).answer.count
+            (pick b (insert_lines by hs 0 (lines_of s)) (insert_turn hs (Err (E.NotUtf8 (valid_run s))) 0)).answer.count
         go true =
             let z : 0 + walked hs (lines_of s) ≡ walked hs (lines_of s) = omega arith in
             lines_told (lines_of s) hs
@@ -118,10 +118,10 @@ abbrev pub told_attempt : Attempt Saved → ℕ → List Held
 told_attempt (refused v) k = []
 told_attempt (files h v) k = pick (eqb k 0) (h ∷ []) []
 
-full_number : save_number Sv.NoRoom ≡ 0 → ⊥
+full_number : save_number (Err Sv.NoRoom) ≡ 0 → ⊥
 full_number e = omega (arith, e)
 
-crowded_number : save_number Sv.NoText ≡ 0 → ⊥
+crowded_number : save_number (Err Sv.NoText) ≡ 0 → ⊥
 crowded_number e = omega (arith, e)
 
 module _ (by : Caller) (p : ℕ) (x : Call saving) (a : Reply saving) (o : ℕ) (s : SaveArgs) (hs : List Held) where
@@ -131,13 +131,13 @@ module _ (by : Caller) (p : ℕ) (x : Call saving) (a : Reply saving) (o : ℕ) 
   pub save_told : helds (filed_attempt p x a by hs (attempt_of o s)) ≡ told_attempt (attempt_of o s) (number (attempt_of o s))
   save_told = go (attempt_of o s) refl
     where
-      room? : (h : Held) (v : Saved) → save_number v.answer ≡ 0 → (r : Room)
+      room? : (h : Held) (v : Saved) → save_number v.answer ≡ 0 → (r : Result ⊤ Full)
           → helds (by_room r [] [] (filing p x a h ∷ []))
           ≡ pick (eqb (save_number (by_room {A = Turn Saved} r (turn (refused_save Sv.NoRoom) hs)
           (turn (refused_save Sv.NoText) hs) (turn v (file h hs))).answer.answer) 0) (h ∷ []) []
-      room? h v z R.IndexFull = unfold helds in (ap (λ (t : Bool). pick t (h ∷ []) []) (sym (ne_eqb _ 0 full_number)))
-      room? h v z R.TextFull = unfold helds in (ap (λ (t : Bool). pick t (h ∷ []) []) (sym (ne_eqb _ 0 crowded_number)))
-      room? h v z R.Fits = unfold helds in (ap (λ (t : Bool). pick t (h ∷ []) []) (sym (eq-eqb _ 0 z)))
+      room? h v z (Err R.Index) = unfold helds in (ap (λ (t : Bool). pick t (h ∷ []) []) (sym (ne_eqb _ 0 full_number)))
+      room? h v z (Err R.Text) = unfold helds in (ap (λ (t : Bool). pick t (h ∷ []) []) (sym (ne_eqb _ 0 crowded_number)))
+      room? h v z (Ok u) = unfold helds in (ap (λ (t : Bool). pick t (h ∷ []) []) (sym (eq-eqb _ 0 z)))
 
       go : (y : Attempt Saved) → attempt_of o s ≡ y → helds (filed_attempt p x a by hs y) ≡ told_attempt y (number y)
       go (refused v) e = unfold helds in refl

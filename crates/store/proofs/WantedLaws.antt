@@ -1,6 +1,7 @@
 -- Laws of wanted lines: the first text in another, what is read behind it, and that a wanted line has a byte and a
 -- UUID of 128 bits.
 -- Assumes nothing.
+use Rattle.std.specs.Prelude.{Some, None}
 use mathlib.Core.Bool.{Bool, true, false}
 use mathlib.Core.List.{List, [], ◌∷◌}
 use mathlib.Core.Path.{◌≡◌, refl, sym, ap, ◌∙◌}
@@ -8,23 +9,18 @@ use Prim.Native.Nat.{ℕ, suc, ◌+◌, ◌≤◌, ◌<◌}
 use native.Mathlib.Omega.{arith}
 use lib.ListN.{length, take, drop, get_or, length-take}
 use borrow.Author.Tests.{eq-eqb, ne_eqb}
-use Rattle.text.proofs.BytesLaws.{same_equal, same-lengths}
+use Rattle.text.proofs.BytesLaws.{same_equal}
 use Rattle.text.proofs.ListLaws.{at_next}
 use Rattle.text.proofs.SmallLaws.{uuid_small}
 use Rattle.text.specs.Bytes.{pick, same, first_of}
 use Rattle.text.specs.Uuid.{Small}
 use Rattle.text.specs.Uuid.{uuid_of}
 use Rattle.text.specs.declared.uuid.Spelled.{Spelled}
-use Rattle.text.specs.declared.uuid.UuidParse.TheVariants.{Parsed, Invalid}
 use Rattle.store.specs.Lines.{platform, for_platform, wanted}
 use Rattle.line.specs.Fields.{first_field}
 use Rattle.text.specs.Search.{begins_text, first_text, platform_key}
 
 -- ---- the first text in another
-
-pub begins_short : (p s : List ℕ) → length s < length p → begins_text p s ≡ false
-begins_short p s h =
-    same-lengths (take (length p) s) p (λ e. omega (arith, simp length-take at e))
 
 begins_long : (p s : List ℕ) → begins_text p s ≡ true → length p ≤ length s
 begins_long p s e = omega (arith, simp length-take at (ap length (same_equal (take (length p) s) p e)))
@@ -72,7 +68,7 @@ module _ (l : List ℕ) where
 
 -- ---- the UUID
 
-pub wanted-not : (l : List ℕ) → for_platform l ≡ false → wanted l ≡ Invalid
+pub wanted-not : (l : List ℕ) → for_platform l ≡ false → wanted l ≡ None
 unfolding wanted
 wanted-not l e = rw e
 
@@ -80,21 +76,21 @@ pub wanted_is : (l : List ℕ) → for_platform l ≡ true → wanted l ≡ uuid
 unfolding wanted
 wanted_is l e = rw e
 
-pub wanted_uuid : (l : List ℕ) (u : Spelled) → wanted l ≡ Parsed u → uuid_of (first_field l) ≡ Parsed u
+pub wanted_uuid : (l : List ℕ) (u : Spelled) → wanted l ≡ Some u → uuid_of (first_field l) ≡ Some u
 wanted_uuid l u e = go (for_platform l) refl
   where
-    go : (t : Bool) → for_platform l ≡ t → uuid_of (first_field l) ≡ Parsed u
+    go : (t : Bool) → for_platform l ≡ t → uuid_of (first_field l) ≡ Some u
     go true p = sym (wanted_is l p) ∙ e
-    go false p = let q : Invalid ≡ Parsed u = sym (wanted-not l p) ∙ e in let z : ◌≡◌ {A = ℕ} 0 1 = cc in
+    go false p = let q : None ≡ Some u = sym (wanted-not l p) ∙ e in let z : ◌≡◌ {A = ℕ} 0 1 = cc in
         absurd (omega arith)
 
-pub wanted-some : (l : List ℕ) (u : Spelled) → wanted l ≡ Parsed u → 1 ≤ length l
-wanted-some [] u e = let q : Invalid ≡ Parsed u = sym none ∙ wanted_uuid [] u e in let z : ◌≡◌ {A = ℕ} 0 1 = cc in
+pub wanted-some : (l : List ℕ) (u : Spelled) → wanted l ≡ Some u → 1 ≤ length l
+wanted-some [] u e = let q : None ≡ Some u = sym none ∙ wanted_uuid [] u e in let z : ◌≡◌ {A = ℕ} 0 1 = cc in
     absurd (omega arith)
   where
-    none : uuid_of (first_field []) ≡ Invalid
+    none : uuid_of (first_field []) ≡ None
     none = unfold uuid_of first_of in refl
 wanted-some (b ∷ l) u e = omega arith
 
-pub wanted_small : (l : List ℕ) (u : Spelled) → wanted l ≡ Parsed u → Small u.id
+pub wanted_small : (l : List ℕ) (u : Spelled) → wanted l ≡ Some u → Small u.id
 wanted_small l u e = uuid_small (first_field l) u (wanted_uuid l u e)

@@ -1,4 +1,5 @@
 -- The worked examples of docs/READING.md, computed by the definitions. Assumes nothing.
+use Rattle.std.specs.Prelude.{Some, Err, Ok}
 use mathlib.Core.Path.{◌≡◌, refl, ap, ◌∙◌}
 use mathlib.Core.Bool.{Bool, true, false, ◌&&◌}
 use mathlib.Core.Option.{Option, none}
@@ -14,8 +15,6 @@ use Rattle.text.specs.declared.uuid.Uuid.{Uuid}
 use Rattle.line.specs.declared.ev.AxisOrBtn.TheVariants.{Axis, Btn}
 use Rattle.line.specs.declared.parser.AxisRange.TheVariants.{Full}
 use Rattle.line.specs.declared.parser.Token.TheVariants as Tk
-use Rattle.line.specs.declared.parser.Answer.TheVariants as An
-use Rattle.line.specs.declared.parser.value.Value.TheVariants as Vl
 use Rattle.line.specs.declared.reading.puts.Puts.TheVariants.{Two}
 use Rattle.line.specs.Buttons as B
 use Rattle.line.specs.Axes as A
@@ -29,12 +28,10 @@ use Rattle.line.specs.Walker.{guid_of}
 use Rattle.line.specs.Puts.{listed, hat_codes, dpad_axis, hat_puts, puts_of}
 use Rattle.line.specs.Reading.{accepted_of, put_one, taken, pairs_from, named_from, line_from, read_line, reading_of}
 use Rattle.line.specs.Refusals.{refusal_at, reading_outcome}
-use Rattle.line.specs.declared.refusal.Outcome.TheVariants.{Refuses}
 use Rattle.map.specs.Slots.{no_slots, button_of, axis_of}
 use Rattle.map.specs.Build.{filled_from, missing_of, axis_checks, slot_checks, checks_of, ended, pair_texts}
 use Rattle.map.specs.Build.{built_line, built_map}
 use Rattle.text.specs.Search.{first_text}
-use Rattle.store.specs.declared.calls.Look.TheVariants as L
 use Rattle.store.specs.declared.parties.Party.TheVariants as P
 use native.Mathlib.Omega.{arith}
 use Rattle.store.specs.Shares.{owners, Content, use_of, claims_from, share_sizes}
@@ -46,6 +43,7 @@ use Rattle.store.specs.Book.{record_sizes, no_index_of, no_text, room_for}
 use Rattle.store.specs.Store.{Looked, unsound, look_by, look_up, says_of, line_of}
 use Rattle.store.specs.Refusals.{save_number}
 use Rattle.store.specs.Saves.{SaveArgs, save_args, attempt_of, store_save}
+use Rattle.store.specs.declared.calls.LookError.TheVariants as L
 
 -- U, 32 zeros, and the UUID that it is
 u : List ℕ
@@ -57,7 +55,7 @@ nil = record { high = 0; low = 0 }
 -- ---- 1. the map of `U,T,dpup:h0.1,`
 
 -- the pair at place 35, and what it puts
-dpup_pair : pair_of (ascii "dpup:h0.1") 35 ≡ An.Found (Tk.HatMapping 0 1 (Btn B.DPadUp) (ranges_of Full Full false))
+dpup_pair : pair_of (ascii "dpup:h0.1") 35 ≡ Some (Ok (Tk.HatMapping 0 1 (Btn B.DPadUp) (ranges_of Full Full false)))
 unfolding pair_of keyed_of half_of value_of hat_of count_of first_of same read_digits unsigned index_number axes_sdl axes_table
     row_from key_row
 dpup_pair = refl
@@ -85,11 +83,11 @@ dpup_map = refl
 
 -- ---- 2. the place of refusal 4 in `U,T,dpright:h0.q`
 
-dpright_value : value_of 35 (ascii "h0.q") ≡ Vl.Bad 38
+dpright_value : value_of 35 (ascii "h0.q") ≡ Err 38
 unfolding value_of hat_of first_of read_digits unsigned index_number
 dpright_value = refl
 
-dpright_place : reading_outcome (reading_of (u ++ ascii ",T,dpright:h0.q") [] []).answer ≡ Refuses (refusal_at 4 38)
+dpright_place : reading_outcome (reading_of (u ++ ascii ",T,dpright:h0.q") [] []).answer ≡ Err (refusal_at 4 38)
 unfolding reading_of read_line line_from named_from pairs_from taken fields_of pair_of keyed_of half_of value_of hat_of guid_of
     count_of first_of empty_map to_map same read_digits unsigned index_number begins first_length char_length run_of valid_run
     is_utf8 axes_sdl axes_table row_from key_row hex_digit read_hex uuid_of u
@@ -162,7 +160,7 @@ byte_nine : (k : Uuid) (i t : List ℕ) → look_up P.Hall k (9 ∷ i) t ≡ uns
 unfolding look_up look_by
 byte_nine k i t = rw (content_nine i t) refl
 
-nine_says : (k : Uuid) (i t : List ℕ) → says_of (look_up P.Hall k (9 ∷ i) t) ≡ L.Unsound
+nine_says : (k : Uuid) (i t : List ℕ) → says_of (look_up P.Hall k (9 ∷ i) t) ≡ Err L.Unsound
 nine_says k i t = ap (λ (x : Looked). says_of x) (byte_nine k i t)
 
 nine_line : (k : Uuid) (i t : List ℕ) → line_of (look_up P.Hall k (9 ∷ i) t) ≡ []

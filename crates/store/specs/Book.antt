@@ -2,25 +2,24 @@
 -- store". Document 02, P9: it "is told each call's party, checks 24 first, and keeps its lines by party and UUID". P10: its
 -- "list may hold share settings too; the book answers each by the rules here, 19 left out".
 -- Public contracts rest on these definitions; they assume nothing.
-use Rattle.std.specs.Prelude.{Bool, List, [], ◌∷◌, ℕ, suc, ◌+◌, ltb, length, take}
+use Rattle.std.specs.Prelude.{Bool, List, [], ◌∷◌, ℕ, suc, ◌+◌, ltb, length, take, Result, Ok, Err, ⊤, Option, Some, None}
 use Rattle.text.specs.Bytes.{pick}
 use Rattle.text.specs.Utf8.{is_utf8, valid_run}
 use Rattle.text.specs.declared.uuid.Uuid.{Uuid}
 use Rattle.text.specs.declared.uuid.Form.{Form}
 use Rattle.text.specs.declared.uuid.Form.TheVariants as Fm
-use Rattle.text.specs.declared.uuid.UuidParse.{UuidParse}
-use Rattle.text.specs.declared.uuid.UuidParse.TheVariants.{Parsed, Invalid}
-use Rattle.store.specs.declared.calls.Answer.{Answer}
-use Rattle.store.specs.declared.calls.Answer.TheVariants as A
 use Rattle.store.specs.declared.calls.Inserted.{Inserted}
 use Rattle.store.specs.declared.calls.Tally.{Tally}
 use Rattle.store.specs.Held.{Held, key_by, strike, file, record_size, line_max}
 use Rattle.store.specs.Parties.{owner_of, by_owner, Named, OwnerByte}
 use Rattle.store.specs.Shares.{Content, nothing_held, claims, share_sizes, with_share}
-use Rattle.store.specs.declared.table.Room.{Room}
-use Rattle.store.specs.declared.table.Room.TheVariants as R
 use Rattle.store.specs.Lines.{lines_of, wanted}
 use Rattle.store.specs.Refusals.{number}
+use Rattle.store.specs.declared.calls.StoreError.TheVariants as E
+use Rattle.store.specs.declared.table.Full.TheVariants as R
+use Rattle.store.specs.declared.calls.StoreError.{StoreError}
+use Rattle.store.specs.declared.table.Full.{Full}
+use Rattle.text.specs.declared.uuid.Spelled.{Spelled}
 
 -- who calls, in buffers of which lengths, and the shares that are set
 pub record Caller : Type 0 where
@@ -51,14 +50,14 @@ unfoldable pub no_text : Caller → Held → List Held → Bool
 no_text c h hs = ltb c.text (claims c.shares (file h hs))
 
 -- P10: "'no room' is now 21 or 25"; 21 "comes before 25"
-unfoldable pub room_for : Caller → Held → List Held → Room
-room_for c h hs = pick (no_index_of c h hs) R.IndexFull (pick (no_text c h hs) R.TextFull R.Fits)
+unfoldable pub room_for : Caller → Held → List Held → Result ⊤ Full
+room_for c h hs = pick (no_index_of c h hs) (Err R.Index) (pick (no_text c h hs) (Err R.Text) (Ok tt))
 
 -- what comes of it: 21, 25, or the line is filed
-abbrev pub by_room : {A : Type 0} → Room → A → A → A → A
-by_room R.IndexFull full crowded filed = full
-by_room R.TextFull full crowded filed = crowded
-by_room R.Fits full crowded filed = filed
+abbrev pub by_room : {A : Type 0} → Result ⊤ Full → A → A → A → A
+by_room (Err R.Index) full crowded filed = full
+by_room (Err R.Text) full crowded filed = crowded
+by_room (Ok u) full crowded filed = filed
 
 -- ---- one call's turn: its answer, and the lines held after it
 
@@ -70,40 +69,40 @@ abbrev pub turn : {A : Type 0} → A → List Held → Turn A
 turn a hs = record { answer = a; held = hs }
 
 -- "Clear empties the list."
-abbrev pub book_clear : Turn Answer
-book_clear = turn A.Done []
+abbrev pub book_clear : Turn (Result ⊤ StoreError)
+book_clear = turn (Ok tt) []
 
 -- what a line that an insert reaches comes to: the lines held after it, or the answer that stops the call
 pub data Reached : Type 0 where
   after : List Held → Reached
-  stopped : Answer → Reached
+  stopped : Result ⊤ StoreError → Reached
 
 abbrev pub under : ℕ → Uuid → List ℕ → Held
 under o u l = record { key = key_by o u; line = l }
 
 -- "a wanted one over the limit (20), else without room (21, H being the book's)", or P10's 25, "stops the call with that
 -- number; any other is filed"
-abbrev pub reach_wanted : Caller → List Held → List ℕ → UuidParse → Reached
-reach_wanted c hs l Invalid = after hs
-reach_wanted c hs l (Parsed g) =
-    pick (ltb line_max (length l)) (stopped A.LineTooLong)
-    (by_room (room_for c (under c.owner g.id l) hs) (stopped A.NoRoom) (stopped A.NoText)
+abbrev pub reach_wanted : Caller → List Held → List ℕ → Option Spelled → Reached
+reach_wanted c hs l None = after hs
+reach_wanted c hs l (Some g) =
+    pick (ltb line_max (length l)) (stopped (Err E.LineTooLong))
+    (by_room (room_for c (under c.owner g.id l) hs) (stopped (Err E.NoRoom)) (stopped (Err E.NoText))
     (after (file (under c.owner g.id l) hs)))
 
 -- a line that an insert reaches
 unfoldable pub reach : Caller → List Held → List ℕ → Reached
 reach c hs l = reach_wanted c hs l (wanted l)
 
-abbrev pub insert_turn : List Held → Answer → ℕ → Turn Tally
+abbrev pub insert_turn : List Held → Result ⊤ StoreError → ℕ → Turn Tally
 insert_turn hs a count = turn (record { answer = a; count = count }) hs
 
-abbrev pub on_reached : {A : Type 0} → Reached → (Answer → A) → (List Held → A) → A
+abbrev pub on_reached : {A : Type 0} → Reached → (Result ⊤ StoreError → A) → (List Held → A) → A
 on_reached (after hs) stop on = on hs
 on_reached (stopped a) stop on = stop a
 
 -- "reaches the lines of the text it is given in order: an unwanted one is counted; [..] any other is filed and counted"
 unfoldable pub insert_lines : Caller → List Held → ℕ → List (List ℕ) → Turn Tally
-insert_lines c hs count [] = insert_turn hs A.Done count
+insert_lines c hs count [] = insert_turn hs (Ok tt) count
 insert_lines c hs count (l ∷ ls) =
     on_reached (reach c hs l) (λ a. insert_turn hs a count) (λ hs'. insert_lines c hs' (suc count) ls)
 
@@ -111,7 +110,7 @@ insert_lines c hs count (l ∷ ls) =
 -- the place of 10 is the length of the valid run
 unfoldable pub book_walk : Caller → List Held → List ℕ → Turn Tally
 book_walk c hs s =
-    pick (is_utf8 s) (insert_lines c hs 0 (lines_of s)) (insert_turn hs (A.NotUtf8 (valid_run s)) 0)
+    pick (is_utf8 s) (insert_lines c hs 0 (lines_of s)) (insert_turn hs (Err (E.NotUtf8 (valid_run s))) 0)
 
 -- request P11: "Insert's result gains the number of lines it filed whose form isn't 32 digits.": a line that is walked
 -- was filed where it is wanted
@@ -122,9 +121,9 @@ other_form Fm.Braced = 1
 other_form Fm.Urn = 1
 other_form Fm.Xinput = 1
 
-abbrev pub other_spelling : UuidParse → ℕ
-other_spelling Invalid = 0
-other_spelling (Parsed g) = other_form g.form
+abbrev pub other_spelling : Option Spelled → ℕ
+other_spelling None = 0
+other_spelling (Some g) = other_form g.form
 
 unfoldable pub other_spellings : List (List ℕ) → ℕ
 other_spellings [] = 0
@@ -143,7 +142,7 @@ book_insert c hs s = turn (inserted_of s (book_walk c hs s).answer) (book_walk c
 
 -- "24, an organiser's call with owner 0, before every other check; an insert then counts 0 lines"
 abbrev pub nobody_inserts : Inserted
-nobody_inserts = record { answer = A.NoOwner; count = 0; not_simple = 0 }
+nobody_inserts = record { answer = Err E.NoOwner; count = 0; not_simple = 0 }
 
 -- ---- saves
 
@@ -181,10 +180,10 @@ book_attempt full crowded c hs (files h v) =
 
 -- the answer to a setting, and what is held after it
 pub record Setting : Type 0 where
-  pub answer : Answer
+  pub answer : Result ⊤ StoreError
   pub content : Content
 
-abbrev pub setting : Answer → Content → Setting
+abbrev pub setting : Result ⊤ StoreError → Content → Setting
 setting a c = record { answer = a; content = c }
 
 -- 26, "that sum too large when a share is set": with the shares as they would then stand
@@ -198,9 +197,9 @@ over_index n c = ltb n (share_sizes c.shares + record_sizes c.held)
 -- "26, [..] after 19 and before 21"; "takes an accepted one as that party's share"
 unfoldable pub book_share : ℕ → ℕ → Content → ℕ → ℕ → Setting
 book_share n m c o b =
-    pick (over_text m (with_share o b c)) (setting A.ShareTooLarge c)
-    (pick (over_index n (with_share o b c)) (setting A.NoRoom c)
-    (setting A.Done (with_share o b c)))
+    pick (over_text m (with_share o b c)) (setting (Err E.ShareTooLarge) c)
+    (pick (over_index n (with_share o b c)) (setting (Err E.NoRoom) c)
+    (setting (Ok tt) (with_share o b c)))
 
 -- ---- lists of calls
 
@@ -213,10 +212,10 @@ pub data Call (S : Saving) : Type 0 where
   share : OwnerByte → ℕ → Call S
 
 pub data Reply (S : Saving) : Type 0 where
-  cleared : Answer → Reply S
+  cleared : Result ⊤ StoreError → Reply S
   inserted : Inserted → Reply S
   saved : S.Value → Reply S
-  shared : Answer → Reply S
+  shared : Result ⊤ StoreError → Reply S
 
 -- document 01's number of a reply, 0 where nothing is refused
 abbrev pub number_of : {S : Saving} → Reply S → ℕ

@@ -3,17 +3,16 @@
 -- "In demand 3, filed means filed in the book."
 -- The guarantee rests on these definitions; they assume nothing.
 use Rattle.std.proofs.Math.Option.{Option, none, some}
-use Rattle.std.specs.Prelude.{List, [], ◌∷◌, ◌++◌, ℕ, zero, suc}
+use Rattle.std.specs.Prelude.{Option as Optional, List, [], ◌∷◌, ◌++◌, ℕ, zero, suc, Some, None}
 use Rattle.text.specs.Bytes.{pick}
 use Rattle.text.specs.Utf8.{is_utf8}
-use Rattle.text.specs.declared.uuid.UuidParse.{UuidParse}
-use Rattle.text.specs.declared.uuid.UuidParse.TheVariants.{Parsed, Invalid}
 use Rattle.store.specs.Held.{Key, Held, same_key}
 use Rattle.store.specs.Lines.{lines_of, wanted}
 use Rattle.store.specs.Parties.{owner_of, by_owner}
 use Rattle.store.specs.Shares.{Content}
 use Rattle.store.specs.Book.{Caller, caller, room_for, by_room, under, reach, on_reached, Attempt, refused, files}
 use Rattle.store.specs.Book.{Saving, Call, clear, insert, save, share, Reply, book_turn, book_after}
+use Rattle.text.specs.declared.uuid.Spelled.{Spelled}
 
 -- a line that was filed, the call that filed it, with its place in the list, counted from 0, and what it answered
 pub record Filing (S : Saving) : Type 0 where
@@ -26,9 +25,9 @@ abbrev pub filing : {S : Saving} → ℕ → Call S → Reply S → Held → Fil
 filing p x a h = record { held = h; at = p; by = x; answer = a }
 
 -- an insert files the wanted lines that it reaches, up to the one that stops it
-abbrev pub filed_line : {S : Saving} → ℕ → Call S → Reply S → ℕ → List ℕ → UuidParse → List (Filing S)
-filed_line p x a o l (Parsed g) = filing p x a (under o g.id l) ∷ []
-filed_line p x a o l Invalid = []
+abbrev pub filed_line : {S : Saving} → ℕ → Call S → Reply S → ℕ → List ℕ → Optional Spelled → List (Filing S)
+filed_line p x a o l (Some g) = filing p x a (under o g.id l) ∷ []
+filed_line p x a o l None = []
 
 unfoldable pub filed_lines : {S : Saving} → ℕ → Call S → Reply S → Caller → List Held → List (List ℕ)
     → List (Filing S)

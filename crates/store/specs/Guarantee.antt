@@ -2,19 +2,15 @@
 -- store of n and m bytes, with document 01's own save. Each call names its party (document 02, P9), and the list may hold
 -- share settings (P10).
 -- The guarantee rests on these definitions; they assume nothing.
-use Rattle.std.specs.Prelude.{◌≡◌, true, List, [], ◌∷◌, ◌++◌, map, ℕ, suc, ◌≤◌, length, replicate}
+use Rattle.std.specs.Prelude.{◌≡◌, true, List, [], ◌∷◌, ◌++◌, map, ℕ, suc, ◌≤◌, length, replicate, Some, Ok, Err}
 use Rattle.std.proofs.Math.Option.{Option, some}
 use Rattle.text.specs.Utf8.{is_utf8}
 use Rattle.text.specs.declared.uuid.Spelled.{Spelled}
-use Rattle.text.specs.declared.uuid.UuidParse.TheVariants.{Parsed}
 use Rattle.text.specs.declared.uuid.Uuid.{Uuid}
 use Rattle.store.specs.declared.parties.Party.{Party}
-use Rattle.store.specs.declared.owners.Owner.TheVariants as O
 use Rattle.store.specs.Parties.{owner_of, by_owner, Named}
 use Rattle.store.specs.Held.{line_max, Key, Held, key_by, file}
 use Rattle.map.specs.Build.{built_line, built_map}
-use Rattle.store.specs.declared.calls.Answer.TheVariants as A
-use Rattle.store.specs.declared.calls.SaveAnswer.TheVariants as Sv
 use Rattle.store.specs.declared.calls.Saved.{Saved}
 use Rattle.store.specs.Lines.{lines_of, wanted}
 use Rattle.store.specs.Shares.{Content, nothing_held, with_held}
@@ -24,6 +20,8 @@ use Rattle.store.specs.Book.{insert, save, Reply, inserted, saved, number_of, Ru
 use Rattle.store.specs.Store.{Done, Runs, run_store, store_call, Looked, no_owner, looked_in, look_up}
 use Rattle.store.specs.Filings.{Filing, filings, last_filed, line_filed, nth}
 use Rattle.store.specs.Saves.{SaveArgs, SaveCall, saving, Passes, ReadsBack, refused_save, accepted_save}
+use Rattle.store.specs.declared.calls.StoreError.TheVariants as E
+use Rattle.store.specs.declared.calls.SaveError.TheVariants as Sv
 
 -- "every list of clear, insert and save calls, refused ones included"
 abbrev pub Calls : Type 0
@@ -71,12 +69,12 @@ pub record FromSave (n m : ℕ) (xs : Calls) (k : Key) (f : Filing saving) (p : 
   pub returned : Saved
   pub stands : nth xs f.at ≡ some (save p c)
   pub replied : nth (stored n m xs).answers f.at ≡ some (saved returned)
-  pub done : returned.answer ≡ Sv.Done
+  pub done : returned.answer ≡ Ok tt
   -- "line and map being those of document 01's build from that save's arguments"
   pub line : f.held.line
       ≡ built_line c.args.slots c.args.buttons c.args.axes c.args.name c.args.uuid
   pub map : returned.map ≡ built_map c.args.slots c.args.name
-  pub by : owner_of p.party ≡ O.Byte k.owner
+  pub by : owner_of p.party ≡ Some k.owner
   pub under : c.args.uuid ≡ k.uuid
   -- "reading it with that save's button and axis lists gives the map, name, default flag (off) and hat flags (zero)
   -- that the save returned"
@@ -103,7 +101,7 @@ pub record Guarantee (n m : ℕ) (xs : Calls) : Type 0 where
       → FromSave n m xs k f p c
   -- "A save [..] that passes the earlier checks", of which 24 is one, "gets 'no room' exactly when document 01's sum
   -- doesn't fit, and else is filed."; P10: "'no room' is now 21 or 25"
-  pub save_room : (p : Named) (o : ℕ) → owner_of p.party ≡ O.Byte o → (c : SaveCall) → Passes c.args
+  pub save_room : (p : Named) (o : ℕ) → owner_of p.party ≡ Some o → (c : SaveCall) → Passes c.args
       → Leaves (next n m xs (save p c))
       (by_room (room_for (caller_after n m xs o) (built_held o c.args) (book_lines n m xs))
       (saved (refused_save Sv.NoRoom)) (saved (refused_save Sv.NoText)) (saved (built_save c.args)))
@@ -112,15 +110,15 @@ pub record Guarantee (n m : ℕ) (xs : Calls) : Type 0 where
       (book_lines n m xs) (book_lines n m xs) (file (built_held o c.args) (book_lines n m xs))))
   -- "or a wanted line that its insert reaches": the lines before it are passed, and hs is held when it is reached;
   -- where it is filed, the insert goes on with the rest
-  pub insert_room : (p : Named) (o : ℕ) → owner_of p.party ≡ O.Byte o
+  pub insert_room : (p : Named) (o : ℕ) → owner_of p.party ≡ Some o
       → (s : List ℕ) (passed : List (List ℕ)) (l : List ℕ) (rest : List (List ℕ)) (u : Spelled) (hs : List Held)
       → is_utf8 s ≡ true → lines_of s ≡ passed ++ (l ∷ rest)
-      → insert_lines (caller_after n m xs o) (book_lines n m xs) 0 passed ≡ insert_turn hs A.Done (length passed)
-      → wanted l ≡ Parsed u → length l ≤ line_max
+      → insert_lines (caller_after n m xs o) (book_lines n m xs) 0 passed ≡ insert_turn hs (Ok tt) (length passed)
+      → wanted l ≡ Some u → length l ≤ line_max
       → Leaves (next n m xs (insert p s))
       (by_room (room_for (caller_after n m xs o) (under o u.id l) hs)
-      (inserted (inserted_of s (record { answer = A.NoRoom; count = length passed })))
-      (inserted (inserted_of s (record { answer = A.NoText; count = length passed })))
+      (inserted (inserted_of s (record { answer = Err E.NoRoom; count = length passed })))
+      (inserted (inserted_of s (record { answer = Err E.NoText; count = length passed })))
       (inserted (inserted_of s
       (insert_lines (caller_after n m xs o) (file (under o u.id l) hs) (suc (length passed)) rest).answer)))
       (with_held (booked n m xs).content (by_room (room_for (caller_after n m xs o) (under o u.id l) hs) hs hs

@@ -1,37 +1,29 @@
 -- What the contracts of private functions say of a store, each for every list of lines that lies in the index, and
 -- what the proofs go by. No public contract rests on these: a reader may leave them out.
-use Rattle.std.specs.Prelude.{◌≡◌, Bool, true, false, not, List, [], ◌∷◌, ◌++◌, ℕ, ◌+◌, ◌-◌, ◌/◌, ◌%◌, ◌≤◌, ◌<◌, eqb, ltb, length, take, replicate, get_or, set}
+use Rattle.std.specs.Prelude.{◌≡◌, Bool, true, false, not, List, [], ◌∷◌, ◌++◌, ℕ, ◌+◌, ◌-◌, ◌/◌, ◌%◌, ◌≤◌, ◌<◌, eqb, ltb, length, take, replicate, Result, Ok, Err, ⊤}
 use Rattle.std.proofs.Math.Option.{Option, none, some}
 use Rattle.text.specs.Bytes.{pick, first_of}
 use Rattle.text.specs.declared.uuid.Uuid.{Uuid}
 use Rattle.store.specs.declared.records.Head.{Head}
 use Rattle.line.specs.declared.mapping.Mapping.{Mapping}
-use Rattle.store.specs.declared.calls.Answer.{Answer}
-use Rattle.store.specs.declared.calls.Answer.TheVariants as A
-use Rattle.store.specs.declared.calls.SaveAnswer.TheVariants as Sv
 use Rattle.store.specs.declared.calls.Saved.{Saved}
 use Rattle.store.specs.Held.{Key, Held, file, distinct, text_max, record_size}
 use Rattle.store.specs.Layout.{Shape, Shapes, record_bytes, record_of, records, texts}
 use Rattle.store.specs.Decode.{owner_at, content}
 use Rattle.store.specs.Lines.{cr}
 use Rattle.text.specs.Search.{lf}
-use Rattle.store.specs.declared.table.Room.{Room}
-use Rattle.store.specs.declared.table.Room.TheVariants as R
 use Rattle.store.specs.Shares.{share_sizes}
 use Rattle.store.specs.Book.{Caller, caller, room_for, by_room, Turn, turn, files, Saving}
 use Rattle.store.specs.Store.{Done, on_lines}
 use Rattle.store.specs.Saves.{refused_save, accepted_save}
+use Rattle.store.specs.declared.calls.SaveError.TheVariants as Sv
+use Rattle.store.specs.declared.table.Full.TheVariants as R
+use Rattle.store.specs.declared.calls.SaveError.{SaveError}
+use Rattle.store.specs.declared.table.Full.{Full}
 
 -- another byte than b
 abbrev pub is_not : ℕ → ℕ → Bool
 is_not b x = not (eqb x b)
-
--- the eight bytes at j, stored at i
-abbrev pub eight : List ℕ → ℕ → ℕ → List ℕ
-eight p i j =
-    set (set (set (set (set (set (set (set p i (get_or p j 0)) (i + 1) (get_or p (j + 1) 0)) (i + 2) (get_or p (j + 2) 0))
-    (i + 3) (get_or p (j + 3) 0)) (i + 4) (get_or p (j + 4) 0)) (i + 5) (get_or p (j + 5) 0)) (i + 6) (get_or p (j + 6) 0))
-    (i + 7) (get_or p (j + 7) 0)
 
 -- ---- records
 
@@ -119,31 +111,24 @@ GoodFor c hs = Good (c.index - share_sizes c.shares) c.text hs
 -- ---- saving
 
 -- `file_built`: the end of a save, in the book and in the store
-unfoldable pub book_file : Caller → List Held → Held → Turn Answer
-book_file c hs h = by_room (room_for c h hs) (turn A.NoRoom hs) (turn A.NoText hs) (turn A.Done (file h hs))
+unfoldable pub book_file : Caller → List Held → Held → Turn (Result ⊤ SaveError)
+book_file c hs h = by_room (room_for c h hs) (turn (Err Sv.NoRoom) hs) (turn (Err Sv.NoText) hs) (turn (Ok tt) (file h hs))
 
-unfoldable pub store_file : List ℕ → List ℕ → Held → Done Answer
+unfoldable pub store_file : List ℕ → List ℕ → Held → Done (Result ⊤ SaveError)
 store_file i t h =
-    on_lines i t (content i t) A.Unsound
+    on_lines i t (content i t) (Err Sv.Unsound)
     (λ c. book_file (caller (length i) (length t) c.shares h.key.owner) c.held h)
 
 -- `room_answer`: what filing a line answers by its room
-abbrev pub room_answer : Room → Answer
-room_answer R.Fits = A.Done
-room_answer R.IndexFull = A.NoRoom
-room_answer R.TextFull = A.NoText
+abbrev pub room_answer : Result ⊤ Full → Result ⊤ SaveError
+room_answer (Ok u) = Ok tt
+room_answer (Err R.Index) = Err Sv.NoRoom
+room_answer (Err R.Text) = Err Sv.NoText
 
--- `saved_as`: what a save answers by what filing its line answers (which is done, 21, 25 or 19)
-abbrev pub said_by : Mapping → Answer → Saved
-said_by m A.Done = accepted_save m
-said_by m (A.NotUtf8 place) = refused_save Sv.Unsound
-said_by m A.Unsound = refused_save Sv.Unsound
-said_by m A.LineTooLong = refused_save Sv.Unsound
-said_by m A.NoRoom = refused_save Sv.NoRoom
-said_by m A.BufferTooLarge = refused_save Sv.Unsound
-said_by m A.NoOwner = refused_save Sv.Unsound
-said_by m A.NoText = refused_save Sv.NoText
-said_by m A.ShareTooLarge = refused_save Sv.Unsound
+-- `saved_as`: what a save answers by what filing its line answers
+abbrev pub said_by : Mapping → Result ⊤ SaveError → Saved
+said_by m (Ok u) = accepted_save m
+said_by m (Err e) = refused_save e
 
 -- what the layer that builds owes: a line that is attempted is its owner's, has from 1 to `line_max` bytes, and reads
 -- back

@@ -1,12 +1,11 @@
 -- Parties that share a store don't disturb each other's look-ups (document 02, P9), proved as `isolated` in
 -- ../proofs/IsolationLaws.antt.
 -- The theorem rests on these definitions; they assume nothing.
-use Rattle.std.specs.Prelude.{◌≡◌, List, [], ◌∷◌, ℕ, ◌≤◌, eqb}
+use Rattle.std.specs.Prelude.{◌≡◌, List, [], ◌∷◌, ℕ, ◌≤◌, eqb, Some}
 use Rattle.std.proofs.Math.Option.{Option, none, some}
 use Rattle.text.specs.Bytes.{pick}
 use Rattle.text.specs.declared.uuid.Uuid.{Uuid}
 use Rattle.store.specs.declared.parties.Party.{Party}
-use Rattle.store.specs.declared.owners.Owner.TheVariants as O
 use Rattle.store.specs.Parties.{owner_of, by_owner}
 use Rattle.store.specs.Held.{index_max, text_max}
 use Rattle.store.specs.Book.{Call, clear, insert, save, share, Reply}
@@ -54,7 +53,7 @@ pub record FindsSame (p : Party) (a b : Runs saving) : Type 0 where
 -- two stores may be of unlike sizes
 abbrev pub Isolated : Type 0
 Isolated =
-    (p : Party) (o : ℕ) → owner_of p ≡ O.Byte o
+    (p : Party) (o : ℕ) → owner_of p ≡ Some o
     → (n m n' m' : ℕ) → n ≤ index_max → m ≤ text_max → n' ≤ index_max → m' ≤ text_max
     → (xs ys : Calls) → deeds o xs (stored n m xs).answers ≡ deeds o ys (stored n' m' ys).answers
     → FindsSame p (stored n m xs) (stored n' m' ys)

@@ -1,12 +1,11 @@
 -- The lines of an inserted text, and which are wanted (document 01, 'Store').
 -- Public contracts rest on these definitions; they assume nothing.
-use Rattle.std.specs.Prelude.{Bool, true, ◌&&◌, List, [], ◌∷◌, ℕ, ◌+◌, eqb, length, get_or, drop}
+use Rattle.std.specs.Prelude.{Bool, true, ◌&&◌, List, [], ◌∷◌, ℕ, ◌+◌, eqb, length, get_or, drop, Option, None}
 use Rattle.text.specs.Bytes.{pick, byte, ascii, same}
 use Rattle.text.specs.Uuid.{uuid_of}
-use Rattle.text.specs.declared.uuid.UuidParse.{UuidParse}
-use Rattle.text.specs.declared.uuid.UuidParse.TheVariants.{Invalid}
 use Rattle.line.specs.Fields.{before, first_field}
 use Rattle.text.specs.Search.{first_text, platform_key, lf}
+use Rattle.text.specs.declared.uuid.Spelled.{Spelled}
 
 -- the byte that may stand before a line's end
 abbrev pub cr : ℕ
@@ -31,6 +30,6 @@ for_platform l =
     pick (eqb (first_text platform_key l) (length l)) true
     (same (first_field (drop (first_text platform_key l + length platform_key) l)) platform)
 
--- "and its first field is a UUID (so not `xinput`)": the UUID of a wanted line; Invalid: the line isn't wanted
-unfoldable pub wanted : List ℕ → UuidParse
-wanted l = pick (for_platform l) (uuid_of (first_field l)) Invalid
+-- "and its first field is a UUID (so not `xinput`)": the UUID of a wanted line; None: the line isn't wanted
+unfoldable pub wanted : List ℕ → Option Spelled
+wanted l = pick (for_platform l) (uuid_of (first_field l)) None

@@ -2,23 +2,24 @@
 -- of it is proved as
 -- `beside_look_up`, `never_near` and `near_after` in ../proofs/NearLaws.antt.
 -- Public contracts rest on these definitions; they assume nothing.
-use Rattle.std.specs.Prelude.{◌≡◌, List, [], ℕ}
+use Rattle.std.specs.Prelude.{◌≡◌, List, [], ℕ, Option as Optional, Some, None, Result, Ok, Err, ⊤}
 use Rattle.std.proofs.Math.Option.{Option, none, some}
 use Rattle.text.specs.Uuid.{without_checksum}
 use Rattle.text.specs.declared.uuid.Uuid.{Uuid}
-use Rattle.line.specs.declared.refusal.Outcome.{Outcome}
-use Rattle.line.specs.declared.refusal.Outcome.TheVariants.{Passes, Refuses}
-use Rattle.line.specs.Refusals.{refusal}
 use Rattle.store.specs.declared.parties.Party.{Party}
 use Rattle.store.specs.Parties.{owner_of, by_owner}
-use Rattle.store.specs.declared.near.NearLook.{NearLook}
-use Rattle.store.specs.declared.near.NearLook.TheVariants as N
+use Rattle.store.specs.Refusals.{look_refusal}
 use Rattle.store.specs.Held.{Key, key_by, find}
 use Rattle.store.specs.Shares.{Content}
 use Rattle.store.specs.Decode.{content}
 use Rattle.store.specs.Store.{Looked, found, nothing, unsound, no_owner, look_up}
 use Rattle.store.specs.Filings.{line_filed}
 use Rattle.store.specs.Guarantee.{Calls, stored, last_of}
+use Rattle.store.specs.declared.calls.LookError.TheVariants as L
+use Rattle.store.specs.declared.near.Nearness.TheVariants as N
+use Rattle.store.specs.declared.calls.LookError.{LookError}
+use Rattle.store.specs.declared.near.Nearness.{Nearness}
+use Rattle.line.specs.declared.refusal.Refusal.{Refusal}
 
 -- "The result says exact, near, none or 19, with the line"; and 24
 pub data Nearby : Type 0 where
@@ -52,12 +53,12 @@ unfoldable pub near_up : Party → Uuid → List ℕ → List ℕ → Nearby
 near_up p u i t = by_owner (owner_of p) nobody (λ o. near_by (key_by o u) i t)
 
 -- "exact, near, none or 19"
-abbrev pub near_says : Nearby → NearLook
-near_says (exact l) = N.Exact
-near_says (near l) = N.Near
-near_says neither = N.Missing
-near_says damaged = N.Unsound
-near_says nobody = N.NoOwner
+abbrev pub near_says : Nearby → Result (Optional Nearness) LookError
+near_says (exact l) = Ok (Some N.Exact)
+near_says (near l) = Ok (Some N.Near)
+near_says neither = Ok None
+near_says damaged = Err L.Unsound
+near_says nobody = Err L.NoOwner
 
 -- "with the line, empty for the last two", and for 24
 abbrev pub near_line : Nearby → List ℕ
@@ -68,12 +69,9 @@ near_line damaged = []
 near_line nobody = []
 
 -- what each answer refuses
-abbrev pub near_outcome : NearLook → Outcome
-near_outcome N.Exact = Passes
-near_outcome N.Near = Passes
-near_outcome N.Missing = Passes
-near_outcome N.Unsound = Refuses (refusal 19)
-near_outcome N.NoOwner = Refuses (refusal 24)
+abbrev pub near_outcome : Result (Optional Nearness) LookError → Result ⊤ Refusal
+near_outcome (Ok how) = Ok tt
+near_outcome (Err e) = Err (look_refusal e)
 
 -- ---- theorems
 

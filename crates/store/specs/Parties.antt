@@ -1,22 +1,23 @@
 -- Who calls a store (document 02, P9): "Insert, save and look-up name their party".
 -- Public contracts rest on these definitions; they assume nothing.
-use Rattle.std.specs.Prelude.{ℕ, ◌<◌, eqb}
+use Rattle.std.specs.Prelude.{ℕ, ◌<◌, eqb, Option, Some, None}
 use Rattle.text.specs.Bytes.{pick}
 use Rattle.store.specs.declared.parties.Party.{Party}
 use Rattle.store.specs.declared.parties.Party.TheVariants as P
-use Rattle.store.specs.declared.owners.Owner.{Owner}
-use Rattle.store.specs.declared.owners.Owner.TheVariants as O
 
 -- whose lines a party's are: "the hall or an owner from 1 to 255", 0 being the hall; nobody's where 24 applies, "an
 -- organiser's call with owner 0"
+abbrev pub Owner : Type 0
+Owner = Option ℕ
+
 abbrev pub owner_of : Party → Owner
-owner_of P.Hall = O.Byte 0
-owner_of (P.Organiser b) = pick (eqb b 0) O.Nobody (O.Byte b)
+owner_of P.Hall = Some 0
+owner_of (P.Organiser b) = pick (eqb b 0) None (Some b)
 
 -- "24, [..] before every other check": what is answered then, or what the call does for its owner
 abbrev pub by_owner : {A : Type 0} → Owner → A → (ℕ → A) → A
-by_owner O.Nobody away f = away
-by_owner (O.Byte o) away f = f o
+by_owner None away f = away
+by_owner (Some o) away f = f o
 
 -- an owner byte has 8 bits, as every value of the program has
 abbrev pub EightBits : Party → Type 0

@@ -1,23 +1,18 @@
 -- What demands 1 and 3 say of single calls, in plain shape, proved as `refusals_leave`, `build_leaves` in
 -- ../proofs/RefusedLaws.antt and `saved_again`, `saved_is_found` in ../proofs/FoundLaws.antt.
 -- The theorems rest on these definitions; they assume nothing.
-use Rattle.std.specs.Prelude.{◌≡◌, Bool, true, false, List, [], ◌∷◌, ◌++◌, ℕ, zero, suc, eqb, length, take}
+use Rattle.std.specs.Prelude.{◌≡◌, Bool, true, false, List, [], ◌∷◌, ◌++◌, ℕ, zero, suc, eqb, length, take, Some, Ok, Err}
 use Rattle.std.proofs.Math.Option.{none}
 use Rattle.text.specs.Bytes.{pick}
 use Rattle.text.specs.Search.{lf}
 use Rattle.text.specs.Utf8.{is_utf8}
 use Rattle.text.specs.declared.uuid.Uuid.{Uuid}
 use Rattle.text.specs.declared.uuid.Form.TheVariants as Fm
-use Rattle.text.specs.declared.uuid.UuidParse.TheVariants.{Parsed}
 use Rattle.map.specs.declared.error.MappingError.{MappingError}
-use Rattle.map.specs.declared.error.MappingAnswer.TheVariants.{Refused}
 use Rattle.map.specs.declared.mapping_data.MappingData.{MappingData}
 use Rattle.map.specs.Build.{built_line, build_of, output_of}
-use Rattle.store.specs.declared.calls.Answer.TheVariants as A
-use Rattle.store.specs.declared.calls.SaveAnswer.TheVariants as Sv
 use Rattle.store.specs.declared.calls.Saved.{Saved}
 use Rattle.store.specs.declared.parties.Party.{Party}
-use Rattle.store.specs.declared.owners.Owner.TheVariants as O
 use Rattle.store.specs.Parties.{owner_of, Named}
 use Rattle.store.specs.Held.{key_by}
 use Rattle.store.specs.Lines.{lines_of, wanted}
@@ -38,7 +33,7 @@ Untouched i t d = d ≡ unchanged i t d.answer
 -- a party's insert of the text s leaves what its insert of those lines of s leaves that it counts, and that one answers
 -- done
 pub record LinesBefore (i t : List ℕ) (p : Party) (s before : List ℕ) : Type 0 where
-  pub answer : (store_insert i t p before).answer.answer ≡ A.Done
+  pub answer : (store_insert i t p before).answer.answer ≡ Ok tt
   pub count : (store_insert i t p before).answer.count ≡ (store_insert i t p s).answer.count
   pub index : (store_insert i t p before).index ≡ (store_insert i t p s).index
   pub text : (store_insert i t p before).text ≡ (store_insert i t p s).text
@@ -76,7 +71,7 @@ pub record RefusalsLeave (i t : List ℕ) : Type 0 where
 abbrev pub BuildLeaves : Type 0
 BuildLeaves =
     (d : MappingData) (buttons axes name : List ℕ) (u : Uuid) (out : List ℕ) (e : MappingError)
-    → (build_of d buttons axes name u (length out)).answer ≡ Refused e → output_of d buttons axes name u out ≡ out
+    → (build_of d buttons axes name u (length out)).answer ≡ Err e → output_of d buttons axes name u out ≡ out
 
 -- ---- 22, "saved name has LF or `platform:`": any other saved line is wanted under its own UUID
 
@@ -87,7 +82,7 @@ saved_line a = built_line a.slots a.buttons a.axes a.name a.uuid
 -- an insert of that line alone wants it under the save's UUID; where the party that inserts it holds it, every look-up of
 -- every party stays as it was
 pub record SavedAgain (n m : ℕ) (xs : Calls) (a : SaveArgs) : Type 0 where
-  pub is_wanted : wanted (saved_line a) ≡ Parsed (record { id = a.uuid; form = Fm.Simple })
+  pub is_wanted : wanted (saved_line a) ≡ Some (record { id = a.uuid; form = Fm.Simple })
   pub one_line : lines_of (saved_line a) ≡ saved_line a ∷ []
   pub same : (p : Named) → look_up p.party a.uuid (stored n m xs).index (stored n m xs).text ≡ found (saved_line a)
       → (q : Party) (u : Uuid)
@@ -116,8 +111,8 @@ around xs p c ys = (xs ++ (save p c ∷ [])) ++ ys
 -- party files nothing under its UUID: its look-up hands back build's line, and it reads back what the save returned
 abbrev pub SavedIsFound : ℕ → ℕ → Type 0
 SavedIsFound n m =
-    (xs : Calls) (p : Named) (o : ℕ) → owner_of p.party ≡ O.Byte o → (c : SaveCall) (v : Saved) (ys : Calls)
-    → (next n m xs (save p c)).answer ≡ saved v → v.answer ≡ Sv.Done
+    (xs : Calls) (p : Named) (o : ℕ) → owner_of p.party ≡ Some o → (c : SaveCall) (v : Saved) (ys : Calls)
+    → (next n m xs (save p c)).answer ≡ saved v → v.answer ≡ Ok tt
     → has_clear ys ≡ false → last_filed (key_by o c.args.uuid) (filed_after n m (xs ++ (save p c ∷ [])) ys) ≡ none
     → (look_up p.party c.args.uuid (stored n m (around xs p c ys)).index (stored n m (around xs p c ys)).text
     ≡ found (saved_line c.args))

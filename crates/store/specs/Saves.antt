@@ -1,26 +1,25 @@
 -- A save (document 01, 'Store', and the order of its refusals): what its own checks come to, by the map layer's build.
 -- It names its party (document 02, P9).
 -- Public contracts rest on these definitions; they assume nothing.
-use Rattle.std.specs.Prelude.{◌≡◌, Bool, false, ◌||◌, List, ℕ, ltb, length, take, drop}
+use Rattle.std.specs.Prelude.{◌≡◌, Bool, false, ◌||◌, List, ℕ, ltb, length, take, drop, Ok, Err, Result, ⊤}
 use Rattle.text.specs.Bytes.{pick, first_of}
 use Rattle.text.specs.Uuid.{Small}
 use Rattle.text.specs.declared.uuid.Uuid.{Uuid}
 use Rattle.line.specs.declared.mapping.Mapping.{Mapping}
 use Rattle.line.specs.Maps.{empty_map}
 use Rattle.line.specs.Reading.{reading_of, accepted_of}
-use Rattle.map.specs.declared.error.MappingAnswer.{MappingAnswer}
-use Rattle.map.specs.declared.error.MappingAnswer.TheVariants.{Accepted, Refused}
 use Rattle.map.specs.declared.mapping_data.MappingData.{MappingData}
 use Rattle.map.specs.Build.{checks_of, built_line, built_map}
 use Rattle.store.specs.Refusals.{save_number}
-use Rattle.store.specs.declared.calls.SaveAnswer.{SaveAnswer}
-use Rattle.store.specs.declared.calls.SaveAnswer.TheVariants as Sv
 use Rattle.store.specs.declared.calls.Saved.{Saved}
 use Rattle.text.specs.Search.{lf, first_text, platform_key}
 use Rattle.store.specs.declared.parties.Party.{Party}
 use Rattle.store.specs.Parties.{owner_of, by_owner}
 use Rattle.store.specs.Book.{under, Attempt, refused, files, Saving}
 use Rattle.store.specs.Store.{Done, unchanged, store_attempt}
+use Rattle.store.specs.declared.calls.SaveError.TheVariants as Sv
+use Rattle.store.specs.declared.calls.SaveError.{SaveError}
+use Rattle.map.specs.declared.error.MappingError.{MappingError}
 
 -- the arguments of a save but for its party
 pub record SaveArgs : Type 0 where
@@ -39,17 +38,17 @@ abbrev pub unsaved_name : List ℕ → Bool
 unsaved_name name = ltb (first_of lf name) (length name) || ltb (first_text platform_key name) (length name)
 
 -- "A refused [..] save [..] returns the empty map"
-abbrev pub refused_save : SaveAnswer → Saved
-refused_save a = record { answer = a; map = empty_map }
+abbrev pub refused_save : SaveError → Saved
+refused_save e = record { answer = Err e; map = empty_map }
 
 -- "save's map is build's"
 abbrev pub accepted_save : Mapping → Saved
-accepted_save m = record { answer = Sv.Done; map = m }
+accepted_save m = record { answer = Ok tt; map = m }
 
 -- "Save: as build without 18, then 22", and then 19, 21, P10's 25: an owner's save
-abbrev pub attempt_after : ℕ → SaveArgs → MappingAnswer → Attempt Saved
-attempt_after o a (Refused e) = refused (refused_save (Sv.Refused e))
-attempt_after o a Accepted =
+abbrev pub attempt_after : ℕ → SaveArgs → Result ⊤ MappingError → Attempt Saved
+attempt_after o a (Err e) = refused (refused_save (Sv.Refused e))
+attempt_after o a (Ok _) =
     pick (unsaved_name a.name) (refused (refused_save Sv.UnsavedName))
     (files (under o a.uuid (built_line a.slots a.buttons a.axes a.name a.uuid))
     (accepted_save (built_map a.slots a.name)))
@@ -59,7 +58,7 @@ attempt_of o a = attempt_after o a (checks_of a.slots a.buttons a.axes a.name)
 
 -- a save that passes build's checks and 22: what comes then are 19, 21 and 25
 pub record Passes (a : SaveArgs) : Type 0 where
-  pub build : checks_of a.slots a.buttons a.axes a.name ≡ Accepted
+  pub build : checks_of a.slots a.buttons a.axes a.name ≡ Ok tt
   pub name : unsaved_name a.name ≡ false
 
 -- "Save builds a line and files it": 24, then "as build without 18, then 22, 19, 21", and 25

@@ -1,14 +1,14 @@
 -- A share setting, as private functions weigh it and write it.
 -- No public contract rests on these: a reader may leave them out.
-use Rattle.std.specs.Prelude.{◌≡◌, List, ℕ, ◌+◌, ◌≤◌, ◌<◌, ltb, length, get_or, set}
+use Rattle.std.specs.Prelude.{◌≡◌, List, ℕ, ◌+◌, ◌≤◌, ◌<◌, ltb, length, get_or, set, Result, Ok, Err, ⊤}
 use Rattle.text.specs.Bytes.{pick}
-use Rattle.store.specs.declared.table.Room.{Room}
-use Rattle.store.specs.declared.table.Room.TheVariants as R
 use Rattle.store.specs.Held.{Held}
 use Rattle.store.specs.Shares.{owners, share_sizes, use_of, claims}
 use Rattle.store.specs.Layout.{Given, encode_index}
 use Rattle.store.specs.Inner.{sizes}
 use Rattle.store.specs.Claims.{Addable, row_use}
+use Rattle.store.specs.declared.table.Full.TheVariants as R
+use Rattle.store.specs.declared.table.Full.{Full}
 
 -- the first n rows are those of the lines hs, as far as uses tell
 abbrev pub UsedBy : List ℕ → ℕ → List Held → Type 0
@@ -27,10 +27,10 @@ pub record Weighs (a : List ℕ) (n : ℕ) (g : List ℕ) (bytes m : ℕ) : Type
   pub is : get_or g owner 0 ≡ bytes
 
 -- 26, then 21: m bytes of text, i of the index, of which `end` are then in use
-abbrev pub Weighed : List ℕ → ℕ → List ℕ → ℕ → ℕ → ℕ → Room → Type 0
+abbrev pub Weighed : List ℕ → ℕ → List ℕ → ℕ → ℕ → ℕ → Result ⊤ Full → Type 0
 Weighed a n g m i end r =
     (hs : List Held) → UsedBy a n hs
-    → r ≡ pick (ltb m (claims g hs)) R.TextFull (pick (ltb i end) R.IndexFull R.Fits)
+    → r ≡ pick (ltb m (claims g hs)) (Err R.Text) (pick (ltb i end) (Err R.Index) (Ok tt))
 
 -- `write_share`: the index has the shares g and the lines hs; s are the shares with the new one
 pub record Writes (i s : List ℕ) (o had share : ℕ) (g : List ℕ) (hs : List Held) : Type 0 where

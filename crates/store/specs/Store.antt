@@ -1,16 +1,10 @@
 -- What each call of a store answers and leaves in its two buffers: the definitions that the contracts cite.
 -- Public contracts rest on these definitions; they assume nothing.
-use Rattle.std.specs.Prelude.{Bool, ◌&&◌, List, [], ◌∷◌, ℕ, leb, length, replicate}
+use Rattle.std.specs.Prelude.{Bool, true, false, ◌&&◌, List, [], ◌∷◌, ℕ, leb, length, replicate, Result, Ok, Err, ⊤}
 use Rattle.std.proofs.Math.Option.{Option, none, some}
 use Rattle.text.specs.Bytes.{pick}
-use Rattle.store.specs.declared.calls.Answer.{Answer}
-use Rattle.store.specs.declared.calls.Answer.TheVariants as A
 use Rattle.store.specs.declared.calls.Inserted.{Inserted}
 use Rattle.store.specs.declared.calls.Tally.{Tally}
-use Rattle.store.specs.declared.calls.Look.{Look}
-use Rattle.store.specs.declared.calls.Look.TheVariants as L
-use Rattle.store.specs.declared.sharing.ShareTold.{ShareTold}
-use Rattle.store.specs.declared.sharing.ShareTold.TheVariants as T
 use Rattle.text.specs.declared.uuid.Uuid.{Uuid}
 use Rattle.store.specs.declared.parties.Party.{Party}
 use Rattle.store.specs.Parties.{owner_of, by_owner}
@@ -21,6 +15,12 @@ use Rattle.store.specs.Decode.{content}
 use Rattle.store.specs.Book.{caller, Turn, book_walk, inserted_of, nobody_inserts, book_attempt, Attempt, refused}
 use Rattle.store.specs.Book.{files, Setting, book_share, Saving, Call, clear, insert, save, share}
 use Rattle.store.specs.Book.{Reply, cleared, inserted, saved, shared}
+use Rattle.store.specs.declared.calls.StoreError.TheVariants as E
+use Rattle.store.specs.declared.calls.LookError.TheVariants as L
+use Rattle.store.specs.declared.calls.StoreError.{StoreError}
+use Rattle.store.specs.declared.calls.LookError.{LookError}
+use Rattle.store.specs.declared.sharing.ShareUse.{ShareUse}
+use Rattle.store.specs.declared.sharing.Unsound.{Unsound}
 
 -- an answer, and the two buffers afterwards
 pub record Done (A : Type 0) : Type 0 where
@@ -45,8 +45,8 @@ on_lines i t none e f = unchanged i t e
 on_lines i t (some c) e f = holding i t (f c).answer (with_held c (f c).held)
 
 -- the same for its shares
-abbrev pub on_shares : List ℕ → List ℕ → Option Content → (Content → Setting) → Done Answer
-on_shares i t none f = unchanged i t A.Unsound
+abbrev pub on_shares : List ℕ → List ℕ → Option Content → (Content → Setting) → Done (Result ⊤ StoreError)
+on_shares i t none f = unchanged i t (Err E.Unsound)
 on_shares i t (some c) f = holding i t (f c).answer (f c).content
 
 -- both buffers are within the limit
@@ -54,16 +54,16 @@ abbrev pub fitting : List ℕ → List ℕ → Bool
 fitting i t = leb (length i) index_max && leb (length t) text_max
 
 -- "Clear sets every byte of both buffers to 0, whether the store was sound or not."; "a buffer over 65535": 23
-unfoldable pub store_clear : List ℕ → List ℕ → Done Answer
+unfoldable pub store_clear : List ℕ → List ℕ → Done (Result ⊤ StoreError)
 store_clear i t =
     pick (fitting i t)
-    (record { answer = A.Done; index = replicate (length i) 0; text = replicate (length t) 0 })
-    (unchanged i t A.BufferTooLarge)
+    (record { answer = Ok tt; index = replicate (length i) 0; text = replicate (length t) 0 })
+    (unchanged i t (Err E.BufferTooLarge))
 
 -- "Insert 19, 10, then per line 20, 21", and P10's 25; "0 on 19 or 10": for an owner
 unfoldable pub store_walk : List ℕ → List ℕ → ℕ → List ℕ → Done Tally
 store_walk i t o s =
-    on_lines i t (content i t) (record { answer = A.Unsound; count = 0 })
+    on_lines i t (content i t) (record { answer = Err E.Unsound; count = 0 })
     (λ c. book_walk (caller (length i) (length t) c.shares o) c.held s)
 
 -- with the number of lines that were filed in another form than 32 digits (request P11)
@@ -86,16 +86,16 @@ store_attempt unsound full crowded i t o (files h v) =
     (λ c. book_attempt full crowded (caller (length i) (length t) c.shares o) c.held (files h v))
 
 -- P10: the share of an owner's party is set; 19, 26, 21
-unfoldable pub store_share : List ℕ → List ℕ → ℕ → ℕ → Done Answer
+unfoldable pub store_share : List ℕ → List ℕ → ℕ → ℕ → Done (Result ⊤ StoreError)
 store_share i t o b = on_shares i t (content i t) (λ c. book_share (length i) (length t) c o b)
 
 -- P10: what is told of a party, its share and its use; 19 where the store is not sound
-abbrev pub told_of : ℕ → Option Content → ShareTold
-told_of o none = T.Unsound
-told_of o (some c) = T.Told (record { share = share_of o c.shares; used = use_of o c.held })
+abbrev pub told_of : ℕ → Option Content → Result ShareUse Unsound
+told_of o none = Err (record {})
+told_of o (some c) = Ok (record { share = share_of o c.shares; used = use_of o c.held })
 
 -- P10: the share and the use of an owner's party, or 19
-unfoldable pub store_told : List ℕ → List ℕ → ℕ → ShareTold
+unfoldable pub store_told : List ℕ → List ℕ → ℕ → Result ShareUse Unsound
 store_told i t o = told_of o (content i t)
 
 -- ---- look-up
@@ -124,11 +124,11 @@ unfoldable pub look_up : Party → Uuid → List ℕ → List ℕ → Looked
 look_up p u i t = by_owner (owner_of p) no_owner (λ o. look_by (key_by o u) i t)
 
 -- "one says found, none or 19; the other hands back the line as a part of the text buffer, empty unless found"
-abbrev pub says_of : Looked → Look
-says_of (found l) = L.Found
-says_of nothing = L.Missing
-says_of unsound = L.Unsound
-says_of no_owner = L.NoOwner
+abbrev pub says_of : Looked → Result Bool LookError
+says_of (found l) = Ok true
+says_of nothing = Ok false
+says_of unsound = Err L.Unsound
+says_of no_owner = Err L.NoOwner
 
 -- the line that is found, else an empty part
 abbrev pub line_of : Looked → List ℕ

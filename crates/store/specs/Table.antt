@@ -1,20 +1,15 @@
 -- Lines by number while an insert files them: a row for each, and the lines that are still held. What is struck out
 -- has length 0.
 -- No public contract rests on these: a reader may leave them out.
-use Rattle.std.specs.Prelude.{◌≡◌, true, false, List, [], ◌∷◌, ◌++◌, ℕ, zero, suc, ◌+◌, ◌-◌, ◌≤◌, ◌<◌, eqb, ltb, length, take, drop, replicate}
+use Rattle.std.specs.Prelude.{Option as Optional, MatchOption, false, ◌≡◌, true, List, [], ◌∷◌, ◌++◌, ℕ, zero, suc, ◌+◌, ◌-◌, ◌≤◌, ◌<◌, eqb, ltb, length, take, drop, replicate, Result, Ok, Err, ⊤}
 use Rattle.std.proofs.Math.Option.{Option, some}
 use Rattle.text.specs.Bytes.{pick}
 use Rattle.store.specs.declared.table.Fill.{Fill}
-use Rattle.store.specs.declared.table.Room.{Room}
-use Rattle.store.specs.declared.table.Room.TheVariants as R
-use Rattle.store.specs.declared.table.Tried.{Tried}
 use Rattle.store.specs.declared.claims.Dues.{Dues}
 use Rattle.store.specs.declared.settle.Kept.{Kept}
 use Rattle.store.specs.declared.soundness.Surveyed.{Surveyed}
 use Rattle.store.specs.declared.soundness.Stock.{Stock}
-use Rattle.store.specs.declared.look.Seen.{Seen}
 use Rattle.store.specs.declared.calls.Tally.{Tally}
-use Rattle.store.specs.declared.batch.Step.{Step}
 use Rattle.store.specs.declared.batch.Walked.{Walked}
 use Rattle.store.specs.Held.{Key, Held, file, index_max, text_max, line_max}
 use Rattle.store.specs.Decode.{walk, decode, content}
@@ -26,7 +21,8 @@ use Rattle.store.specs.Layout.{record_bytes, records, texts, encode_records, enc
 use Rattle.store.specs.Keys.{rows_max, Says, Lists, Chained}
 use Rattle.store.specs.Rows.{key_in, start_in, len_in, len_put, Long}
 use Rattle.store.specs.Inner.{known, Fitted, behind, GoodFor, sizes}
-use Rattle.store.specs.Store.{look_by, says_of, line_of}
+use Rattle.store.specs.declared.table.Full.{Full}
+use Rattle.store.specs.declared.calls.StoreError.{StoreError}
 
 -- the lines of the first n numbers, each of which gives one line or none
 unfoldable pub living : (ℕ → List Held) → ℕ → List Held
@@ -148,25 +144,26 @@ Loads i a heads next f =
 
 -- `survey`: the store is sound but for keys that stand twice; what is told of those
 pub record Surveys (i t : List ℕ) (a : List ℕ) (heads next : List ℕ) (r : Surveyed) : Type 0 where
-  pub is : r.whole ≡ known (walk (suc (length i)) 0 i t)
+  pub is : known (walk (suc (length i)) 0 i t) ≡ true
   pub most : r.fill.count < rows_max
   pub says : Says (key_in a) r.fill.count r.verdict
   pub chained : Chained (key_in a) heads next r.fill.count
-  pub lists : r.whole ≡ true → Lists i (key_in a) r.fill.count
-  pub loads : r.whole ≡ true → Loads i a heads next r.fill
+  pub lists : Lists i (key_in a) r.fill.count
+  pub loads : Loads i a heads next r.fill
+
+abbrev pub OnceSurveyed : List ℕ → List ℕ → List ℕ → List ℕ → List ℕ → Optional Surveyed → Type 0
+OnceSurveyed i t a heads next r =
+    MatchOption r (known (walk (suc (length i)) 0 i t) ≡ false) (Surveys i t a heads next)
 
 -- `take_stock`: the store is sound
 pub record Stocks (i t g : List ℕ) (a : List ℕ) (heads next : List ℕ) (r : Stock) : Type 0 where
-  pub is : r.sound ≡ known (content i t)
-  pub front : r.sound ≡ true → Fronts i g r.front
-  pub most : r.sound ≡ true → length i ≤ index_max
-  pub loads : r.sound ≡ true → Loads (drop r.front i) a heads next r.fill × (r.fill.count < rows_max)
+  pub is : known (content i t) ≡ true
+  pub front : Fronts i g r.front
+  pub most : length i ≤ index_max
+  pub loads : Loads (drop r.front i) a heads next r.fill × (r.fill.count < rows_max)
 
--- `look`: what a look-up says, and where the line lies
-pub record Sees (i t : List ℕ) (k : Key) (r : Seen) : Type 0 where
-  pub how : r.how ≡ says_of (look_by k i t)
-  pub within : r.start + r.len ≤ length t
-  pub line : take r.len (drop r.start t) ≡ line_of (look_by k i t)
+abbrev pub OnceStocked : List ℕ → List ℕ → List ℕ → List ℕ → List ℕ → List ℕ → Optional Stock → Type 0
+OnceStocked i t g a heads next r = MatchOption r (known (content i t) ≡ false) (Stocks i t g a heads next)
 
 -- `len_before`, `strike_before`: of the number before r; none where r is 0
 abbrev pub len_before : List ℕ → ℕ → ℕ
@@ -198,14 +195,14 @@ Fileable d i t a heads next f u start len =
 
 -- it is filed, or there is no room and the lines are as before
 pub data Filed (g i t s : List ℕ) (a : List ℕ) (heads next : List ℕ) (old : ℕ) (f : Fill) (h : Held)
-    (hs : List Held) (r : Tried) : Type 0 where
-  fits : room_for (behind g i t h.key.owner) h hs ≡ R.Fits → r.room ≡ R.Fits
-      → InRows i t s a heads next old r.fill (file h hs) → Filed g i t s a heads next old f h hs r
-  full : room_for (behind g i t h.key.owner) h hs ≡ r.room → (r.room ≡ R.Fits → ⊥)
+    (hs : List Held) (r : Result Fill Full) : Type 0 where
+  fits : (f' : Fill) → room_for (behind g i t h.key.owner) h hs ≡ Ok tt → r ≡ Ok f'
+      → InRows i t s a heads next old f' (file h hs) → Filed g i t s a heads next old f h hs r
+  full : (e : Full) → room_for (behind g i t h.key.owner) h hs ≡ Err e → r ≡ Err e
       → Tabled i t s a old f.count hs → Filed g i t s a heads next old f h hs r
 
 abbrev pub FilesRow : Dues → List ℕ → List ℕ → List ℕ → List ℕ → List ℕ → Fill → Key → ℕ → ℕ → List ℕ → List ℕ
-    → List ℕ → Tried → Type 0
+    → List ℕ → Result Fill Full → Type 0
 FilesRow d i t a heads next f u start len a' heads' next' r =
     (g s : List ℕ) (old : ℕ) (hs : List Held) → Files' g d i t s a heads next old f u start len hs
     → Filed g i t s a' heads' next' old f (record { key = u; line = take len (drop start s) }) hs r
@@ -219,7 +216,7 @@ pub record Encoded (n m : ℕ) (i t : List ℕ) (hs : List Held) : Type 0 where
 abbrev pub SomeDues : Dues → ℕ → List ℕ → List ℕ → Type 0
 SomeDues d o i t = (g : List ℕ) × ((hs : List Held) → decode i t ≡ some hs → Owed g o hs d)
 
-abbrev pub FilesLine : Dues → List ℕ → List ℕ → Held → Room → List ℕ → List ℕ → Type 0
+abbrev pub FilesLine : Dues → List ℕ → List ℕ → Held → Result ⊤ Full → List ℕ → List ℕ → Type 0
 FilesLine d i t h r i' t' =
     (g : List ℕ) (hs : List Held) → decode i t ≡ some hs → Owed g h.key.owner hs d
     → (r ≡ room_for (behind g i t h.key.owner) h hs)
@@ -231,35 +228,35 @@ SomeRows d o i t s a heads next f =
 
 -- `reach_row`: what one line of an insert does
 pub data Comes (g i t s : List ℕ) (a : List ℕ) (heads next : List ℕ) (old o : ℕ) (l : List ℕ) (hs : List Held)
-    (r : Step) : Type 0 where
-  goes : (ks : List Held) → reach (behind g i t o) hs l ≡ after ks → r.on ≡ true
-      → InRows i t s a heads next old r.fill ks → Comes g i t s a heads next old o l hs r
-  stops : reach (behind g i t o) hs l ≡ stopped r.answer → r.on ≡ false
-      → Tabled i t s a old r.fill.count hs → Comes g i t s a heads next old o l hs r
+    (f : Fill) (r : Result Fill StoreError) : Type 0 where
+  goes : (f' : Fill) (ks : List Held) → reach (behind g i t o) hs l ≡ after ks → r ≡ Ok f'
+      → InRows i t s a heads next old f' ks → Comes g i t s a heads next old o l hs f r
+  stops : (e : StoreError) → reach (behind g i t o) hs l ≡ stopped (Err e) → r ≡ Err e
+      → Tabled i t s a old f.count hs → Comes g i t s a heads next old o l hs f r
 
 abbrev pub ReachesRow : Dues → List ℕ → List ℕ → List ℕ → List ℕ → List ℕ → List ℕ → Fill → ℕ → List ℕ → List ℕ
-    → List ℕ → List ℕ → Step → Type 0
+    → List ℕ → List ℕ → Result Fill StoreError → Type 0
 ReachesRow d i t s a heads next f o l a' heads' next' r =
     (g : List ℕ) (old : ℕ) (hs : List Held) → Owed g o hs d → InRows i t s a heads next old f hs
-    → Comes g i t s a' heads' next' old o l hs r
+    → Comes g i t s a' heads' next' old o l hs f r
 
 -- `take_lines`, `insert_batch`: the lines from `from` on are walked, to the end, to one that stops the insert, or to a
 -- place from which it goes on; P holds of the lines that are held then
 pub data Takes (by : Caller) (s : List ℕ) (from : ℕ) (hs : List Held) (r : Walked) (P : List Held → Type 0)
     : Type 0 where
-  onward : (ks : List Held) → r.on ≡ true
+  onward : (ks : List Held) → r.answer ≡ Ok tt
       → ((c : ℕ) → insert_lines by hs c (lines_of (drop from s))
       ≡ insert_lines by ks (c + r.count) (lines_of (drop r.at s)))
       → (GoodFor by hs → GoodFor by ks) → P ks → Takes by s from hs r P
-  halted : (ks : List Held) → r.on ≡ false
-      → ((c : ℕ) → insert_lines by hs c (lines_of (drop from s)) ≡ insert_turn ks r.answer (c + r.count))
+  halted : (ks : List Held) (e : StoreError) → r.answer ≡ Err e
+      → ((c : ℕ) → insert_lines by hs c (lines_of (drop from s)) ≡ insert_turn ks (Err e) (c + r.count))
       → (GoodFor by hs → GoodFor by ks) → P ks → Takes by s from hs r P
 
 -- how far it went; f numbers were taken before
 pub record Went (s : List ℕ) (from f : ℕ) (r : Walked) : Type 0 where
   pub within : r.at ≤ length s + 1
   pub counted : from + r.count ≤ r.at
-  pub moved : f < rows_max → from < length s → r.on ≡ true → from < r.at
+  pub moved : f < rows_max → from < length s → r.answer ≡ Ok tt → from < r.at
 
 abbrev pub TakesLines : Dues → List ℕ → List ℕ → List ℕ → List ℕ → List ℕ → List ℕ → ℕ → ℕ → Fill → List ℕ → Walked
     → Type 0

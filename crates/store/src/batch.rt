@@ -6,109 +6,62 @@ ghost use Rattle.store.specs.Layout.{Given};
 ghost use Rattle.store.specs.Keys.{rows_max};
 ghost use Rattle.store.specs.Table.{SomeRows, ReachesRow, TakesLines, Went, Batches};
 
-use crate::calls::Answer;
+use crate::calls::StoreError;
+use crate::chains::Table;
 use crate::claims::{Dues, dues_of};
 use crate::lines::{line_length, wanted};
 use crate::parties::Key;
-use crate::rows::{CELLS, ROWS};
+use crate::rows::ROWS;
 use crate::search::find_far;
 use crate::settle::settle;
 use crate::shares::OWNERS;
 use crate::soundness::{LINE_MAX, survey};
-use crate::table::{Fill, Room, file_row};
-use text::uuid::UuidParse;
+use crate::table::{Fill, Full, file_row};
 
-// Whether an insert goes on after a line, its answer if it does not, and what is filled.
-#[derive(Clone, Copy)]
-pub struct Step {
-    pub on: bool,
-    pub answer: Answer,
-    pub fill: Fill,
-}
-
-// How far lines were walked: whether the insert goes on, its answer if it does not, the place, the lines walked, and
-// how many numbers are taken.
+// How far lines were walked: what stops the insert, if anything does, the place, the lines walked, and how many numbers
+// are taken.
 #[derive(Clone, Copy)]
 pub struct Walked {
-    pub on: bool,
-    pub answer: Answer,
+    pub answer: Result<(), StoreError>,
     pub at: usize,
     pub count: usize,
     pub filled: usize,
 }
 
-// A line that stops the insert.
-fn stop(answer: Answer, fill: Fill) -> Step
-    ensures { result ≡ record { on = false; answer = answer; fill = fill } }
-{
-    Step {
-        on: false,
-        answer,
-        fill,
-    }
-}
-
-// One line of an owner's insert.
+// One line of an owner's insert: what is filled after it, or why it stops the insert.
 fn reach_row(
     index: &[u8],
     text: &[u8],
     lines: &[u8],
-    rows: &mut [u64; CELLS],
-    heads: &mut [u16; ROWS],
-    next: &mut [u16; ROWS],
+    table: &mut Table,
     fill: Fill,
     dues: Dues,
     owner: u8,
     at: usize,
     len: usize,
-) -> Step
+) -> Result<Fill, StoreError>
     requires count_lt_rows_max { (fill.count < rows_max) × (at + len ≤ length lines.now) }
     requires some_rows { SomeRows dues owner index.now text.now lines.now
-        rows.old heads.old next.old
+        table.old.rows table.old.heads table.old.next
         fill }
     ensures { ReachesRow dues index.now text.now
         lines.now
-        rows.old heads.old next.old fill owner
+        table.old.rows table.old.heads table.old.next fill owner
         (take len (drop at lines.now))
-        rows.new heads.new next.new result }
+        table.new.rows table.new.heads table.new.next result }
 {
-    let UuidParse::Parsed(spelled) = wanted(&lines[at..at + len]) else {
-        return Step {
-            on: true,
-            answer: Answer::Done,
-            fill,
-        };
+    let Some(spelled) = wanted(&lines[at..at + len]) else {
+        return Ok(fill);
     };
     if LINE_MAX < len {
-        return stop(Answer::LineTooLong, fill);
+        return Err(StoreError::LineTooLong);
     }
     let uuid = spelled.id;
     let key = Key { owner, uuid };
-    let tried = file_row(index, text, rows, heads, next, fill, dues, key, at, len);
-    let room = tried.room;
-    let filled = tried.fill;
-    match room {
-        Room::IndexFull => stop(Answer::NoRoom, fill),
-        Room::TextFull => stop(Answer::NoText, fill),
-        Room::Fits => Step {
-            on: true,
-            answer: Answer::Done,
-            fill: filled,
-        },
-    }
-}
-
-// How far lines were walked, in one.
-fn report(on: bool, answer: Answer, at: usize, count: usize, fill: Fill) -> Walked
-    ensures { result ≡ record { on = on; answer = answer; at = at; count = count; filled = fill.count } }
-{
-    let filled = fill.count;
-    Walked {
-        on,
-        answer,
-        at,
-        count,
-        filled,
+    match file_row(index, text, table, fill, dues, key, at, len) {
+        Ok(filled) => Ok(filled),
+        Err(Full::Index) => Err(StoreError::NoRoom),
+        Err(Full::Text) => Err(StoreError::NoText),
     }
 }
 
@@ -117,9 +70,7 @@ fn take_lines(
     index: &[u8],
     text: &[u8],
     lines: &[u8],
-    rows: &mut [u64; CELLS],
-    heads: &mut [u16; ROWS],
-    next: &mut [u16; ROWS],
+    table: &mut Table,
     first: Fill,
     dues: Dues,
     owner: u8,
@@ -127,33 +78,42 @@ fn take_lines(
 ) -> Walked
     requires from_in_bounds { from ≤ length lines.now + 1 }
     requires some_rows { SomeRows dues owner index.now text.now lines.now
-        rows.old heads.old next.old
+        table.old.rows table.old.heads table.old.next
         first }
     ensures takes_lines { TakesLines dues index.now text.now
         lines.now
-        rows.old heads.old next.old owner from first
-        rows.new result }
+        table.old.rows table.old.heads table.old.next owner from first
+        table.new.rows result }
     ensures went { Went lines.now from first.count result }
 {
     let mut at = from;
     let mut count = 0;
     let mut fill = first;
+    // A `while`, since it may stop within the text and hands its place back, which no `split` tells.
     while at < lines.len() && fill.count < ROWS {
         let end = find_far(&lines[at..], b'\n');
         let len = line_length(&lines[at..], end);
         let start = at;
-        let step = reach_row(
-            index, text, lines, rows, heads, next, fill, dues, owner, start, len,
-        );
-        fill = step.fill;
-        if !step.on {
-            let answer = step.answer;
-            return report(false, answer, at, count, fill);
+        match reach_row(index, text, lines, table, fill, dues, owner, start, len) {
+            Ok(filled) => fill = filled,
+            Err(e) => {
+                return Walked {
+                    answer: Err(e),
+                    at,
+                    count,
+                    filled: fill.count,
+                };
+            }
         }
         count += 1;
         at += end + 1;
     }
-    report(true, Answer::Done, at, count, fill)
+    Walked {
+        answer: Ok(()),
+        at,
+        count,
+        filled: fill.count,
+    }
 }
 
 // Files the lines from a place on, into a sound store, as far as there are numbers for them. The index is the part
@@ -173,16 +133,12 @@ pub fn insert_batch(
         index.new text.new }
     ensures went { Went lines.now from 0 result }
 {
-    let mut rows = [0u64; CELLS];
-    let mut heads = [0u16; ROWS];
-    let mut next = [0u16; ROWS];
-    let seen = survey(index, text, &mut rows, &mut heads, &mut next);
+    let mut table = Table::new();
+    let seen = survey(index, text, &mut table).unwrap();
     let fill = seen.fill;
-    let dues = dues_of(&rows, fill, shares, owner);
-    let part = take_lines(
-        index, text, lines, &mut rows, &mut heads, &mut next, fill, dues, owner, from,
-    );
+    let dues = dues_of(&table.rows, fill, shares, owner);
+    let part = take_lines(index, text, lines, &mut table, fill, dues, owner, from);
     let count = part.filled;
-    settle(index, text, lines, &rows, fill, count);
+    settle(index, text, lines, &table.rows, fill, count);
     part
 }

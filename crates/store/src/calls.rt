@@ -8,26 +8,24 @@ ghost use Rattle.store.specs.Saves.{save_args, store_save};
 ghost use Rattle.store.specs.Store.{store_clear, store_walk, store_insert, look_up, line_of, says_of};
 
 use crate::batch::insert_batch;
-use crate::bytes::zero_all;
-use crate::look::look;
-use crate::owners::{Owner, owner_of};
+use crate::look::{line_at, look};
+use crate::owners::owner_of;
 use crate::parties::{Key, Party};
 use crate::saving::{file_built, refused_save, saved_as, unsaved_name};
 use crate::shares::{OWNERS, read_shares};
 use crate::soundness::{INDEX_MAX, LINE_MAX, TEXT_MAX, sound};
 use crate::spellings::other_spellings;
 use line::mapping::Mapping;
-use map::error::{MappingAnswer, MappingError};
+use map::error::MappingError;
 use map::from_data::from_data;
 use map::mapping_data::MappingData;
 use text::utf8::{is_utf8, valid_up_to};
 use text::uuid::Uuid;
 
-// What a call answers; `NotUtf8` with the length of the text's valid run, `NoOwner` where an organiser names itself 0,
+// Why a call is refused; `NotUtf8` with the length of the text's valid run, `NoOwner` where an organiser names itself 0,
 // `NoText` and `ShareTooLarge` where shares and uses would exceed the text.
-#[derive(Clone, Copy)]
-pub enum Answer {
-    Done,
+#[derive(Clone, Copy, PartialEq, Eq)]
+pub enum StoreError {
     NotUtf8(usize),
     Unsound,
     LineTooLong,
@@ -41,22 +39,21 @@ pub enum Answer {
 // What a walk over the lines of an insert comes to: the answer, and the lines walked.
 #[derive(Clone, Copy)]
 pub struct Tally {
-    pub answer: Answer,
+    pub answer: Result<(), StoreError>,
     pub count: usize,
 }
 
 // An insert's answer, the lines walked, and how many of them were filed in another form of the UUID than 32 digits.
 #[derive(Clone, Copy)]
 pub struct Inserted {
-    pub answer: Answer,
+    pub answer: Result<(), StoreError>,
     pub count: usize,
     pub not_simple: usize,
 }
 
-// What a save answers: done, build's refusal, a name that has LF or `platform:`, or as the other calls.
+// Why a save is refused: build's refusal, a name that has LF or `platform:`, or as the other calls.
 #[derive(Clone, Copy)]
-pub enum SaveAnswer {
-    Done,
+pub enum SaveError {
     Refused(MappingError),
     UnsavedName,
     Unsound,
@@ -68,28 +65,26 @@ pub enum SaveAnswer {
 // A save's answer, and its map.
 #[derive(Clone, Copy)]
 pub struct Saved {
-    pub answer: SaveAnswer,
+    pub answer: Result<(), SaveError>,
     pub map: Mapping,
 }
 
-// What a look-up says: the party holds a line, it holds none, the store is not sound, or an organiser names itself 0.
-#[derive(Clone, Copy)]
-pub enum Look {
-    Found,
-    Missing,
+// Why a look-up is refused: the store is not sound, or an organiser names itself 0.
+#[derive(Clone, Copy, PartialEq, Eq)]
+pub enum LookError {
     Unsound,
     NoOwner,
 }
 
 // Whether a party holds a line under that UUID.
-pub fn found(index: &[u8], text: &[u8], party: Party, uuid: Uuid) -> Look
+pub fn found(index: &[u8], text: &[u8], party: Party, uuid: Uuid) -> Result<bool, LookError>
     ensures { result ≡ says_of (look_up party uuid index.now text.now) }
 {
-    let Owner::Byte(owner) = owner_of(party) else {
-        return Look::NoOwner;
-    };
-    let seen = look(index, text, Key { owner, uuid });
-    seen.how
+    match look(index, text, party, uuid) {
+        Ok(Some(_)) => Ok(true),
+        Ok(None) => Ok(false),
+        Err(e) => Err(e),
+    }
 }
 
 // The line that a party holds under a UUID, as a part of the text; an empty part where it holds none, the store is not
@@ -97,29 +92,26 @@ pub fn found(index: &[u8], text: &[u8], party: Party, uuid: Uuid) -> Look
 pub fn get<'a>(index: &[u8], text: &'a [u8], party: Party, uuid: Uuid) -> &'a [u8]
     ensures { result.now ≡ line_of (look_up party uuid index.now text.now) }
 {
-    let Owner::Byte(owner) = owner_of(party) else {
-        return &text[0..0];
-    };
-    let seen = look(index, text, Key { owner, uuid });
-    let offset = seen.start;
-    let length = seen.len;
-    &text[offset..offset + length]
+    match look(index, text, party, uuid) {
+        Ok(part) => line_at(text, part),
+        Err(_) => line_at(text, None),
+    }
 }
 
 // Sets every byte of both buffers to 0, whether the store was sound or not.
-pub fn clear(index: &mut [u8], text: &mut [u8]) -> Answer
+pub fn clear(index: &mut [u8], text: &mut [u8]) -> Result<(), StoreError>
     ensures { record { answer = result; index = index.new; text = text.new }
         ≡ store_clear index.old text.old }
 {
     if INDEX_MAX < index.len() {
-        return Answer::BufferTooLarge;
+        return Err(StoreError::BufferTooLarge);
     }
     if TEXT_MAX < text.len() {
-        return Answer::BufferTooLarge;
+        return Err(StoreError::BufferTooLarge);
     }
-    zero_all(index);
-    zero_all(text);
-    Answer::Done
+    index.fill(0);
+    text.fill(0);
+    Ok(())
 }
 
 // Files the wanted lines of a text for an owner, in order, up to one that is too long or has no room: into a sound
@@ -138,17 +130,22 @@ fn insert_all(
 {
     let mut at = 0;
     let mut count = 0;
+    // A `while`, since no index is counted: each batch says how far it came.
     while at < lines.len() {
         let some = insert_batch(part, text, shares, owner, lines, at);
         count += some.count;
-        if !some.on {
-            let answer = some.answer;
-            return Tally { answer, count };
+        match some.answer {
+            Ok(()) => at = some.at,
+            Err(e) => {
+                return Tally {
+                    answer: Err(e),
+                    count,
+                };
+            }
         }
-        at = some.at;
     }
     Tally {
-        answer: Answer::Done,
+        answer: Ok(()),
         count,
     }
 }
@@ -160,13 +157,13 @@ fn walk_insert(index: &mut [u8], text: &mut [u8], owner: u8, lines: &[u8]) -> Ta
 {
     if !sound(index, text) {
         return Tally {
-            answer: Answer::Unsound,
+            answer: Err(StoreError::Unsound),
             count: 0,
         };
     }
     if !is_utf8(lines) {
         return Tally {
-            answer: Answer::NotUtf8(valid_up_to(lines)),
+            answer: Err(StoreError::NotUtf8(valid_up_to(lines))),
             count: 0,
         };
     }
@@ -180,9 +177,9 @@ pub fn insert(index: &mut [u8], text: &mut [u8], party: Party, lines: &[u8]) -> 
     ensures { record { answer = result; index = index.new; text = text.new }
         ≡ store_insert index.old text.old party lines.now }
 {
-    let Owner::Byte(owner) = owner_of(party) else {
+    let Some(owner) = owner_of(party) else {
         return Inserted {
-            answer: Answer::NoOwner,
+            answer: Err(StoreError::NoOwner),
             count: 0,
             not_simple: 0,
         };
@@ -213,17 +210,17 @@ pub fn save(
         ≡ store_save index.old text.old party
         (save_args «data» buttons.now axes.now name.now uuid) }
 {
-    let Owner::Byte(owner) = owner_of(party) else {
-        return refused_save(SaveAnswer::NoOwner);
+    let Some(owner) = owner_of(party) else {
+        return refused_save(SaveError::NoOwner);
     };
     let mut scratch = [0u8; LINE_MAX];
     let built = from_data(data, buttons, axes, name, uuid, &mut scratch);
     let answer = built.answer;
-    if let MappingAnswer::Refused(e) = answer {
-        return refused_save(SaveAnswer::Refused(e));
+    if let Err(e) = answer {
+        return refused_save(SaveError::Refused(e));
     }
     if unsaved_name(name) {
-        return refused_save(SaveAnswer::UnsavedName);
+        return refused_save(SaveError::UnsavedName);
     }
     let len = built.len;
     let filed = file_built(index, text, Key { owner, uuid }, &scratch[0..len]);

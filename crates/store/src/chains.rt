@@ -3,7 +3,7 @@
 ghost use Rattle.std.specs.Prelude.{◌≡◌, true, false, ℕ, suc, ◌+◌, ◌-◌, ◌≤◌, ◌<◌};
 ghost use Rattle.store.specs.Keys.{rows_max, bucket, NotIn, Linked, Kin, Chained, Seeks, Sought};
 ghost use Rattle.store.specs.Keys.{seek_says, told_of, Tells};
-ghost use Rattle.store.specs.Rows.{key_in};
+ghost use Rattle.store.specs.Rows.{key_in, Long};
 
 use crate::parties::Key;
 use crate::rows::{CELLS, ROWS, key_at, same_at};
@@ -11,19 +11,12 @@ use crate::rows::{CELLS, ROWS, key_at, same_at};
 // The most steps in a chain where an order can be had instead.
 const CHAIN_MAX: usize = 16;
 
-// Whether a key stands twice, as far as a check shows it.
+// Whether a key stands twice, as far as a check shows it: three kinds of their own, and none stands for a missing value.
 #[derive(Clone, Copy)]
 pub enum Verdict {
     Apart,
     Twice,
     Unsure,
-}
-
-// A number of a key as a place.
-pub fn number(x: u16) -> usize
-    ensures { (result ≡ x) × (result < 65536) }
-{
-    x as usize
 }
 
 // A number below `ROWS` that the key gives.
@@ -36,7 +29,8 @@ fn bucket_of(key: Key) -> usize
 }
 
 // Seeks the key of number k in the chain that starts before `from`: one more than the number that has it, 0 where none
-// has it, and k + 1 where the chain has more than `most` steps.
+// has it, and k + 1 where the chain has more than `most` steps. So a found number is told as `heads` and `next` hold
+// it, in which 0 ends a chain.
 fn seek(rows: &[u64; CELLS], next: &[u16; ROWS], from: usize, k: usize, most: usize) -> usize
     requires k_lt_rows_max { (k < rows_max) × (from ≤ k) }
     requires linked { Linked (key_in rows.now) next.now k }
@@ -44,6 +38,7 @@ fn seek(rows: &[u64; CELLS], next: &[u16; ROWS], from: usize, k: usize, most: us
     ensures seeks { Seeks (key_in rows.now) k from result }
     ensures upper_bound { from ≤ most → result ≤ k }
 {
+    // A `while`, since no index is counted: the next number stands in the table, as a link, which 0 ends.
     let mut c = from;
     let mut left = most;
     while 0 < c {
@@ -53,20 +48,10 @@ fn seek(rows: &[u64; CELLS], next: &[u16; ROWS], from: usize, k: usize, most: us
         if same_at(rows, c - 1, k) {
             return c;
         }
-        c = number(next[c - 1]);
+        c = usize::from(next[c - 1]);
         left -= 1;
     }
     0
-}
-
-// One less, and 0 for 0.
-fn one_less(c: usize) -> usize
-    ensures { result ≡ c - 1 }
-{
-    if c == 0 {
-        return 0;
-    }
-    c - 1
 }
 
 // The first step of `seek` in the chain that starts before `from`, of number k, which is linked: `from` where the key
@@ -79,49 +64,67 @@ fn first_step(rows: &[u64; CELLS], next: &[u16; ROWS], from: usize, k: usize) ->
     ensures not_in { NotIn (key_in rows.now) k result from × (result ≤ from) }
     ensures kin_2 { Kin (key_in rows.now) k result }
 {
-    let at = one_less(from);
+    let at = from.saturating_sub(1);
     if same_at(rows, at, k) {
         return from;
     }
-    number(next[at])
+    usize::from(next[at])
 }
 
-// Seeks the key of number k among the numbers before it, which are in their chains: one more than the last that has
-// it, or 0.
-pub fn seek_before(rows: &[u64; CELLS], heads: &[u16; ROWS], next: &[u16; ROWS], k: usize) -> usize
-    requires k_lt_rows_max { k < rows_max }
-    requires chained { Chained (key_in rows.now) heads.now next.now k }
-    ensures sought { Sought (key_in rows.now) k result }
-    ensures upper_bound { result ≤ k }
-{
-    let key = key_at(rows, k);
-    let h = bucket_of(key);
-    let head = heads[h];
-    seek(rows, next, number(head), k, ROWS)
+// The lines that are written down by number: a row for each; chains of the numbers by their keys, each by one more than
+// its last number; and what stands before each number in its chain.
+#[derive(Drop)]
+pub struct Table {
+    pub rows: [u64; CELLS],
+    pub heads: [u16; ROWS],
+    pub next: [u16; ROWS],
 }
 
-// Puts number k in front of its chain, and answers as `seek` does.
-pub fn link(
-    rows: &[u64; CELLS],
-    heads: &mut [u16; ROWS],
-    next: &mut [u16; ROWS],
-    k: usize,
-    most: usize,
-) -> usize
-    requires k_lt_rows_max { k < rows_max }
-    requires chained { Chained (key_in rows.now) heads.old next.old k }
-    ensures sought { Sought (key_in rows.now) k result }
-    ensures chained_2 { Chained (key_in rows.now) heads.new next.new (k + 1) }
-    ensures upper_bound { rows_max ≤ most → result ≤ k }
-{
-    let key = key_at(rows, k);
-    let h = bucket_of(key);
-    let head = heads[h];
-    next[k] = head;
-    let from = first_step(rows, next, number(head), k);
-    let r = seek(rows, next, from, k, most);
-    heads[h] = ((k + 1) % 65536) as u16;
-    r
+impl Table {
+    // Nothing is written down.
+    pub fn new() -> Table
+        ensures long { Long result.rows }
+        ensures chained { Chained (key_in result.rows) result.heads result.next 0 }
+    {
+        Table {
+            rows: [0; CELLS],
+            heads: [0; ROWS],
+            next: [0; ROWS],
+        }
+    }
+
+    // Seeks the key of number k among the numbers before it, which are in their chains: one more than the last that has
+    // it, or 0.
+    pub fn seek_before(&self, k: usize) -> usize
+        requires k_lt_rows_max { k < rows_max }
+        requires chained { Chained (key_in self.now.rows) self.now.heads self.now.next k }
+        ensures sought { Sought (key_in self.now.rows) k result }
+        ensures upper_bound { result ≤ k }
+    {
+        let key = key_at(&self.rows, k);
+        let h = bucket_of(key);
+        let head = self.heads[h];
+        seek(&self.rows, &self.next, usize::from(head), k, ROWS)
+    }
+
+    // Puts number k in front of its chain, and answers as `seek` does.
+    pub fn link(&mut self, k: usize, most: usize) -> usize
+        requires k_lt_rows_max { k < rows_max }
+        requires chained { Chained (key_in self.old.rows) self.old.heads self.old.next k }
+        ensures rows_kept { self.new.rows ≡ self.old.rows }
+        ensures sought { Sought (key_in self.new.rows) k result }
+        ensures chained_2 { Chained (key_in self.new.rows) self.new.heads self.new.next (k + 1) }
+        ensures upper_bound { rows_max ≤ most → result ≤ k }
+    {
+        let key = key_at(&self.rows, k);
+        let h = bucket_of(key);
+        let head = self.heads[h];
+        self.next[k] = head;
+        let from = first_step(&self.rows, &self.next, usize::from(head), k);
+        let r = seek(&self.rows, &self.next, from, k, most);
+        self.heads[h] = (k + 1) as u16;
+        r
+    }
 }
 
 // What `seek` shows of the key of number n: it stands before, it does not, or the chain was too long.
@@ -160,19 +163,25 @@ pub fn steps(known: Verdict) -> usize {
     }
 }
 
-// Whether no key stands twice among the first n, each sought in its chain to the end.
-pub fn seek_all(rows: &[u64; CELLS], next: &[u16; ROWS], n: usize) -> bool
-    requires n_le_rows_max { n ≤ rows_max }
-    requires linked { Linked (key_in rows.now) next.now n }
-    ensures { Tells (key_in rows.now) n result }
+// The keys of the first `count` numbers, which are in their chains.
+#[derive(Clone, Copy)]
+pub struct Keyed<'a> {
+    pub rows: &'a [u64; CELLS],
+    pub next: &'a [u16; ROWS],
+    pub count: usize,
+    ghost few: { count ≤ rows_max },
+    ghost linked: { Linked (key_in rows.now) next.now count },
+}
+
+// Whether no key stands twice, each sought in its chain to the end.
+pub fn seek_all(keys: Keyed) -> bool
+    ensures { Tells (key_in keys.entry.rows.now) keys.entry.count result }
 {
-    let mut k = 0;
-    while k < n {
-        let r = seek(rows, next, number(next[k]), k, ROWS);
+    for k in 0..keys.count {
+        let r = seek(keys.rows, keys.next, usize::from(keys.next[k]), k, ROWS);
         if 0 < r {
             return false;
         }
-        k += 1;
     }
     true
 }

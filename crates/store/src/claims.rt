@@ -20,10 +20,7 @@ pub struct Dues {
 pub fn larger_of(used: usize, share: usize) -> usize
     ensures { result ≡ larger used share }
 {
-    if used < share {
-        return share;
-    }
-    used
+    used.max(share)
 }
 
 // What all parties claim once so many bytes of text are in use.
@@ -41,12 +38,10 @@ pub fn add_uses(rows: &[u64; CELLS], count: usize, uses: &mut [u64; OWNERS])
     requires addable { Addable rows.now count }
     ensures { Adds rows.now count uses.new }
 {
-    let mut k = 0;
-    while k < count {
+    for k in 0..count {
         let key = key_at(rows, k);
         let o = key.owner as usize;
-        uses[o] = uses[o] + len_at(rows, k) as u64;
-        k += 1;
+        uses[o] += len_at(rows, k) as u64;
     }
 }
 
@@ -56,11 +51,9 @@ pub fn claims_of(uses: &[u64; OWNERS], shares: &[u64; OWNERS]) -> usize
     ensures sums { Sums uses.now shares.now result }
     ensures covers { Covers uses.now shares.now result }
 {
-    let mut o = 0;
     let mut sum = 0;
-    while o < OWNERS {
+    for o in 0..OWNERS {
         sum += larger_of(uses[o] as usize, shares[o] as usize);
-        o += 1;
     }
     sum
 }

@@ -8,7 +8,7 @@ ghost use Rattle.store.specs.Inner.{first_line};
 
 use crate::search::{find_far, find_text};
 use text::bytes::{find_byte, same_bytes};
-use text::uuid::{Uuid, UuidParse};
+use text::uuid::{Spelled, Uuid};
 
 // The length of the first line, of which the LF stands at that place: without a CR before it.
 pub fn line_length(s: &[u8], end: usize) -> usize
@@ -41,12 +41,12 @@ fn for_platform(line: &[u8]) -> bool
     same_bytes(&line[start..start + end], b"Linux")
 }
 
-// The UUID of a wanted line; `Invalid` where the line is not wanted.
-pub fn wanted(line: &[u8]) -> UuidParse
+// The UUID of a wanted line; None where the line is not wanted.
+pub fn wanted(line: &[u8]) -> Option<Spelled>
     ensures { result ≡ isWanted line.now }
 {
     if !for_platform(line) {
-        return UuidParse::Invalid;
+        return None;
     }
     let end = find_far(line, b',');
     Uuid::parse_str(&line[0..end])

@@ -1,86 +1,82 @@
 // A look-up: the line of a key, by number.
 ghost use Rattle.std.specs.Prelude.{◌≡◌, ◌<◌};
 ghost use Rattle.store.specs.Keys.{rows_max};
-ghost use Rattle.store.specs.Table.{Sees};
-ghost use Rattle.store.specs.Sights.{Ready, Agree, Spots};
+ghost use Rattle.store.specs.Sights.{Ready, Agree, Spots, Inside, line_there, Sees};
+ghost use Rattle.store.specs.Store.{look_by, look_up};
 
-use crate::calls::Look;
-use crate::chains::seek_before;
-use crate::parties::Key;
-use crate::rows::{CELLS, ROWS, put_row, start_at};
+use crate::calls::LookError;
+use crate::chains::Table;
+use crate::owners::owner_of;
+use crate::parties::{Key, Party};
+use crate::rows::{put_row, start_at};
 use crate::shares::OWNERS;
 use crate::soundness::take_stock;
 use crate::table::{Fill, len_before};
+use text::uuid::Uuid;
 
-// Where in the text a line lies; length 0 where there is none.
+// Where in the text a line lies.
 #[derive(Clone, Copy)]
 pub struct Part {
     pub start: usize,
     pub len: usize,
 }
 
-// What a look-up says, and where in the text the line lies; length 0 unless one is found.
-#[derive(Clone, Copy)]
-pub struct Seen {
-    pub how: Look,
-    pub start: usize,
-    pub len: usize,
-}
-
 // Where the line of a key lies: the key is written down behind the lines that are held, and its chain tells the one
 // before.
-pub fn part_of(
-    rows: &mut [u64; CELLS],
-    heads: &[u16; ROWS],
-    next: &[u16; ROWS],
-    fill: Fill,
-    key: Key,
-) -> Part
+pub fn part_of(table: &mut Table, fill: Fill, key: Key) -> Option<Part>
     requires count_lt_rows_max { fill.count < rows_max }
-    requires ready { Ready rows.old heads.now next.now fill.count }
-    ensures ready_2 { Ready rows.new heads.now next.now fill.count }
-    ensures agree { Agree rows.old rows.new fill.count }
-    ensures spots { Spots rows.old heads.now next.now fill key result }
+    requires ready { Ready table.old.rows table.old.heads table.old.next fill.count }
+    ensures ready_2 { Ready table.new.rows table.new.heads table.new.next fill.count }
+    ensures chains_kept { (table.new.heads ≡ table.old.heads) × (table.new.next ≡ table.old.next) }
+    ensures agree { Agree table.old.rows table.new.rows fill.count }
+    ensures spots { Spots table.old.rows table.old.heads table.old.next fill key result }
 {
     let n = fill.count;
-    put_row(rows, n, key, 0, 0);
-    let r = seek_before(rows, heads, next, n);
-    let len = len_before(rows, r);
+    put_row(&mut table.rows, n, key, 0, 0);
+    let r = table.seek_before(n);
+    let len = len_before(&table.rows, r);
     if len == 0 {
-        return Part { start: 0, len: 0 };
+        return None;
     }
-    let start = start_at(rows, r - 1);
-    Part { start, len }
+    let start = start_at(&table.rows, r - 1);
+    Some(Part { start, len })
 }
 
 // Looks a key up in the lines of the store, which are written down.
-pub fn look(index: &[u8], text: &[u8], key: Key) -> Seen
-    ensures { Sees index.now text.now key result }
+//
+// `near_by` and `look_near` walk the same way and try twice. One function for both would take the try as a closure, and
+// its contract would say once more what `part_of` and `try_both` ask and promise: no plainer.
+fn look_by(index: &[u8], text: &[u8], key: Key) -> Result<Option<Part>, LookError>
+    ensures { Sees text.now (look_by key index.now text.now) result }
 {
-    let mut rows = [0u64; CELLS];
-    let mut heads = [0u16; ROWS];
-    let mut next = [0u16; ROWS];
+    let mut table = Table::new();
     let mut shares = [0u64; OWNERS];
-    let stock = take_stock(index, text, &mut shares, &mut rows, &mut heads, &mut next);
-    if !stock.sound {
-        return Seen {
-            how: Look::Unsound,
-            start: 0,
-            len: 0,
-        };
-    }
+    let Some(stock) = take_stock(index, text, &mut shares, &mut table) else {
+        return Err(LookError::Unsound);
+    };
     let fill = stock.fill;
-    let part = part_of(&mut rows, &heads, &next, fill, key);
-    if part.len == 0 {
-        return Seen {
-            how: Look::Missing,
-            start: 0,
-            len: 0,
-        };
+    Ok(part_of(&mut table, fill, key))
+}
+
+// Looks the line of a party's UUID up.
+pub fn look(index: &[u8], text: &[u8], party: Party, uuid: Uuid) -> Result<Option<Part>, LookError>
+    ensures { Sees text.now (look_up party uuid index.now text.now) result }
+{
+    match owner_of(party) {
+        Some(owner) => look_by(index, text, Key { owner, uuid }),
+        None => Err(LookError::NoOwner),
     }
-    Seen {
-        how: Look::Found,
-        start: part.start,
-        len: part.len,
-    }
+}
+
+// The line that lies there, as a part of the text; an empty part where none does.
+pub fn line_at<'a>(text: &'a [u8], part: Option<Part>) -> &'a [u8]
+    requires { Inside text.now part }
+    ensures { result.now ≡ line_there text.now part }
+{
+    let Some(part) = part else {
+        return &text[0..0];
+    };
+    let offset = part.start;
+    let length = part.len;
+    &text[offset..offset + length]
 }

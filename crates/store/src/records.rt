@@ -17,7 +17,8 @@ pub const HALL_SIZE: usize = 21;
 
 pub const OWNED_SIZE: usize = 22;
 
-// What the record at an index's front says; size 0 where no whole one stands there.
+// What the record at an index's front says; size 0 where no whole one stands there, as the definition of a walk over a
+// store has it: no Option, since that definition stays.
 #[derive(Clone, Copy)]
 pub struct Head {
     pub size: usize,
@@ -41,8 +42,8 @@ fn put_body(s: &mut [u8], uuid: Uuid, off: usize, len: usize)
 {
     put_u64(s, 0, uuid.high);
     put_u64(s, 8, uuid.low);
-    put_word(s, 16, off as u64);
-    put_word(s, 18, len as u64);
+    put_word(s, 16, off);
+    put_word(s, 18, len);
 }
 
 // Reads the body of a record.

@@ -1,95 +1,111 @@
-// Number, place and code of each answer of the store.
+// Number, place and code of each refusal of the store, and what each call's answer comes to.
 ghost use Rattle.std.specs.Prelude.{◌≡◌};
+ghost use Rattle.store.specs.Refusals.{store_refusal, save_refusal, look_refusal, unsound_refusal};
 ghost use Rattle.store.specs.Refusals.{store_outcome, save_outcome, look_outcome, told_outcome};
 ghost use Rattle.store.specs.Near.{near_outcome};
 
-use crate::calls::{Answer, Look, SaveAnswer};
-use crate::near::NearLook;
-use crate::sharing::ShareTold;
-use line::refusal::{Outcome, Refusal};
+use crate::calls::{LookError, SaveError, StoreError};
+use crate::near::Nearness;
+use crate::sharing::{ShareUse, Unsound};
+use line::refusal::Refusal;
 
-// What a look-up comes to: a line is held, none is, or it is refused.
-#[derive(Clone, Copy)]
-pub enum LookOutcome {
-    Finds,
-    FindsNone,
-    CannotLook(Refusal),
-}
-
-impl Answer {
-    // The answer of a clear, an insert or a share's setting.
-    pub fn outcome(self) -> Outcome
-        ensures { result ≡ store_outcome self }
+impl StoreError {
+    // A refusal of a clear, an insert or a share's setting.
+    pub fn refusal(self) -> Refusal
+        ensures { result ≡ store_refusal self }
     {
         match self {
-            Answer::Done => Outcome::Passes,
-            Answer::NotUtf8(place) => Outcome::Refuses(Refusal::at(10, place)),
-            Answer::Unsound => Outcome::Refuses(Refusal::plain(19)),
-            Answer::LineTooLong => Outcome::Refuses(Refusal::plain(20)),
-            Answer::NoRoom => Outcome::Refuses(Refusal::plain(21)),
-            Answer::BufferTooLarge => Outcome::Refuses(Refusal::plain(23)),
-            Answer::NoOwner => Outcome::Refuses(Refusal::plain(24)),
-            Answer::NoText => Outcome::Refuses(Refusal::plain(25)),
-            Answer::ShareTooLarge => Outcome::Refuses(Refusal::plain(26)),
+            StoreError::NotUtf8(place) => Refusal::at(10, place),
+            StoreError::Unsound => Refusal::plain(19),
+            StoreError::LineTooLong => Refusal::plain(20),
+            StoreError::NoRoom => Refusal::plain(21),
+            StoreError::BufferTooLarge => Refusal::plain(23),
+            StoreError::NoOwner => Refusal::plain(24),
+            StoreError::NoText => Refusal::plain(25),
+            StoreError::ShareTooLarge => Refusal::plain(26),
         }
     }
 }
 
-impl SaveAnswer {
-    // The answer of a save.
-    pub fn outcome(self) -> Outcome
-        ensures { result ≡ save_outcome self }
+impl SaveError {
+    // A refusal of a save.
+    pub fn refusal(self) -> Refusal
+        ensures { result ≡ save_refusal self }
     {
         match self {
-            SaveAnswer::Done => Outcome::Passes,
-            SaveAnswer::Refused(e) => Outcome::Refuses(e.refusal()),
-            SaveAnswer::UnsavedName => Outcome::Refuses(Refusal::plain(22)),
-            SaveAnswer::Unsound => Outcome::Refuses(Refusal::plain(19)),
-            SaveAnswer::NoRoom => Outcome::Refuses(Refusal::plain(21)),
-            SaveAnswer::NoOwner => Outcome::Refuses(Refusal::plain(24)),
-            SaveAnswer::NoText => Outcome::Refuses(Refusal::plain(25)),
+            SaveError::Refused(e) => e.refusal(),
+            SaveError::UnsavedName => Refusal::plain(22),
+            SaveError::Unsound => Refusal::plain(19),
+            SaveError::NoRoom => Refusal::plain(21),
+            SaveError::NoOwner => Refusal::plain(24),
+            SaveError::NoText => Refusal::plain(25),
         }
     }
 }
 
-impl Look {
-    // The answer of a look-up.
-    pub fn outcome(self) -> LookOutcome
-        ensures { result ≡ look_outcome self }
+impl LookError {
+    // A refusal of a look-up, also of one that takes a UUID without its checksum.
+    pub fn refusal(self) -> Refusal
+        ensures { result ≡ look_refusal self }
     {
         match self {
-            Look::Found => LookOutcome::Finds,
-            Look::Missing => LookOutcome::FindsNone,
-            Look::Unsound => LookOutcome::CannotLook(Refusal::plain(19)),
-            Look::NoOwner => LookOutcome::CannotLook(Refusal::plain(24)),
+            LookError::Unsound => Refusal::plain(19),
+            LookError::NoOwner => Refusal::plain(24),
         }
     }
 }
 
-impl NearLook {
-    // The answer of a look-up that also takes a UUID without its checksum; exact, near and none are told by the answer
-    // itself.
-    pub fn outcome(self) -> Outcome
-        ensures { result ≡ near_outcome self }
+impl Unsound {
+    // The refusal of the call that tells a party's share.
+    pub fn refusal(self) -> Refusal
+        ensures { result ≡ unsound_refusal self }
     {
-        match self {
-            NearLook::Exact => Outcome::Passes,
-            NearLook::Near => Outcome::Passes,
-            NearLook::Missing => Outcome::Passes,
-            NearLook::Unsound => Outcome::Refuses(Refusal::plain(19)),
-            NearLook::NoOwner => Outcome::Refuses(Refusal::plain(24)),
-        }
+        Refusal::plain(19)
     }
 }
 
-impl ShareTold {
-    // The answer of the call that tells a party's share; what is told stands in the answer itself.
-    pub fn outcome(self) -> Outcome
-        ensures { result ≡ told_outcome self }
-    {
-        match self {
-            ShareTold::Told(_) => Outcome::Passes,
-            ShareTold::Unsound => Outcome::Refuses(Refusal::plain(19)),
-        }
+// The answer of a clear, an insert or a share's setting.
+pub fn store_outcome(answer: Result<(), StoreError>) -> Result<(), Refusal>
+    ensures { result ≡ store_outcome answer }
+{
+    answer.map_err(|error| error.refusal())
+}
+
+// The answer of a save.
+pub fn save_outcome(answer: Result<(), SaveError>) -> Result<(), Refusal>
+    ensures { result ≡ save_outcome answer }
+{
+    answer.map_err(|refused| refused.refusal())
+}
+
+// The answer of a look-up: whether a line is held. A match, here and below: wrong programs in must-fail change a single
+// arm, each by one line.
+pub fn look_outcome(answer: Result<bool, LookError>) -> Result<bool, Refusal>
+    ensures { result ≡ look_outcome answer }
+{
+    match answer {
+        Ok(held) => Ok(held),
+        Err(error) => Err(error.refusal()),
+    }
+}
+
+// The answer of a look-up that also takes a UUID without its checksum; exact, near and none are told by the answer
+// itself.
+pub fn near_outcome(answer: Result<Option<Nearness>, LookError>) -> Result<(), Refusal>
+    ensures { result ≡ near_outcome answer }
+{
+    match answer {
+        Ok(_) => Ok(()),
+        Err(looked) => Err(looked.refusal()),
+    }
+}
+
+// The answer of the call that tells a party's share; what is told stands in the answer itself.
+pub fn told_outcome(answer: Result<ShareUse, Unsound>) -> Result<(), Refusal>
+    ensures { result ≡ told_outcome answer }
+{
+    match answer {
+        Ok(_told) => Ok(()),
+        Err(unsound) => Err(unsound.refusal()),
     }
 }

@@ -1,4 +1,8 @@
-// The rows of a table, in one array: a line's key, where it starts, and its length. Only this file knows how they lie.
+// The rows of a table: a line's key, where it starts, and its length, as five numbers a row in one array. Only this
+// file knows how they lie.
+//
+// Most of these calls ask that k is below `ROWS`. A type for such a number would be made anew at each call and taken
+// apart in it: k is a loop's number, a count, or a link less one.
 ghost use Rattle.std.specs.Prelude.{◌≡◌, ◌<◌};
 ghost use Rattle.store.specs.Held.{same_key};
 ghost use Rattle.store.specs.Keys.{rows_max};
@@ -72,15 +76,5 @@ pub fn same_at(rows: &[u64; CELLS], a: usize, b: usize) -> bool
     requires { (a < rows_max) × (b < rows_max) }
     ensures { result ≡ same_key (key_in rows.now a) (key_in rows.now b) }
 {
-    let x = key_at(rows, a);
-    let y = key_at(rows, b);
-    let p = x.uuid;
-    let q = y.uuid;
-    if x.owner != y.owner {
-        return false;
-    }
-    if p.high != q.high {
-        return false;
-    }
-    p.low == q.low
+    key_at(rows, a) == key_at(rows, b)
 }

@@ -4,57 +4,44 @@ ghost use Rattle.store.specs.Held.{line_max};
 ghost use Rattle.store.specs.Inner.{store_file, room_answer, said_by};
 ghost use Rattle.store.specs.Saves.{unsaved_name, refused_save};
 
-use crate::calls::{Answer, SaveAnswer, Saved};
+use crate::calls::{SaveError, Saved};
+use crate::chains::Table;
 use crate::claims::dues_of;
 use crate::filing::file_line;
 use crate::parties::Key;
-use crate::rows::{CELLS, ROWS};
 use crate::search::find_text;
 use crate::shares::OWNERS;
 use crate::soundness::take_stock;
-use crate::table::Room;
+use crate::table::Full;
 use line::mapping::Mapping;
 use text::bytes::find_byte;
 
 // What filing a line answers, by its room.
-fn room_answer(room: Room) -> Answer
+fn room_answer(room: Result<(), Full>) -> Result<(), SaveError>
     ensures { result ≡ room_answer room }
 {
     match room {
-        Room::Fits => Answer::Done,
-        Room::IndexFull => Answer::NoRoom,
-        Room::TextFull => Answer::NoText,
+        Ok(()) => Ok(()),
+        Err(Full::Index) => Err(SaveError::NoRoom),
+        Err(Full::Text) => Err(SaveError::NoText),
     }
 }
 
 // Files a line that was built under its key, unless the store is not sound or has no room.
-pub fn file_built(index: &mut [u8], text: &mut [u8], key: Key, line: &[u8]) -> Answer
+pub fn file_built(index: &mut [u8], text: &mut [u8], key: Key, line: &[u8]) -> Result<(), SaveError>
     requires { (1 ≤ length line.now) × (length line.now ≤ line_max) }
     ensures { record { answer = result; index = index.new; text = text.new }
         ≡ store_file index.old text.old (record { key = key; line = line.now }) }
 {
-    let mut rows = [0u64; CELLS];
-    let mut heads = [0u16; ROWS];
-    let mut next = [0u16; ROWS];
+    let mut table = Table::new();
     let mut shares = [0u64; OWNERS];
-    let stock = take_stock(index, text, &mut shares, &mut rows, &mut heads, &mut next);
-    if !stock.sound {
-        return Answer::Unsound;
-    }
+    let Some(stock) = take_stock(index, text, &mut shares, &mut table) else {
+        return Err(SaveError::Unsound);
+    };
     let fill = stock.fill;
     let front = stock.front;
-    let dues = dues_of(&rows, fill, &shares, key.owner);
-    let room = file_line(
-        &mut index[front..],
-        text,
-        &mut rows,
-        &mut heads,
-        &mut next,
-        fill,
-        dues,
-        key,
-        line,
-    );
+    let dues = dues_of(&table.rows, fill, &shares, key.owner);
+    let room = file_line(&mut index[front..], text, &mut table, fill, dues, key, line);
     room_answer(room)
 }
 
@@ -69,31 +56,24 @@ pub fn unsaved_name(name: &[u8]) -> bool
 }
 
 // A refused save has the empty map.
-pub fn refused_save(answer: SaveAnswer) -> Saved
-    ensures { result ≡ refused_save answer }
+pub fn refused_save(error: SaveError) -> Saved
+    ensures { result ≡ refused_save error }
 {
     Saved {
-        answer,
+        answer: Err(error),
         map: Mapping::new(),
     }
 }
 
 // What a save answers when its line was filed, or was not.
-pub fn saved_as(filed: Answer, map: Mapping) -> Saved
+pub fn saved_as(filed: Result<(), SaveError>, map: Mapping) -> Saved
     ensures { result ≡ said_by map filed }
 {
     match filed {
-        Answer::Done => Saved {
-            answer: SaveAnswer::Done,
+        Ok(()) => Saved {
+            answer: Ok(()),
             map,
         },
-        Answer::NoRoom => refused_save(SaveAnswer::NoRoom),
-        Answer::Unsound => refused_save(SaveAnswer::Unsound),
-        Answer::NotUtf8(_) => refused_save(SaveAnswer::Unsound),
-        Answer::LineTooLong => refused_save(SaveAnswer::Unsound),
-        Answer::BufferTooLarge => refused_save(SaveAnswer::Unsound),
-        Answer::NoOwner => refused_save(SaveAnswer::Unsound),
-        Answer::NoText => refused_save(SaveAnswer::NoText),
-        Answer::ShareTooLarge => refused_save(SaveAnswer::Unsound),
+        Err(e) => refused_save(e),
     }
 }

@@ -39,10 +39,9 @@ fn kept_rows(rows: &[u64; CELLS], old: usize) -> Kept
     requires { Keepable rows.now old }
     ensures { Keeps rows.now old result }
 {
-    let mut k = 0;
     let mut at = 0;
     let mut off = 0;
-    while k < old {
+    for k in 0..old {
         let len = len_at(rows, k);
         if len == 0 {
             return Kept { rows: k, at, off };
@@ -50,9 +49,8 @@ fn kept_rows(rows: &[u64; CELLS], old: usize) -> Kept
         let key = key_at(rows, k);
         at += record_size(key);
         off += len;
-        k += 1;
     }
-    Kept { rows: k, at, off }
+    Kept { rows: old, at, off }
 }
 
 // Moves the records behind those that are kept down, with their lines, and zeroes the tail: the part is the index from
@@ -74,11 +72,9 @@ fn close_up(
 {
     let mut at = 0;
     let mut off = kept.off;
-    let mut k = kept.rows;
-    while k < count {
+    for k in kept.rows..count {
         let len = len_at(rows, k);
         if len == 0 {
-            k += 1;
             continue;
         }
         let key = key_at(rows, k);
@@ -87,7 +83,6 @@ fn close_up(
         put_text(text, lines, off, start, len, k < was.count);
         at += record_size(key);
         off += len;
-        k += 1;
     }
     zero_between(part, at, was.end - kept.at);
     zero_between(text, off, was.used);

@@ -5,7 +5,7 @@ ghost use Rattle.store.specs.Layout.{share_bytes};
 ghost use Rattle.store.specs.Shares.{owners, no_shares, share_size, share_sizes};
 ghost use Rattle.store.specs.Fronts.{starts_share, front_share, Fronts, Changes, Changed};
 
-use crate::bytes::{move_down, put_word, word_at, zero_all};
+use crate::bytes::{move_down, put_word, word_at};
 
 // So many parties: the hall and the organisers from 1 to 255.
 pub const OWNERS: usize = 256;
@@ -17,10 +17,7 @@ pub const SHARE_SIZE: usize = 4;
 fn kind_four(index: &[u8]) -> bool
     ensures { result ≡ starts_share index.now }
 {
-    if index.len() < SHARE_SIZE {
-        return false;
-    }
-    index[0] == 4
+    matches!(index, [4, _, _, _, ..])
 }
 
 // The share in a record of kind 4 at the front, if it is that owner's; else 0.
@@ -50,12 +47,13 @@ pub fn read_shares(index: &[u8], shares: &mut [u64; OWNERS]) -> usize
     ensures { Fronts index.now shares.new result }
 {
     let mut at = 0;
-    let mut owner = 0;
-    while owner < OWNERS && kind_four(&index[at..]) {
+    for owner in 0..OWNERS {
+        if !kind_four(&index[at..]) {
+            return at;
+        }
         let share = front_share(&index[at..], owner);
         shares[owner] = share as u64;
         at += share_size(share);
-        owner += 1;
     }
     at
 }
@@ -65,14 +63,7 @@ pub fn any_share(shares: &[u64; OWNERS]) -> bool
     requires { length shares.now ≡ owners }
     ensures { result ≡ false → shares.now ≡ no_shares }
 {
-    let mut owner = 0;
-    while owner < OWNERS {
-        if shares[owner] != 0 {
-            return true;
-        }
-        owner += 1;
-    }
-    false
+    shares.iter().any(|share| *share != 0)
 }
 
 // Where the record of an owner's share stands, or would stand: behind those of smaller owners.
@@ -80,23 +71,22 @@ pub fn share_place(shares: &[u64; OWNERS], owner: usize) -> usize
     requires { owner ≤ owners }
     ensures { result ≡ share_sizes (take owner shares.now) }
 {
-    let mut o = 0;
     let mut at = 0;
-    while o < owner {
-        at += share_size(shares[o] as usize);
-        o += 1;
+    for share in &shares[..owner] {
+        at += share_size(*share as usize);
     }
     at
 }
 
-// Writes a share's record at the front.
+// Writes a share's record at the front. This and the next two ask for its four bytes: a type with that fact would be
+// made of the lent bytes for one call, and taken apart in it.
 fn put_share(part: &mut [u8], owner: u8, share: usize)
     requires { (4 ≤ length part.old) × ((1 ≤ share) × (share ≤ 65535)) }
     ensures { part.new ≡ share_bytes owner share ++ drop 4 part.old }
 {
     part[0] = 4;
     part[1] = owner;
-    put_word(part, 2, share as u64);
+    put_word(part, 2, share);
 }
 
 // Takes the share's record at the front out: the rest moves down, and 0 follows it.
@@ -106,7 +96,7 @@ fn close_gap(part: &mut [u8])
 {
     move_down(part, SHARE_SIZE);
     let behind = part.len() - SHARE_SIZE;
-    zero_all(&mut part[behind..]);
+    part[behind..].fill(0);
 }
 
 // Moves the bytes before the last four up by four; the first four stay as they are.
@@ -115,11 +105,7 @@ fn open_gap(part: &mut [u8])
     ensures { part.new
         ≡ take 4 part.old ++ take (length part.old - 4) part.old }
 {
-    let mut k = part.len() - SHARE_SIZE;
-    while 0 < k {
-        k -= 1;
-        part[k + SHARE_SIZE] = part[k];
-    }
+    part.copy_within(..part.len() - SHARE_SIZE, SHARE_SIZE);
 }
 
 // Sets the share of an owner, whose record stands, or would stand, at the front: `had` is the former one. A new record

@@ -5,46 +5,41 @@ ghost use Rattle.store.specs.Layout.{Given};
 ghost use Rattle.store.specs.Settings.{ClaimsWith, Weighs, Weighed, Writable, Written};
 ghost use Rattle.store.specs.Store.{store_share, store_told};
 
-use crate::calls::Answer;
+use crate::calls::StoreError;
+use crate::chains::Table;
 use crate::claims::{add_uses, claims_of};
-use crate::rows::{CELLS, ROWS};
+use crate::rows::CELLS;
 use crate::shares::{OWNERS, change_share, share_place, share_size};
 use crate::soundness::take_stock;
-use crate::table::Room;
+use crate::table::Full;
 
 // A party's share, and the bytes of its lines.
-#[derive(Clone, Copy)]
+#[derive(Clone, Copy, PartialEq, Eq)]
 pub struct ShareUse {
     pub share: usize,
     pub used: usize,
 }
 
-// What is told of a party, or that the store is not sound.
-#[derive(Clone, Copy)]
-pub enum ShareTold {
-    Told(ShareUse),
-    Unsound,
-}
+// Why nothing is told of a party: the store is not sound.
+#[derive(Clone, Copy, PartialEq, Eq)]
+pub struct Unsound;
 
 // The share and the use of the party with that owner byte; 0 is the hall.
-pub fn share_of(index: &[u8], text: &[u8], owner: u8) -> ShareTold
+pub fn share_of(index: &[u8], text: &[u8], owner: u8) -> Result<ShareUse, Unsound>
     ensures { result ≡ store_told index.now text.now owner }
 {
-    let mut rows = [0u64; CELLS];
-    let mut heads = [0u16; ROWS];
-    let mut next = [0u16; ROWS];
+    let mut table = Table::new();
     let mut shares = [0u64; OWNERS];
-    let stock = take_stock(index, text, &mut shares, &mut rows, &mut heads, &mut next);
-    if !stock.sound {
-        return ShareTold::Unsound;
-    }
+    let Some(stock) = take_stock(index, text, &mut shares, &mut table) else {
+        return Err(Unsound);
+    };
     let mut uses = [0u64; OWNERS];
     let fill = stock.fill;
-    add_uses(&rows, fill.count, &mut uses);
+    add_uses(&table.rows, fill.count, &mut uses);
     let o = owner as usize;
     let share = shares[o] as usize;
     let used = uses[o] as usize;
-    ShareTold::Told(ShareUse { share, used })
+    Ok(ShareUse { share, used })
 }
 
 // What all parties claim with those shares, by the lines that are written down.
@@ -68,20 +63,20 @@ fn share_room(
     text: usize,
     index: usize,
     end: usize,
-) -> Room
+) -> Result<(), Full>
     requires { Weighs rows.now count shares.now bytes text }
     ensures { Weighed rows.now count shares.now text index end result }
 {
     if text < bytes {
-        return Room::TextFull;
+        return Err(Full::Text);
     }
     if text < claims_with(rows, count, shares) {
-        return Room::TextFull;
+        return Err(Full::Text);
     }
     if index < end {
-        return Room::IndexFull;
+        return Err(Full::Index);
     }
-    Room::Fits
+    Ok(())
 }
 
 // Writes the share of an owner into the index, which had another one; it stands among those shares already.
@@ -94,38 +89,34 @@ fn write_share(index: &mut [u8], shares: &[u64; OWNERS], owner: u8, had: usize, 
 }
 
 // Sets the share of the party with that owner byte, 0 being the hall; share 0 takes it away.
-pub fn set_share(index: &mut [u8], text: &[u8], owner: u8, bytes: usize) -> Answer
+pub fn set_share(index: &mut [u8], text: &[u8], owner: u8, bytes: usize) -> Result<(), StoreError>
     ensures { record { answer = result; index = index.new; text = text.now }
         ≡ store_share index.old text.now owner bytes }
 {
-    let mut rows = [0u64; CELLS];
-    let mut heads = [0u16; ROWS];
-    let mut next = [0u16; ROWS];
+    let mut table = Table::new();
     let mut shares = [0u64; OWNERS];
-    let stock = take_stock(index, text, &mut shares, &mut rows, &mut heads, &mut next);
-    if !stock.sound {
-        return Answer::Unsound;
-    }
+    let Some(stock) = take_stock(index, text, &mut shares, &mut table) else {
+        return Err(StoreError::Unsound);
+    };
     let fill = stock.fill;
     let o = owner as usize;
     let had = shares[o] as usize;
     let end = stock.front + fill.end + share_size(bytes) - share_size(had);
     shares[o] = bytes as u64;
-    let room = share_room(
-        &rows,
+    match share_room(
+        &table.rows,
         fill.count,
         &shares,
         bytes,
         text.len(),
         index.len(),
         end,
-    );
-    match room {
-        Room::TextFull => Answer::ShareTooLarge,
-        Room::IndexFull => Answer::NoRoom,
-        Room::Fits => {
+    ) {
+        Ok(()) => {
             write_share(index, &shares, owner, had, bytes);
-            Answer::Done
+            Ok(())
         }
+        Err(Full::Text) => Err(StoreError::ShareTooLarge),
+        Err(Full::Index) => Err(StoreError::NoRoom),
     }
 }

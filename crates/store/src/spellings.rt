@@ -6,7 +6,7 @@ ghost use Rattle.store.specs.Lines as specs;
 
 use crate::lines::{line_length, wanted};
 use crate::search::find_far;
-use text::uuid::{Form, UuidParse};
+use text::uuid::Form;
 
 // 1 where it is another form than 32 digits.
 fn other_form(form: Form) -> usize
@@ -14,10 +14,7 @@ fn other_form(form: Form) -> usize
 {
     match form {
         Form::Simple => 0,
-        Form::Hyphenated => 1,
-        Form::Braced => 1,
-        Form::Urn => 1,
-        Form::Xinput => 1,
+        Form::Hyphenated | Form::Braced | Form::Urn | Form::Xinput => 1,
     }
 }
 
@@ -28,13 +25,9 @@ fn other_spelling(line: &[u8]) -> usize
     if find_far(line, b',') == 32 {
         return 0;
     }
-    let parsed = wanted(line);
-    match parsed {
-        UuidParse::Parsed(spelled) => {
-            let form = spelled.form;
-            other_form(form)
-        }
-        UuidParse::Invalid => 0,
+    match wanted(line) {
+        Some(spelled) => other_form(spelled.form),
+        None => 0,
     }
 }
 
@@ -43,14 +36,15 @@ pub fn other_spellings(lines: &[u8], count: usize) -> usize
     ensures { result ≡ other_spellings (take count (lines_of lines.now)) }
 {
     let mut at = 0;
-    let mut left = count;
     let mut other = 0;
-    while at < lines.len() && 0 < left {
+    for _ in 0..count {
+        if lines.len() <= at {
+            break;
+        }
         let end = find_far(&lines[at..], b'\n');
         let len = line_length(&lines[at..], end);
         let start = at;
         other += other_spelling(&lines[start..start + len]);
-        left -= 1;
         at += end + 1;
     }
     other

@@ -5,21 +5,21 @@ ghost use Rattle.store.specs.Keys.{rows_max, Chained, Sought};
 ghost use Rattle.store.specs.Rows.{key_in, row_put};
 ghost use Rattle.store.specs.Table.{len_before, struck_before, Ends, Fileable, FilesRow};
 
-use crate::chains::link;
+use crate::chains::Table;
 use crate::claims::{Dues, claimed};
 use crate::parties::Key;
 use crate::records::record_size;
 use crate::rows::{CELLS, ROWS, len_at, put_len, put_row};
 
-// Whether a line has room: it fits, the index has no room for its record, or the text none for it.
-#[derive(Clone, Copy)]
-pub enum Room {
-    Fits,
-    IndexFull,
-    TextFull,
+// Why a line has no room: the index has none for its record, or the text none for the line.
+#[derive(Clone, Copy, PartialEq, Eq)]
+pub enum Full {
+    Index,
+    Text,
 }
 
-// How many numbers are taken, and how many bytes of the index and of the text the lines that are held take.
+// How many numbers are taken, and how many bytes of the index and of the text the lines that are held take. That
+// `count` is below `ROWS` is asked where a number is to be taken, and is no fact of the type: `count` may be `ROWS`.
 #[derive(Clone, Copy)]
 pub struct Fill {
     pub count: usize,
@@ -27,33 +27,19 @@ pub struct Fill {
     pub used: usize,
 }
 
-// Whether a line had room, and what is filled once it is filed.
-#[derive(Clone, Copy)]
-pub struct Tried {
-    pub room: Room,
-    pub fill: Fill,
-}
-
-// Writes a line down under number n, and answers as `seek` does: one more than the last number before it with the same
-// key, 0 where none has it, or n + 1 where the chain has more than `most` steps.
-pub fn add_row(
-    rows: &mut [u64; CELLS],
-    heads: &mut [u16; ROWS],
-    next: &mut [u16; ROWS],
-    n: usize,
-    key: Key,
-    start: usize,
-    len: usize,
-    most: usize,
-) -> usize
-    requires n_lt_rows_max { n < rows_max }
-    requires chained { Chained (key_in rows.old) heads.old next.old n }
-    ensures rows_after { (rows.new ≡ row_put rows.old n key start len) × (key.owner < 256) }
-    ensures sought { Sought (key_in rows.new) n result × (rows_max ≤ most → result ≤ n) }
-    ensures chained_2 { Chained (key_in rows.new) heads.new next.new (n + 1) }
-{
-    put_row(rows, n, key, start, len);
-    link(rows, heads, next, n, most)
+impl Table {
+    // Writes a line down under number n, and answers as `seek` does: one more than the last number before it with the same
+    // key, 0 where none has it, or n + 1 where the chain has more than `most` steps.
+    pub fn add_row(&mut self, n: usize, key: Key, start: usize, len: usize, most: usize) -> usize
+        requires n_lt_rows_max { n < rows_max }
+        requires chained { Chained (key_in self.old.rows) self.old.heads self.old.next n }
+        ensures rows_after { (self.new.rows ≡ row_put self.old.rows n key start len) × (key.owner < 256) }
+        ensures sought { Sought (key_in self.new.rows) n result × (rows_max ≤ most → result ≤ n) }
+        ensures chained_2 { Chained (key_in self.new.rows) self.new.heads self.new.next (n + 1) }
+    {
+        put_row(&mut self.rows, n, key, start, len);
+        self.link(n, most)
+    }
 }
 
 // The length of the line of the number before r, and 0 where r is 0.
@@ -89,53 +75,41 @@ fn end_with(end: usize, had: usize, key: Key) -> usize
     end
 }
 
-// Both in one.
-fn told_room(room: Room, fill: Fill) -> Tried
-    ensures { result ≡ record { room = room; fill = fill } }
-{
-    Tried { room, fill }
-}
-
-// Files a line of the inserted text under a key, if there is room: the one held under it is struck out. Without room
-// the count stays.
+// Files a line of the inserted text under a key, if there is room, and answers what is filled then: the one held under
+// it is struck out.
 pub fn file_row(
     index: &[u8],
     text: &[u8],
-    rows: &mut [u64; CELLS],
-    heads: &mut [u16; ROWS],
-    next: &mut [u16; ROWS],
+    table: &mut Table,
     fill: Fill,
     dues: Dues,
     key: Key,
     start: usize,
     len: usize,
-) -> Tried
+) -> Result<Fill, Full>
     requires count_lt_rows_max { fill.count < rows_max }
     requires fileable { Fileable dues index.now text.now
-        rows.old heads.old next.old
+        table.old.rows table.old.heads table.old.next
         fill key start len }
     ensures { FilesRow dues index.now text.now
-        rows.old heads.old next.old fill key start len
-        rows.new heads.new next.new result }
+        table.old.rows table.old.heads table.old.next fill key start len
+        table.new.rows table.new.heads table.new.next result }
 {
     let n = fill.count;
-    let r = add_row(rows, heads, next, n, key, start, len, ROWS);
-    let had = len_before(rows, r);
+    let r = table.add_row(n, key, start, len, ROWS);
+    let had = len_before(&table.rows, r);
     let used = fill.used - had + len;
     let end = end_with(fill.end, had, key);
     if index.len() < end {
-        return told_room(Room::IndexFull, fill);
+        return Err(Full::Index);
     }
     if text.len() < claimed(dues, used) {
-        return told_room(Room::TextFull, fill);
+        return Err(Full::Text);
     }
-    strike_before(rows, r);
-    told_room(
-        Room::Fits,
-        Fill {
-            count: n + 1,
-            end: end,
-            used: used,
-        },
-    )
+    strike_before(&mut table.rows, r);
+    Ok(Fill {
+        count: n + 1,
+        end,
+        used,
+    })
 }

@@ -11,12 +11,12 @@ use lib.Dec.{leb, eqb}
 use lib.ListN.{length, take, drop, get_or, length-drop, length-append}
 use lib.Seq.{drop-append-le, drop-drop}
 use Rattle.text.specs.Bytes.{pick, both}
-use Rattle.text.specs.Utf8.{Range, Alternative, utf8_char, in_range, begins, first_length, char_length, valid_run}
+use Rattle.text.specs.Utf8.{Range, Alternative, utf8_char, in_range, begins, valid_run}
 use Rattle.text.specs.Utf8.{is_utf8}
 use Rattle.text.specs.Inner.{every, is_ascii}
 use Rattle.text.proofs.ListLaws.{lt_or_le, off, both_parts, at_next}
 use Rattle.text.proofs.BlockLaws.{every-next, and_parts}
-use Rattle.text.proofs.Utf8Laws.{char_long, valid_stop, valid_step}
+use Rattle.text.proofs.Utf8Laws.{first_size, char_size, char_long, valid_stop, valid_step}
 
 -- ---- octets after the first of a character are none of ASCII
 abbrev highs : List Range → Bool
@@ -39,8 +39,8 @@ module _ (d : ℕ) (ascii : d < 128) where
       ap (both (in_range r x)) (tail_begins rs a b (both_parts (leb 128 r.low) (highs rs) h).1)
 
   first-begins : (l : List Alternative) (x : ℕ) (a b : List ℕ) → tails_high l ≡ true
-      → first_length l (x ∷ a ++ d ∷ b) ≡ first_length l (x ∷ a)
-  unfolding first_length begins
+      → first_size l (x ∷ a ++ d ∷ b) ≡ first_size l (x ∷ a)
+  unfolding first_size begins
   first-begins [] x a b h = refl
   first-begins ([] ∷ others) x a b h = absurd (off h)
   first-begins ((r ∷ rs) ∷ others) x a b h =
@@ -48,19 +48,19 @@ module _ (d : ℕ) (ascii : d < 128) where
       rw (tail_begins rs a b both.0, first-begins others x a b both.1)
 
   -- the character that bytes begin with does not reach an ASCII byte after them
-  char_before : (x : ℕ) (a b : List ℕ) → char_length (x ∷ a ++ d ∷ b) ≡ char_length (x ∷ a)
-  unfolding char_length
+  char_before : (x : ℕ) (a b : List ℕ) → char_size (x ∷ a ++ d ∷ b) ≡ char_size (x ∷ a)
+  unfolding char_size
   char_before x a b = first-begins utf8_char x a b refl
 
-  char_ascii : (b : List ℕ) → char_length (d ∷ b) ≡ 1
-  unfolding char_length first_length begins
+  char_ascii : (b : List ℕ) → char_size (d ∷ b) ≡ 1
+  unfolding char_size first_size begins
   char_ascii b = let l = le-leb 0 d (omega arith) in let h = le-leb d 127 (omega arith) in rw (l, h)
 
 -- an ASCII byte is passed
 pub ascii_goes : (s : List ℕ) (i : ℕ) → i < length s → get_or s i 0 < 128
     → i + 1 + valid_run (drop (i + 1) s) ≡ i + valid_run (drop i s)
 ascii_goes s i h a =
-    let c = ap char_length (at_next s i h) ∙ char_ascii (get_or s i 0) a (drop (i + 1) s) in
+    let c = ap char_size (at_next s i h) ∙ char_ascii (get_or s i 0) a (drop (i + 1) s) in
     rw (valid_step (drop i s) (λ z. omega arith), c, drop-drop) (omega arith)
 
 -- n ASCII bytes are passed
@@ -81,13 +81,13 @@ Valid s = valid_run s ≡ length s
 
 run_bound : (n : ℕ) (s : List ℕ) → length s ≤ n → valid_run s ≤ length s
 run_bound zero s h =
-    let z : char_length s ≡ 0 = omega (arith, char_long s) in omega (arith, valid_stop s z)
+    let z : char_size s ≡ 0 = omega (arith, char_long s) in omega (arith, valid_stop s z)
 run_bound (suc n) s h =
     ⊎_elim
-    (λ k. let e = valid_step s (λ z. omega arith) in let l = length-drop (char_length s) s in
-    omega (arith, char_long s, run_bound n (drop (char_length s) s) (omega arith)))
-    (λ k. let z : char_length s ≡ 0 = omega arith in omega (arith, valid_stop s z))
-    (lt_or_le 0 (char_length s))
+    (λ k. let e = valid_step s (λ z. omega arith) in let l = length-drop (char_size s) s in
+    omega (arith, char_long s, run_bound n (drop (char_size s) s) (omega arith)))
+    (λ k. let z : char_size s ≡ 0 = omega arith in omega (arith, valid_stop s z))
+    (lt_or_le 0 (char_size s))
 
 pub valid_le : (s : List ℕ) → valid_run s ≤ length s
 valid_le s = run_bound (length s) s (omega arith)
@@ -108,7 +108,7 @@ module _ (d : ℕ) (ascii : d < 128) where
       rw q (e ∙ ap (λ (k : ℕ). k + valid_run (drop k (d ∷ b))) c ∙ omega arith)
 
   module _ (x : ℕ) (a b : List ℕ) where
-    stopped : char_length (x ∷ a) ≡ 0 → Cut (x ∷ a) b
+    stopped : char_size (x ∷ a) ≡ 0 → Cut (x ∷ a) b
     stopped z =
         let w = valid_stop (x ∷ a) z in
         let u = valid_stop (x ∷ a ++ d ∷ b) (char_before d ascii x a b ∙ z) in
@@ -116,36 +116,36 @@ module _ (d : ℕ) (ascii : d < 128) where
         rw q (u ∙ sym w)
 
     abbrev rest : List ℕ
-    rest = drop (char_length (x ∷ a)) (x ∷ a)
+    rest = drop (char_size (x ∷ a)) (x ∷ a)
 
     -- one character more in front
     grown : (t : Bool) → eqb (valid_run rest) (length rest) ≡ t
-        → valid_run (x ∷ a ++ d ∷ b) ≡ char_length (x ∷ a) + valid_run (rest ++ d ∷ b)
-        → valid_run (x ∷ a) ≡ char_length (x ∷ a) + valid_run rest
+        → valid_run (x ∷ a ++ d ∷ b) ≡ char_size (x ∷ a) + valid_run (rest ++ d ∷ b)
+        → valid_run (x ∷ a) ≡ char_size (x ∷ a) + valid_run rest
         → Cut rest b → Cut (x ∷ a) b
     grown true q u w ih =
-        let l = length-drop (char_length (x ∷ a)) (x ∷ a) in
+        let l = length-drop (char_size (x ∷ a)) (x ∷ a) in
         let m = char_long (x ∷ a) in
         let k = eqb-true (valid_run rest) (length rest) q in
         let same = eq-eqb (valid_run (x ∷ a)) (length (x ∷ a)) (omega arith) in
         let i : valid_run (rest ++ d ∷ b) ≡ length rest + (1 + valid_run b) = rw q at ih in
         rw same (omega arith)
     grown false q u w ih =
-        let l = length-drop (char_length (x ∷ a)) (x ∷ a) in
+        let l = length-drop (char_size (x ∷ a)) (x ∷ a) in
         let m = char_long (x ∷ a) in
         let k = eqb-false (valid_run rest) (length rest) q in
         let unlike = ne_eqb (valid_run (x ∷ a)) (length (x ∷ a)) (λ e. k (omega arith)) in
         let i : valid_run (rest ++ d ∷ b) ≡ valid_run rest = rw q at ih in
         rw unlike (omega arith)
 
-    going : (0 < char_length (x ∷ a)) → Cut rest b → Cut (x ∷ a) b
+    going : (0 < char_size (x ∷ a)) → Cut rest b → Cut (x ∷ a) b
     going h ih =
         let c = char_before d ascii x a b in
         let u = valid_step (x ∷ a ++ d ∷ b) (λ z. omega arith) in
         let w = valid_step (x ∷ a) (λ z. omega arith) in
         let e = ap (λ (k : ℕ). k + valid_run (drop k (x ∷ a ++ d ∷ b))) c in
-        let f = ap (λ (l : List ℕ). char_length (x ∷ a) + valid_run l)
-        (drop-append-le (char_length (x ∷ a)) (x ∷ a) (d ∷ b) (char_long (x ∷ a))) in
+        let f = ap (λ (l : List ℕ). char_size (x ∷ a) + valid_run l)
+        (drop-append-le (char_size (x ∷ a)) (x ∷ a) (d ∷ b) (char_long (x ∷ a))) in
         grown (eqb (valid_run rest) (length rest)) refl (u ∙ e ∙ f) w ih
 
   -- bytes that are no more than suc n, by those that are no more than n
@@ -153,10 +153,10 @@ module _ (d : ℕ) (ascii : d < 128) where
   cut_more n ih [] b h = cut_first b
   cut_more n ih (x ∷ a) b h =
       ⊎_elim
-      (λ k. going x a b k (ih (drop (char_length (x ∷ a)) (x ∷ a)) b
-      (let l = length-drop (char_length (x ∷ a)) (x ∷ a) in omega arith)))
+      (λ k. going x a b k (ih (drop (char_size (x ∷ a)) (x ∷ a)) b
+      (let l = length-drop (char_size (x ∷ a)) (x ∷ a) in omega arith)))
       (λ k. stopped x a b (omega arith))
-      (lt_or_le 0 (char_length (x ∷ a)))
+      (lt_or_le 0 (char_size (x ∷ a)))
 
   cut_none : (a b : List ℕ) → length a ≤ 0 → Cut a b
   cut_none [] b h = cut_first b

@@ -1,15 +1,19 @@
--- Sixteen bytes that are read at once: the tests of each are the test of the part.
+-- A test of every byte of a part, one byte more at a time, and the test of ASCII.
 -- Assumes nothing.
-use Prim.Native.Nat.{ℕ, suc, ◌+◌, ◌≤◌, ◌<◌}
+use Prim.Native.Nat.{ℕ, zero, suc, ◌+◌, ◌≤◌, ◌<◌}
 use mathlib.Core.Path.{◌≡◌, refl, sym, ap, ◌∙◌}
 use mathlib.Core.Bool.{Bool, true, false, ◌&&◌}
 use mathlib.Core.List.{List, [], ◌∷◌, ◌++◌}
 use native.Mathlib.Omega.{arith}
 use lib.ListN.{length, take, drop, get_or, length-drop}
 use lib.Seq.{take-suc, get_or-drop}
+use borrow.Author.Tests.{lt-ltb, le-ltb}
+use Rattle.std.specs.Bool.{MatchBool}
+use Rattle.std.specs.Prelude.{slice_index}
+use Rattle.std.specs.Str.{IsAscii, IsNotAscii}
 use Rattle.text.specs.Bytes.{both}
-use Rattle.text.specs.Inner.{every}
-use Rattle.text.proofs.ListLaws.{off, both_true, at_next}
+use Rattle.text.specs.Inner.{every, is_ascii}
+use Rattle.text.proofs.ListLaws.{off, both_true}
 
 pub and_parts : (a b : Bool) → a && b ≡ true → (a ≡ true) × (b ≡ true)
 and_parts true b h = (refl, h)
@@ -35,30 +39,22 @@ module _ (f : ℕ → Bool) where
         ∙ every_last (take n (drop k s)) (get_or (drop k s) n 0)
         ∙ ap (λ (x : ℕ). every f (take n (drop k s)) && f x) (get_or-drop k s n 0)
 
-    first : k < length s → f (get_or s k 0) ≡ every f (take 1 (drop k s))
-    unfolding every
-    first h = sym (ap (λ (l : List ℕ). every f (take 1 l)) (at_next s k h) ∙ both_true (f (get_or s k 0)))
+-- what `is_ascii` of a slice says
+each_ascii : (s : List ℕ) → IsAscii s → every is_ascii s ≡ true
+unfolding every
+each_ascii [] h = refl
+each_ascii (b ∷ s) h = rw (lt-ltb b 128 (h 0)) (each_ascii s (λ i. h (suc i)))
 
-    -- the test of the byte at k + m
-    abbrev at : ℕ → Bool
-    at m = f (get_or s (k + m) 0)
+some_not : (s : List ℕ) (i : ℕ) → 128 ≤ slice_index s i → every is_ascii s ≡ false
+unfolding every
+some_not [] i h = absurd (omega arith)
+some_not (b ∷ s) zero h = rw (le-ltb b 128 h) refl
+some_not (b ∷ s) (suc i) h = go (is_ascii b) (some_not s i h)
+  where
+    go : (t : Bool) → every is_ascii s ≡ false → both t (every is_ascii s) ≡ false
+    go true e = e
+    go false e = refl
 
-    next : (m n : ℕ) (t : Bool) → n ≡ suc m → k + m < length s → t ≡ every f (take m (drop k s))
-        → t && at m ≡ every f (take n (drop k s))
-    next m n t z h e =
-        ap (λ (x : Bool). x && at m) e ∙ sym (every-next m h) ∙ ap (λ (i : ℕ). every f (take i (drop k s))) (sym z)
-
-    eight : k + 8 ≤ length s
-        → f (get_or s k 0) && at 1 && at 2 && at 3 && at 4 && at 5 && at 6 && at 7 ≡ every f (take 8 (drop k s))
-    eight h =
-        next 7 8 _ refl (omega arith) (next 6 7 _ refl (omega arith) (next 5 6 _ refl (omega arith)
-        (next 4 5 _ refl (omega arith) (next 3 4 _ refl (omega arith) (next 2 3 _ refl (omega arith)
-        (next 1 2 _ refl (omega arith) (first (omega arith))))))))
-
-    pub sixteen : k + 16 ≤ length s
-        → f (get_or s k 0) && at 1 && at 2 && at 3 && at 4 && at 5 && at 6 && at 7
-        && at 8 && at 9 && at 10 && at 11 && at 12 && at 13 && at 14 && at 15 ≡ every f (take 16 (drop k s))
-    sixteen h =
-        next 15 16 _ refl (omega arith) (next 14 15 _ refl (omega arith) (next 13 14 _ refl (omega arith)
-        (next 12 13 _ refl (omega arith) (next 11 12 _ refl (omega arith) (next 10 11 _ refl (omega arith)
-        (next 9 10 _ refl (omega arith) (next 8 9 _ refl (omega arith) (eight (omega arith)))))))))
+pub ascii_every : (r : Bool) (s : List ℕ) → MatchBool r (IsAscii s) (IsNotAscii s) → r ≡ every is_ascii s
+ascii_every true s h = sym (each_ascii s h)
+ascii_every false s h = sym (some_not s h.0 h.1)

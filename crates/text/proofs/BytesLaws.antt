@@ -1,5 +1,9 @@
 -- Laws of `same`, `first_of`, `every` and `written`: a loop's turn and end, and what a writer of several parts leaves.
 -- Assumes nothing.
+use borrow.Rule.Slice.PartMut.{put_mid}
+use lib.Pointwise.{pointwise}
+use Rattle.std.specs.List.{position_or_len}
+use Rattle.std.specs.Prelude.{Option, Some, None, not, cond, ltb, unwrap_or}
 use mathlib.Core.Path.{◌≡◌, refl, ap, sym, ◌∙◌}
 use mathlib.Core.Bool.{Bool, true, false}
 use mathlib.Core.List.{List, [], ◌∷◌, ◌++◌, append_assoc, append-nil}
@@ -7,13 +11,12 @@ use Prim.Native.Nat.{ℕ, suc, ◌+◌, ◌<◌, ◌≤◌}
 use native.Mathlib.Nat.{add_assoc}
 use native.Mathlib.Numerals.{add-one}
 use native.Mathlib.Omega.{arith}
-use borrow.Author.Tests.{eq-eqb, ne_eqb, eqb-true, le-leb, lt-leb, leb-true, leb-false}
+use borrow.Author.Tests.{eq-eqb, ne_eqb, eqb-true, le-leb, lt-leb, leb-true, leb-false, ltb-false, eqb-false}
 use lib.Dec.{eqb, leb}
-use lib.ListN.{length, take, drop, get_or, set, length-append, length-take, length-drop, drop_of_length-le}
-use lib.ListN.{take-append-drop}
+use lib.ListN.{length, take, drop, get_or, set, length-append, length-take, length-drop}
+use lib.ListN.{take-append-drop, drop_of_length-le}
 use lib.Seq.{set_split, drop-cons, set_at, length-take-le, take-suc, take_at, drop_at, drop-drop}
 use Rattle.text.specs.Bytes.{pick, both, same, first_of, written, write_answer, write_buffer}
-use Rattle.text.specs.declared.bytes.Written.TheVariants.{Upto, TooShort}
 use Rattle.text.specs.Inner.{every}
 use Rattle.text.proofs.ListLaws.{off, both_parts, at_next}
 
@@ -45,18 +48,34 @@ unlike a b h = go (same a b) refl
     go true e = absurd (h (same_equal a b e))
     go false e = refl
 
--- one byte of each of two texts, and the end of two that are as long
-pub same_step : (a b : List ℕ) (i : ℕ) → i < length a → i < length b
-    → same (drop i a) (drop i b) ≡ both (eqb (get_or a i 0) (get_or b i 0)) (same (drop (i + 1) a) (drop (i + 1) b))
-unfolding same
-same_step a b i h k = rw (at_next a i h, at_next b i k)
-
-pub same_end : (a b : List ℕ) (i : ℕ) → length a ≤ i → length b ≤ i → same (drop i a) (drop i b) ≡ true
-unfolding same
-same_end a b i h k = rw (drop_of_length-le a h, drop_of_length-le b k)
-
 pub same-lengths : (a b : List ℕ) → (length a ≡ length b → ⊥) → same a b ≡ false
 same-lengths a b h = unlike a b (λ e. h (ap length e))
+
+-- what `==` of two slices says
+pub pointwise_same : (a b : List ℕ) → pointwise eqb a b ≡ same a b
+unfolding same
+pointwise_same [] [] = refl
+pointwise_same [] (y ∷ ys) = refl
+pointwise_same (x ∷ xs) [] = refl
+pointwise_same (x ∷ xs) (y ∷ ys) = ap (both (eqb x y)) (pointwise_same xs ys)
+
+eqb_turned : (x y : ℕ) → eqb x y ≡ eqb y x
+eqb_turned x y = go (eqb x y) refl
+  where
+    go : (t : Bool) → eqb x y ≡ t → t ≡ eqb y x
+    go true e = sym (eq-eqb y x (sym (eqb-true x y e)))
+    go false e = sym (ne_eqb y x (λ z. eqb-false x y e (sym z)))
+
+same_turned : (a b : List ℕ) → same a b ≡ same b a
+unfolding same
+same_turned [] [] = refl
+same_turned [] (y ∷ ys) = refl
+same_turned (x ∷ xs) [] = refl
+same_turned (x ∷ xs) (y ∷ ys) = rw (eqb_turned x y, same_turned xs ys) refl
+
+-- what `starts_with` says
+pub starts_same : (p s : List ℕ) → pointwise eqb p (take (length p) s) ≡ same (take (length p) s) p
+starts_same p s = pointwise_same p (take (length p) s) ∙ same_turned p (take (length p) s)
 
 -- ---- first_of
 
@@ -81,6 +100,29 @@ first_le b (x ∷ s) = bounded (eqb x b) (first_le b s)
     bounded : (t : Bool) → first_of b s ≤ length s → pick t 0 (suc (first_of b s)) ≤ suc (length s)
     bounded true h = omega arith
     bounded false h = omega arith
+
+first_is : (b : ℕ) (s : List ℕ) → position_or_len (λ x. eqb x b) s ≡ first_of b s
+unfolding first_of
+first_is b [] = refl
+first_is b (x ∷ s) = go (eqb x b) (first_is b s)
+  where
+    go : (t : Bool) → position_or_len (λ x. eqb x b) s ≡ first_of b s
+        → cond (not t) (1 + position_or_len (λ x. eqb x b) s) 0 ≡ pick t 0 (suc (first_of b s))
+    go true e = refl
+    go false e = omega arith
+
+-- what the first place says, or else the length
+pub position_first : (b : ℕ) (s : List ℕ) (r : Option ℕ)
+    → r ≡ cond (ltb (position_or_len (λ x. eqb x b) s) (length s)) (Some (position_or_len (λ x. eqb x b) s)) None
+    → unwrap_or r (length s) ≡ first_of b s
+position_first b s r e =
+    let p : position_or_len (λ x. eqb x b) s ≡ first_of b s = first_is b s in
+    rw e (rw p (go (ltb (first_of b s) (length s)) refl))
+  where
+    go : (t : Bool) → ltb (first_of b s) (length s) ≡ t
+        → unwrap_or (cond t (Some (first_of b s)) None) (length s) ≡ first_of b s
+    go true h = refl
+    go false h = omega (arith, ltb-false (first_of b s) (length s) h, first_le b s)
 
 -- ---- every
 
@@ -168,23 +210,11 @@ written-append l at xs ys n e h =
     ∙ ap (drop (length ys)) (drop_at (take at l ++ xs) (drop n l) n p) ∙ drop-drop (length ys) n l in
     rw (w, take_at (take at l ++ xs) (drop n l) n p, d) (simp (append_assoc, length-append, q))
 
--- the first i bytes of v are written, and one more
-pub written-turn : (l m : List ℕ) (at : ℕ) (v : List ℕ) (i : ℕ) → m ≡ written l at (take i v) → i < length v
-    → at + length v ≤ length l
-    → set m (at + i) (get_or v i 0) ≡ written l at (take (i + 1) v)
-written-turn l m at v i e h p =
-    let n : length (take i v) ≡ i = length-take-le i v (omega arith) in
-    let w = written_more l at (take i v) (get_or v i 0) (omega arith) in
-    let k : set (written l at (take i v)) (at + i) (get_or v i 0) ≡ written l at (take i v ++ (get_or v i 0 ∷ [])) =
-    rw n at w in
-    rw (e, add-one, take-suc v i 0 h) k
-
-pub written_part_length : (l m : List ℕ) (at : ℕ) (v : List ℕ) (i : ℕ) → m ≡ written l at (take i v) → i ≤ length v
-    → at + length v ≤ length l
-    → length m ≡ length l
-written_part_length l m at v i e h p =
-    let n : length (take i v) ≡ i = length-take-le i v h in
-    ap length e ∙ written-length l at (take i v) (omega arith)
+-- what a part holds that `copy_from_slice` filled
+pub mid_written : (l : List ℕ) (at : ℕ) (v ys : List ℕ) (k : ℕ) → k ≡ length v → ys ≡ v
+    → put_mid at k l ys ≡ written l at v
+unfolding written
+mid_written l at v ys k h e = rw (h, e, drop-drop)
 
 -- ---- what a writer answers and leaves, where the text fits and where it doesn't
 
@@ -196,7 +226,7 @@ pub fits_false : (r : Bool) (at n m k : ℕ) → r ≡ leb (at + n) m → r ≡ 
 fits_false r at n m k e f g = leb-false (at + k) m (rw g at (sym e ∙ f))
 
 module _ (l : List ℕ) (at : ℕ) (v : List ℕ) where
-  pub answer_fits : at + length v ≤ length l → write_answer l at v ≡ Upto (at + length v)
+  pub answer_fits : at + length v ≤ length l → write_answer l at v ≡ Some (at + length v)
   unfolding write_answer
   answer_fits h = simp (le-leb (at + length v) (length l) h)
 
@@ -205,10 +235,10 @@ module _ (l : List ℕ) (at : ℕ) (v : List ℕ) where
   buffer_fits h = simp (le-leb (at + length v) (length l) h)
 
   pub wrote : (r : ℕ) (m : List ℕ) → at + length v ≤ length l → r ≡ at + length v → m ≡ written l at v
-      → (Upto r ≡ write_answer l at v) × (m ≡ write_buffer l at v)
-  wrote r m h e w = (ap Upto e ∙ sym (answer_fits h), w ∙ sym (buffer_fits h))
+      → (Some r ≡ write_answer l at v) × (m ≡ write_buffer l at v)
+  wrote r m h e w = (ap Some e ∙ sym (answer_fits h), w ∙ sym (buffer_fits h))
 
-  pub answer_short : length l < at + length v → write_answer l at v ≡ TooShort
+  pub answer_short : length l < at + length v → write_answer l at v ≡ None
   unfolding write_answer
   answer_short h = simp (lt-leb (at + length v) (length l) h)
 
@@ -216,7 +246,7 @@ module _ (l : List ℕ) (at : ℕ) (v : List ℕ) where
   unfolding write_buffer
   buffer_short h = simp (lt-leb (at + length v) (length l) h)
 
-  pub left_alone : length l < at + length v → (TooShort ≡ write_answer l at v) × (l ≡ write_buffer l at v)
+  pub left_alone : length l < at + length v → (None ≡ write_answer l at v) × (l ≡ write_buffer l at v)
   left_alone h = (sym (answer_short h), sym (buffer_short h))
 
 -- ---- a text that is written from its last byte to its first

@@ -1,20 +1,21 @@
 -- Laws of `decimal` and of what reads it back.
 -- Assumes nothing.
+use lib.Pointwise.{pointwise}
+use Rattle.std.proofs.Common.{Bor}
+use Rattle.std.specs.Prelude.{Option, Some, None, MatchOption, unwrap_or}
 use mathlib.Core.Path.{◌≡◌, refl, ap, sym, ◌∙◌}
 use mathlib.Core.Logic.{⊎_elim}
 use mathlib.Core.Bool.{Bool, true, false}
 use mathlib.Core.List.{List, [], ◌∷◌, ◌++◌, append_assoc, append-nil}
 use Prim.Native.Nat.{ℕ, zero, suc, ◌+◌, ◌*◌, ◌-◌, ◌/◌, ◌%◌, ◌<◌, ◌≤◌}
 use native.Mathlib.Omega.{arith}
-use borrow.Author.Tests.{lt-ltb, le-ltb, le-leb, lt-leb, leb-true, eq-eqb, ne_eqb, eqb-true}
+use borrow.Author.Tests.{lt-ltb, le-ltb, le-leb, lt-leb, leb-true, eqb-true}
 use lib.Dec.{leb, eqb}
-use lib.ListN.{length, length-append, get_or, drop}
+use lib.ListN.{length, length-append, get_or, take, drop}
 use Rattle.text.specs.Bytes.{pick}
 use Rattle.text.specs.Decimal.{digits, decimal, is_digit, read_digits, unsigned, index_number}
 use Rattle.text.specs.Inner.{every, is_ascii, all_digits_of}
-use Rattle.text.specs.declared.decimal.IndexParse.{IndexParse}
-use Rattle.text.specs.declared.decimal.IndexParse.TheVariants.{Parsed, Invalid}
-use Rattle.text.proofs.ListLaws.{lt_or_le, both_parts}
+use Rattle.text.proofs.ListLaws.{lt_or_le, both_true, both_parts, off, at_next}
 use Rattle.text.proofs.BytesLaws.{every-none, every_snoc, every-also}
 
 digits-zero : (n : ℕ) → digits zero n ≡ (48 + n % 10) ∷ []
@@ -64,12 +65,12 @@ pub decimal-length : (n : ℕ) → length (decimal n) ≤ n + 1
 unfolding decimal
 decimal-length n = digits-length n n
 
-pick_same : (t : Bool) (x y : IndexParse) → x ≡ y → pick t x y ≡ y
+pick_same : (t : Bool) (x y : Option ℕ) → x ≡ y → pick t x y ≡ y
 pick_same true x y e = e
 pick_same false x y e = refl
 
 -- past 65535 nothing is read any more
-pub read_over : (a : ℕ) (ds : List ℕ) → 65535 < a → read_digits a ds ≡ Invalid
+pub read_over : (a : ℕ) (ds : List ℕ) → 65535 < a → read_digits a ds ≡ None
 unfolding read_digits
 read_over a [] h = simp (lt-leb a 65535 h)
 read_over a (d ∷ ds) h = pick_same (is_digit d) _ _ (read_over (a * 10 + (d - 48)) ds (omega arith))
@@ -79,11 +80,11 @@ pub read_digit : (a d : ℕ) (ds : List ℕ) → 48 ≤ d → d ≤ 57 → read_
 unfolding read_digits
 read_digit a d ds h l = simp (le-leb 48 d h, le-leb d 57 l)
 
-pub read_below : (a d : ℕ) (ds : List ℕ) → d < 48 → read_digits a (d ∷ ds) ≡ Invalid
+pub read_below : (a d : ℕ) (ds : List ℕ) → d < 48 → read_digits a (d ∷ ds) ≡ None
 unfolding read_digits
 read_below a d ds h = simp (lt-leb 48 d h)
 
-pub read_above : (a d : ℕ) (ds : List ℕ) → 57 < d → read_digits a (d ∷ ds) ≡ Invalid
+pub read_above : (a d : ℕ) (ds : List ℕ) → 57 < d → read_digits a (d ∷ ds) ≡ None
 unfolding read_digits
 read_above a d ds h = simp (le-leb 48 d (omega arith), lt-leb d 57 h)
 
@@ -102,13 +103,13 @@ read_digits_lem (suc k) n ds h =
     (lt_or_le n 10)
 
 -- whatever is read with no sign is read the same where a sign may stand
-pub plain : (s : List ℕ) (n : ℕ) → unsigned s ≡ Parsed n → index_number s ≡ Parsed n
+pub plain : (s : List ℕ) (n : ℕ) → unsigned s ≡ Some n → index_number s ≡ Some n
 unfolding unsigned index_number
 plain [] n e = e
 plain (b ∷ bs) n e = go (eqb b 43) refl
   where
-    go : (t : Bool) → eqb b 43 ≡ t → pick t (unsigned bs) (unsigned (b ∷ bs)) ≡ Parsed n
-    go true h = let z : Invalid ≡ Parsed n = sym (read_below 0 b bs (omega (arith, eqb-true b 43 h))) ∙ e in cc
+    go : (t : Bool) → eqb b 43 ≡ t → pick t (unsigned bs) (unsigned (b ∷ bs)) ≡ Some n
+    go true h = let z : None ≡ Some n = sym (read_below 0 b bs (omega (arith, eqb-true b 43 h))) ∙ e in cc
     go false h = e
 
 pub unsigned_all : (s : List ℕ) → 0 < length s → unsigned s ≡ read_digits 0 s
@@ -121,7 +122,7 @@ decimal_positive n =
     ⊎_elim (λ h. rw (decimal_small n h) (omega arith)) (λ h. omega (arith, decimal_more_length n h)) (lt_or_le n 10)
 
 -- an index that is written is read back
-pub read_back : (n : ℕ) → n ≤ 65535 → index_number (decimal n) ≡ Parsed n
+pub read_back : (n : ℕ) → n ≤ 65535 → index_number (decimal n) ≡ Some n
 unfolding decimal read_digits
 read_back n h =
     plain (decimal n) n
@@ -129,29 +130,31 @@ read_back n h =
     ∙ rw (← append-nil (decimal n)) (read_digits_lem n n [] (omega arith) ∙ simp (le-leb n 65535 h)))
 
 -- the end
-pub read_end : (a : ℕ) → a ≤ 65535 → read_digits a [] ≡ Parsed a
+pub read_end : (a : ℕ) → a ≤ 65535 → read_digits a [] ≡ Some a
 unfolding read_digits
 read_end a h = simp (le-leb a 65535 h)
 
-pub unsigned-none : (s : List ℕ) → length s ≡ 0 → unsigned s ≡ Invalid
-unfolding unsigned
-unsigned-none [] h = refl
-unsigned-none (b ∷ bs) h = absurd (omega arith)
+-- a digit that takes the number over the largest
+pub read_past : (s : List ℕ) (a i : ℕ) → read_digits a (drop i s) ≡ unsigned s → i < length s → 48 ≤ get_or s i 0
+    → get_or s i 0 ≤ 57 → 65535 < a * 10 + (get_or s i 0 - 48) → None ≡ unsigned s
+read_past s a i e h l u o =
+    let d = get_or s i 0 in
+    sym (read_over (a * 10 + (d - 48)) (drop (i + 1) s) o) ∙ sym (read_digit a d (drop (i + 1) s) l u)
+    ∙ sym (ap (read_digits a) (at_next s i h)) ∙ e
 
-pub index_none : (s : List ℕ) → length s ≡ 0 → index_number s ≡ Invalid
-unfolding index_number
-index_none [] h = refl
-index_none (b ∷ bs) h = absurd (omega arith)
-
-pub index_plus : (s : List ℕ) → (length s ≡ 0 → ⊥) → get_or s 0 0 ≡ 43 → index_number s ≡ unsigned (drop 1 s)
-unfolding index_number
-index_plus [] h e = absurd (h refl)
-index_plus (b ∷ bs) h e = simp (eq-eqb b 43 e)
-
-pub index_plain : (s : List ℕ) → (get_or s 0 0 ≡ 43 → ⊥) → index_number s ≡ unsigned s
-unfolding index_number unsigned
-index_plain [] e = refl
-index_plain (b ∷ bs) e = simp (ne_eqb b 43 e)
+-- what is read after one `+`, or of the whole
+pub index_strip : (s : List ℕ) (whole : Bor (List ℕ)) (r : Option (Bor (List ℕ))) → whole.now ≡ s
+    → MatchOption r (pointwise eqb (take 1 s) (43 ∷ []) ≡ false)
+    (λ x. (pointwise eqb (take 1 s) (43 ∷ []) ≡ true) × (x.now ≡ drop 1 s) × (length x.now + 1 ≡ length s))
+    → unsigned (unwrap_or r whole).now ≡ index_number s
+unfolding unsigned index_number
+index_strip [] whole None e m = rw e refl
+index_strip (b ∷ bs) whole None e m = let z : eqb b 43 ≡ false = sym (both_true (eqb b 43)) ∙ m in rw (e, z) refl
+index_strip [] whole (Some x) e m = absurd (off m.0)
+index_strip (b ∷ bs) whole (Some x) e m =
+    let z : eqb b 43 ≡ true = sym (both_true (eqb b 43)) ∙ m.0 in
+    let f : x.now ≡ bs = m.1 in
+    rw (f, z) refl
 
 -- ---- what is written is digits alone, so no separator of a line stands in it
 digit_is : (d : ℕ) → d < 10 → is_digit (48 + d) ≡ true

@@ -1,5 +1,6 @@
 -- Examples of the documents, as theorems over the definitions.
 -- Assumes nothing.
+use Rattle.std.specs.Prelude.{Some, None}
 use mathlib.Core.Path.{◌≡◌, refl}
 use mathlib.Core.Bool.{true, false}
 use mathlib.Core.List.{[], ◌∷◌}
@@ -9,10 +10,8 @@ use Rattle.text.specs.Decimal.{digits, decimal, read_digits, unsigned, index_num
 use Rattle.text.specs.Utf8.{begins, first_length, char_length, run_of, valid_run, is_utf8}
 use Rattle.text.specs.Uuid.{hex_digit, read_hex, hyphenated, uuid_of, hex_text, uuid_text, big_endian, uuid_bytes}
 use Rattle.text.specs.Uuid.{without_checksum}
-use Rattle.text.specs.declared.decimal.IndexParse.TheVariants as Index
 use Rattle.text.specs.declared.uuid.Uuid.{Uuid}
 use Rattle.text.specs.declared.uuid.Form.TheVariants as F
-use Rattle.text.specs.declared.uuid.UuidParse.TheVariants.{Parsed, Invalid}
 
 -- ---- UTF-8
 
@@ -42,11 +41,11 @@ byte_ff = refl
 abbrev example : Uuid
 example = record { high = 0xf81d4fae7dec11d0; low = 0xa76500a0c91e6bf6 }
 
-urn : uuid_of (ascii "urn:uuid:f81d4fae-7dec-11d0-a765-00a0c91e6bf6") ≡ Parsed (record { id = example; form = F.Urn })
+urn : uuid_of (ascii "urn:uuid:f81d4fae-7dec-11d0-a765-00a0c91e6bf6") ≡ Some (record { id = example; form = F.Urn })
 unfolding uuid_of hyphenated read_hex hex_digit same
 urn = refl
 
-upper_in_braces : uuid_of (ascii "{F81D4FAE-7DEC-11D0-A765-00A0C91E6BF6}") ≡ Parsed (record { id = example; form = F.Braced })
+upper_in_braces : uuid_of (ascii "{F81D4FAE-7DEC-11D0-A765-00A0C91E6BF6}") ≡ Some (record { id = example; form = F.Braced })
 unfolding uuid_of hyphenated read_hex hex_digit same
 upper_in_braces = refl
 
@@ -59,19 +58,19 @@ bytes_high_first : uuid_bytes example ≡
 unfolding big_endian
 bytes_high_first = refl
 
-upper_hyphenated : uuid_of (ascii "F81D4FAE-7DEC-11D0-A765-00A0C91E6BF6") ≡ Parsed (record { id = example; form = F.Hyphenated })
+upper_hyphenated : uuid_of (ascii "F81D4FAE-7DEC-11D0-A765-00A0C91E6BF6") ≡ Some (record { id = example; form = F.Hyphenated })
 unfolding uuid_of hyphenated read_hex hex_digit same
 upper_hyphenated = refl
 
-upper_simple : uuid_of (ascii "F81D4FAE7DEC11D0A76500A0C91E6BF6") ≡ Parsed (record { id = example; form = F.Simple })
+upper_simple : uuid_of (ascii "F81D4FAE7DEC11D0A76500A0C91E6BF6") ≡ Some (record { id = example; form = F.Simple })
 unfolding uuid_of hyphenated read_hex hex_digit same
 upper_simple = refl
 
-braces_alone : uuid_of (ascii "{f81d4fae7dec11d0a76500a0c91e6bf6}") ≡ Invalid
+braces_alone : uuid_of (ascii "{f81d4fae7dec11d0a76500a0c91e6bf6}") ≡ None
 unfolding uuid_of hyphenated read_hex hex_digit same
 braces_alone = refl
 
-upper_urn : uuid_of (ascii "URN:UUID:f81d4fae-7dec-11d0-a765-00a0c91e6bf6") ≡ Invalid
+upper_urn : uuid_of (ascii "URN:UUID:f81d4fae-7dec-11d0-a765-00a0c91e6bf6") ≡ None
 unfolding uuid_of hyphenated read_hex hex_digit same
 upper_urn = refl
 
@@ -106,15 +105,15 @@ all_bits = refl
 
 -- ---- index numbers
 
-largest : index_number (ascii "+0065535") ≡ Index.Parsed 65535
+largest : index_number (ascii "+0065535") ≡ Some 65535
 unfolding index_number unsigned read_digits
 largest = refl
 
-too_large : index_number (ascii "65536") ≡ Index.Invalid
+too_large : index_number (ascii "65536") ≡ None
 unfolding index_number unsigned read_digits
 too_large = refl
 
-sign_alone : index_number (ascii "+") ≡ Index.Invalid
+sign_alone : index_number (ascii "+") ≡ None
 unfolding index_number unsigned read_digits
 sign_alone = refl
 

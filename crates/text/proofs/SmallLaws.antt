@@ -1,5 +1,6 @@
 -- A UUID that is read has 128 bits.
 -- Assumes nothing.
+use Rattle.std.specs.Prelude.{Option, Some, None}
 use mathlib.Core.Path.{◌≡◌, refl, subst}
 use mathlib.Core.Bool.{Bool, true, false}
 use mathlib.Core.List.{List, ◌++◌}
@@ -14,37 +15,34 @@ use Rattle.text.specs.Uuid.{hyphenated, in_braces, after_urn, uuid_of}
 use Rattle.text.specs.declared.uuid.Spelled.{Spelled}
 use Rattle.text.specs.declared.uuid.Form.{Form}
 use Rattle.text.specs.declared.uuid.Form.TheVariants as F
-use Rattle.text.specs.declared.uuid.Hex.{Hex}
-use Rattle.text.specs.declared.uuid.Hex.TheVariants.{Number, NotHex}
-use Rattle.text.specs.declared.uuid.UuidParse.TheVariants.{Parsed, Invalid}
 use Rattle.text.proofs.UuidLaws.{room_for}
 
 -- a half of at most sixteen digits fits 64 bits
-half_small : (ds : List ℕ) (v : ℕ) → length ds ≤ 16 → read_hex 0 ds ≡ Number v → v < 2 ^ 64
+half_small : (ds : List ℕ) (v : ℕ) → length ds ≤ 16 → read_hex 0 ds ≡ Some v → v < 2 ^ 64
 half_small ds v h e = room_for ds (read_hex 0 ds) 16 refl h v e
 
 digits_small : (f : Form) (xs ys : List ℕ) (u : Spelled) → length xs ≤ 16 → length ys ≤ 16
-    → of_digits f xs ys ≡ Parsed u → Small u.id
+    → of_digits f xs ys ≡ Some u → Small u.id
 digits_small f xs ys u h k e = high (read_hex 0 xs) refl e
   where
-    low : (x : ℕ) → x < 2 ^ 64 → (t : Hex) → read_hex 0 ys ≡ t → with_low f x t ≡ Parsed u → Small u.id
-    low x b (Number y) p q =
+    low : (x : ℕ) → x < 2 ^ 64 → (t : Option ℕ) → read_hex 0 ys ≡ t → with_low f x t ≡ Some u → Small u.id
+    low x b (Some y) p q =
         let w : record { id = record { high = x; low = y }; form = f } ≡ u = cc in
         subst (λ (v : Spelled). Small v.id) w (record { high = b; low = half_small ys y k p })
-    low x b NotHex p q = let z : ◌≡◌ {A = ℕ} 0 1 = cc in absurd (omega arith)
+    low x b None p q = let z : ◌≡◌ {A = ℕ} 0 1 = cc in absurd (omega arith)
 
-    high : (t : Hex) → read_hex 0 xs ≡ t → joined f t (read_hex 0 ys) ≡ Parsed u → Small u.id
-    high (Number x) p q = low x (half_small xs x h p) (read_hex 0 ys) refl q
-    high NotHex p q = let z : ◌≡◌ {A = ℕ} 0 1 = cc in absurd (omega arith)
+    high : (t : Option ℕ) → read_hex 0 xs ≡ t → joined f t (read_hex 0 ys) ≡ Some u → Small u.id
+    high (Some x) p q = low x (half_small xs x h p) (read_hex 0 ys) refl q
+    high None p q = let z : ◌≡◌ {A = ℕ} 0 1 = cc in absurd (omega arith)
 
 take_short : (n : ℕ) (s : List ℕ) → length (take n s) ≤ n
 take_short n s = simp length-take (omega arith)
 
-hyphenated_small : (f : Form) (s : List ℕ) (u : Spelled) → hyphenated f s ≡ Parsed u → Small u.id
+hyphenated_small : (f : Form) (s : List ℕ) (u : Spelled) → hyphenated f s ≡ Some u → Small u.id
 unfolding hyphenated
 hyphenated_small f s u e = go (both (hyphen_at s 8) (both (hyphen_at s 13) (both (hyphen_at s 18) (hyphen_at s 23)))) e
   where
-    go : (t : Bool) → pick t (of_digits f (first_groups s) (last_groups s)) Invalid ≡ Parsed u → Small u.id
+    go : (t : Bool) → pick t (of_digits f (first_groups s) (last_groups s)) None ≡ Some u → Small u.id
     go true q =
         digits_small f (first_groups s) (last_groups s) u
         (omega (
@@ -66,17 +64,17 @@ hyphenated_small f s u e = go (both (hyphen_at s 8) (both (hyphen_at s 13) (both
         )) q
     go false q = let z : ◌≡◌ {A = ℕ} 0 1 = cc in absurd (omega arith)
 
-pub uuid_small : (s : List ℕ) (u : Spelled) → uuid_of s ≡ Parsed u → Small u.id
+pub uuid_small : (s : List ℕ) (u : Spelled) → uuid_of s ≡ Some u → Small u.id
 unfolding uuid_of
 uuid_small s u e = go32 (eqb (length s) 32) refl e
   where
-    go45 : (t : Bool) → pick t (hyphenated F.Urn (drop 9 s)) Invalid ≡ Parsed u → Small u.id
+    go45 : (t : Bool) → pick t (hyphenated F.Urn (drop 9 s)) None ≡ Some u → Small u.id
     go45 true q = hyphenated_small F.Urn (drop 9 s) u q
     go45 false q = let z : ◌≡◌ {A = ℕ} 0 1 = cc in absurd (omega arith)
 
     go38 : (t : Bool)
         → pick t (hyphenated F.Braced (take 36 (drop 1 s)))
-        (pick (both (eqb (length s) 45) (after_urn s)) (hyphenated F.Urn (drop 9 s)) Invalid) ≡ Parsed u
+        (pick (both (eqb (length s) 45) (after_urn s)) (hyphenated F.Urn (drop 9 s)) None) ≡ Some u
         → Small u.id
     go38 true q = hyphenated_small F.Braced (take 36 (drop 1 s)) u q
     go38 false q = go45 (both (eqb (length s) 45) (after_urn s)) q
@@ -84,7 +82,7 @@ uuid_small s u e = go32 (eqb (length s) 32) refl e
     go36 : (t : Bool)
         → pick t (hyphenated F.Hyphenated s)
         (pick (both (eqb (length s) 38) (in_braces s)) (hyphenated F.Braced (take 36 (drop 1 s)))
-        (pick (both (eqb (length s) 45) (after_urn s)) (hyphenated F.Urn (drop 9 s)) Invalid)) ≡ Parsed u
+        (pick (both (eqb (length s) 45) (after_urn s)) (hyphenated F.Urn (drop 9 s)) None)) ≡ Some u
         → Small u.id
     go36 true q = hyphenated_small F.Hyphenated s u q
     go36 false q = go38 (both (eqb (length s) 38) (in_braces s)) q
@@ -93,7 +91,7 @@ uuid_small s u e = go32 (eqb (length s) 32) refl e
         → pick t (simple s)
         (pick (eqb (length s) 36) (hyphenated F.Hyphenated s)
         (pick (both (eqb (length s) 38) (in_braces s)) (hyphenated F.Braced (take 36 (drop 1 s)))
-        (pick (both (eqb (length s) 45) (after_urn s)) (hyphenated F.Urn (drop 9 s)) Invalid))) ≡ Parsed u
+        (pick (both (eqb (length s) 45) (after_urn s)) (hyphenated F.Urn (drop 9 s)) None))) ≡ Some u
         → Small u.id
     go32 true p q =
         digits_small F.Simple (take 16 s) (drop 16 s) u (take_short 16 s)

@@ -1,16 +1,17 @@
 -- Four spellings are one UUID: a text of 32 bytes is the list of its bytes by number, over which each spelling computes.
 -- A number read from digits is written as these digits in lower case. Assumes nothing.
+use Rattle.std.specs.Prelude.{Option, Some, None, option_and_then}
 use Prim.Native.Nat.{ℕ, zero, suc, ◌+◌, ◌*◌, ◌-◌, ◌/◌, ◌%◌, ◌<◌}
 use mathlib.Core.Path.{◌≡◌, refl, sym, subst, ap, ◌∙◌}
 use mathlib.Core.Bool.{Bool, true, false}
 use mathlib.Core.List.{List, [], ◌∷◌, ◌++◌, map, append_assoc}
 use native.Mathlib.Omega.{arith}
-use borrow.Author.Tests.{lt-ltb, le-ltb, ltb-true, leb-true, eqb-true}
-use lib.Dec.{ltb, leb, eqb}
+use borrow.Author.Tests.{lt-ltb, le-ltb, eqb-true, lt-leb, le-leb}
+use lib.Dec.{leb, eqb}
 use lib.ListN.{length, get_or, take, drop, length-drop, take-append-drop}
 use lib.Seq.{length-take-le}
 use Rattle.text.specs.Bytes.{pick, both, same}
-use Rattle.text.specs.Uuid.{is_from, hex_digit, read_hex, hyphen_at, first_groups, last_groups, hyphenated, joined}
+use Rattle.text.specs.Uuid.{hex_digit, read_hex, hyphen_at, first_groups, last_groups, hyphenated, joined}
 use Rattle.text.specs.Uuid.{of_digits, simple, in_braces, after_urn, uuid_of}
 use Rattle.text.specs.Uuid.{lower_digit, hex_text, uuid_text}
 use Rattle.text.specs.Spellings.{in_form, SpelledAlike, form_length, FormTold, ReaderForms}
@@ -18,12 +19,8 @@ use Rattle.text.specs.Spellings.{lower_byte, LowerText}
 use Rattle.text.specs.declared.uuid.Spelled.{Spelled}
 use Rattle.text.specs.declared.uuid.Form.{Form}
 use Rattle.text.specs.declared.uuid.Form.TheVariants as F
-use Rattle.text.specs.declared.uuid.UuidParse.{UuidParse}
-use Rattle.text.specs.declared.uuid.UuidParse.TheVariants.{Parsed, Invalid}
-use Rattle.text.specs.declared.uuid.Hex.{Hex}
-use Rattle.text.specs.declared.uuid.Hex.TheVariants.{Number, NotHex}
 use Rattle.text.proofs.ListLaws.{both_parts}
-use Rattle.text.proofs.UuidLaws.{uuid_32}
+use Rattle.text.proofs.UuidLaws.{by_range, digit_small, uuid_32}
 
 -- ---- a list by its numbers
 unfoldable by_number : (ℕ → ℕ) → ℕ → List ℕ
@@ -38,10 +35,10 @@ numbered (b ∷ d) zero h = absurd (omega arith)
 numbered (b ∷ d) (suc n) h = ap (λ (l : List ℕ). b ∷ l) (numbered d n (omega arith))
 
 -- two halves in one form, and in another
-in_form_lem : (f g : Form) (x y : Hex) → joined f x y ≡ in_form f (joined g x y)
-in_form_lem f g (Number v) (Number w) = refl
-in_form_lem f g (Number v) NotHex = refl
-in_form_lem f g NotHex y = refl
+in_form_lem : (f g : Form) (x y : Option ℕ) → joined f x y ≡ in_form f (joined g x y)
+in_form_lem f g (Some v) (Some w) = refl
+in_form_lem f g (Some v) None = refl
+in_form_lem f g None y = refl
 
 computed : (f : ℕ → ℕ) → SpelledAlike (by_number f 32)
 unfolding by_number uuid_of hyphenated same
@@ -60,35 +57,15 @@ pub spelled_alike : (d : List ℕ) → length d ≡ 32 → SpelledAlike d
 spelled_alike d h = subst SpelledAlike (numbered d 32 h) (computed (λ (i : ℕ). get_or d i 0))
 
 -- ---- a digit and its lower case
-digit_low : (b : ℕ) → hex_digit b < 16 → lower_digit (hex_digit b) ≡ lower_byte b
-unfolding hex_digit
-digit_low b h = by (is_from 48 57 b) refl (is_from 65 70 b) refl (is_from 97 102 b) refl h
-  where
-    value : Bool → Bool → Bool → ℕ
-    value x y z = pick x (b - 48) (pick y (b - 65 + 10) (pick z (b - 97 + 10) 16))
-
-    by : (x : Bool) → is_from 48 57 b ≡ x → (y : Bool) → is_from 65 70 b ≡ y → (z : Bool) → is_from 97 102 b ≡ z
-        → value x y z < 16 → lower_digit (value x y z) ≡ pick y (b + 32) b
-    by true p true q z r h =
-        let u = both_parts (leb 48 b) (leb b 57) p in
-        let w = both_parts (leb 65 b) (leb b 70) q in
-        absurd (omega (arith, leb-true b 57 u.1, leb-true 65 b w.0))
-    by true p false q z r h =
-        let u = both_parts (leb 48 b) (leb b 57) p in
-        let k = leb-true 48 b u.0 in
-        let l = leb-true b 57 u.1 in
-        rw (lt-ltb (b - 48) 10 (omega arith)) (omega arith)
-    by false p true q z r h =
-        let w = both_parts (leb 65 b) (leb b 70) q in
-        let k = leb-true 65 b w.0 in
-        let l = leb-true b 70 w.1 in
-        rw (le-ltb (b - 65 + 10) 10 (omega arith)) (omega arith)
-    by false p false q true r h =
-        let w = both_parts (leb 97 b) (leb b 102) r in
-        let k = leb-true 97 b w.0 in
-        let l = leb-true b 102 w.1 in
-        rw (le-ltb (b - 97 + 10) 10 (omega arith)) (omega arith)
-    by false p false q false r h = absurd (omega arith)
+digit_low : (b v : ℕ) → hex_digit b ≡ Some v → lower_digit v ≡ lower_byte b
+digit_low b v e =
+    by_range (λ (n : ℕ). lower_digit n ≡ lower_byte b) b v e
+    (λ l h. let r : leb 65 b ≡ false = lt-leb 65 b (omega arith) in
+    simp (r, lt-ltb (b - 48) 10 (omega arith)) (omega arith))
+    (λ l h. let r : leb 65 b ≡ true = le-leb 65 b (omega arith) in let q : leb b 70 ≡ true = le-leb b 70 (omega arith) in
+    simp (r, q, le-ltb (b - 65 + 10) 10 (omega arith)) (omega arith))
+    (λ l h. let r : leb 65 b ≡ true = le-leb 65 b (omega arith) in let q : leb b 70 ≡ false = lt-leb b 70 (omega arith) in
+    simp (r, q, le-ltb (b - 97 + 10) 10 (omega arith)) (omega arith))
 
 -- digits behind k others that made a
 text_more : (k a h : ℕ) → h < 16 → hex_text (suc k) (a * 16 + h) ≡ hex_text k a ++ (lower_digit h ∷ [])
@@ -98,7 +75,7 @@ text_more k a h l =
     let q : (a * 16 + h) % 16 ≡ h = omega arith in
     rw (p, q) refl
 
-read_low : (s : List ℕ) (a v k : ℕ) → read_hex a s ≡ Number v → hex_text (k + length s) v
+read_low : (s : List ℕ) (a v k : ℕ) → read_hex a s ≡ Some v → hex_text (k + length s) v
     ≡ hex_text k a ++ map lower_byte s
 unfolding read_hex
 read_low [] a v k e =
@@ -109,22 +86,21 @@ read_low [] a v k e =
     append-none : (l : List ℕ) → l ++ [] ≡ l
     append-none [] = refl
     append-none (x ∷ l) = ap (λ (m : List ℕ). x ∷ m) (append-none l)
-read_low (d ∷ ds) a v k e = go (ltb (hex_digit d) 16) refl e (read_low ds (a * 16 + hex_digit d) v (suc k))
+read_low (d ∷ ds) a v k e = go (hex_digit d) refl e (λ x. read_low ds (a * 16 + x) v (suc k))
   where
-    go : (t : Bool) → ltb (hex_digit d) 16 ≡ t → pick t (read_hex (a * 16 + hex_digit d) ds) NotHex ≡ Number v
-        → (read_hex (a * 16 + hex_digit d) ds ≡ Number v
-        → hex_text (suc k + length ds) v ≡ hex_text (suc k) (a * 16 + hex_digit d) ++ map lower_byte ds)
+    go : (r : Option ℕ) → hex_digit d ≡ r → option_and_then (λ x. read_hex (a * 16 + x) ds) r ≡ Some v
+        → ((x : ℕ) → read_hex (a * 16 + x) ds ≡ Some v
+        → hex_text (suc k + length ds) v ≡ hex_text (suc k) (a * 16 + x) ++ map lower_byte ds)
         → hex_text (k + suc (length ds)) v ≡ hex_text k a ++ (lower_byte d ∷ map lower_byte ds)
-    go true p q f =
-        let h = ltb-true (hex_digit d) 16 p in
+    go (Some x) p q f =
         let z : k + suc (length ds) ≡ suc k + length ds = omega arith in
-        ap (λ (n : ℕ). hex_text n v) z ∙ f q
-        ∙ ap (λ (l : List ℕ). l ++ map lower_byte ds) (text_more k a (hex_digit d) h
-        ∙ ap (λ (b : ℕ). hex_text k a ++ (b ∷ [])) (digit_low d h))
+        ap (λ (n : ℕ). hex_text n v) z ∙ f x q
+        ∙ ap (λ (l : List ℕ). l ++ map lower_byte ds) (text_more k a x (digit_small d x p)
+        ∙ ap (λ (b : ℕ). hex_text k a ++ (b ∷ [])) (digit_low d x p))
         ∙ append_assoc (hex_text k a) (lower_byte d ∷ []) (map lower_byte ds)
-    go false p q f = absurd (let z : ◌≡◌ {A = ℕ} 0 1 = cc in omega arith)
+    go None p q f = absurd (let z : ◌≡◌ {A = ℕ} 0 1 = cc in omega arith)
 
-half_low : (s : List ℕ) (v : ℕ) → length s ≡ 16 → read_hex 0 s ≡ Number v → hex_text 16 v ≡ map lower_byte s
+half_low : (s : List ℕ) (v : ℕ) → length s ≡ 16 → read_hex 0 s ≡ Some v → hex_text 16 v ≡ map lower_byte s
 unfolding hex_text
 half_low s v h e =
     let z : 16 ≡ 0 + length s = omega arith in
@@ -138,9 +114,9 @@ pub lower_text : LowerText
 lower_text d g h e =
     go (read_hex 0 (take 16 d)) refl (read_hex 0 (drop 16 d)) refl (sym (uuid_32 d h) ∙ e)
   where
-    go : (x : Hex) → read_hex 0 (take 16 d) ≡ x → (y : Hex) → read_hex 0 (drop 16 d) ≡ y → joined F.Simple x y ≡ Parsed g
+    go : (x : Option ℕ) → read_hex 0 (take 16 d) ≡ x → (y : Option ℕ) → read_hex 0 (drop 16 d) ≡ y → joined F.Simple x y ≡ Some g
         → uuid_text g.id ≡ map lower_byte d
-    go (Number v) p (Number w) q r =
+    go (Some v) p (Some w) q r =
         let a : v ≡ g.id.high = ap high_of r in
         let b : w ≡ g.id.low = ap low_of r in
         let l : length (take 16 d) ≡ 16 = length-take-le 16 d (omega arith) in
@@ -148,32 +124,32 @@ lower_text d g h e =
         rw (← a, ← b, half_low (take 16 d) v l p, half_low (drop 16 d) w m q)
         (map-two (take 16 d) (drop 16 d) ∙ ap (map lower_byte) (take-append-drop 16 d))
       where
-        high_of : UuidParse → ℕ
-        high_of (Parsed x) = x.id.high
-        high_of Invalid = 0
+        high_of : Option Spelled → ℕ
+        high_of (Some x) = x.id.high
+        high_of None = 0
 
-        low_of : UuidParse → ℕ
-        low_of (Parsed x) = x.id.low
-        low_of Invalid = 0
-    go (Number v) p NotHex q r = absurd (let z : ◌≡◌ {A = ℕ} 0 1 = cc in omega arith)
-    go NotHex p y q r = absurd (let z : ◌≡◌ {A = ℕ} 0 1 = cc in omega arith)
+        low_of : Option Spelled → ℕ
+        low_of (Some x) = x.id.low
+        low_of None = 0
+    go (Some v) p None q r = absurd (let z : ◌≡◌ {A = ℕ} 0 1 = cc in omega arith)
+    go None p y q r = absurd (let z : ◌≡◌ {A = ℕ} 0 1 = cc in omega arith)
 
 -- ---- which form was read
 
-joined_form : (f : Form) (x y : Hex) (g : Spelled) → joined f x y ≡ Parsed g → g.form ≡ f
-joined_form f (Number v) (Number w) g e = sym (ap form_of e)
+joined_form : (f : Form) (x y : Option ℕ) (g : Spelled) → joined f x y ≡ Some g → g.form ≡ f
+joined_form f (Some v) (Some w) g e = sym (ap form_of e)
   where
-    form_of : UuidParse → Form
-    form_of (Parsed h) = h.form
-    form_of Invalid = f
-joined_form f (Number v) NotHex g e = absurd (let z : ◌≡◌ {A = ℕ} 0 1 = cc in omega arith)
-joined_form f NotHex y g e = absurd (let z : ◌≡◌ {A = ℕ} 0 1 = cc in omega arith)
+    form_of : Option Spelled → Form
+    form_of (Some h) = h.form
+    form_of None = f
+joined_form f (Some v) None g e = absurd (let z : ◌≡◌ {A = ℕ} 0 1 = cc in omega arith)
+joined_form f None y g e = absurd (let z : ◌≡◌ {A = ℕ} 0 1 = cc in omega arith)
 
-hyphenated_form : (f : Form) (s : List ℕ) (g : Spelled) → hyphenated f s ≡ Parsed g → g.form ≡ f
+hyphenated_form : (f : Form) (s : List ℕ) (g : Spelled) → hyphenated f s ≡ Some g → g.form ≡ f
 unfolding hyphenated
 hyphenated_form f s g e = go (both (hyphen_at s 8) (both (hyphen_at s 13) (both (hyphen_at s 18) (hyphen_at s 23)))) e
   where
-    go : (t : Bool) → pick t (of_digits f (first_groups s) (last_groups s)) Invalid ≡ Parsed g → g.form ≡ f
+    go : (t : Bool) → pick t (of_digits f (first_groups s) (last_groups s)) None ≡ Some g → g.form ≡ f
     go true q = joined_form f (read_hex 0 (first_groups s)) (read_hex 0 (last_groups s)) g q
     go false q = absurd (let z : ◌≡◌ {A = ℕ} 0 1 = cc in omega arith)
 
@@ -187,7 +163,7 @@ reader_forms s g e = go32 (eqb (length s) 32) refl e
     clash : {A : Type 0} → ◌≡◌ {A = ℕ} 0 1 → A
     clash z = absurd (omega arith)
 
-    go45 : (t : Bool) → both (eqb (length s) 45) (after_urn s) ≡ t → pick t (hyphenated F.Urn (drop 9 s)) Invalid ≡ Parsed g
+    go45 : (t : Bool) → both (eqb (length s) 45) (after_urn s) ≡ t → pick t (hyphenated F.Urn (drop 9 s)) None ≡ Some g
         → FormTold s g
     go45 true p q =
         told s g F.Urn (λ z. clash cc)
@@ -196,7 +172,7 @@ reader_forms s g e = go32 (eqb (length s) 32) refl e
 
     go38 : (t : Bool) → both (eqb (length s) 38) (in_braces s) ≡ t
         → pick t (hyphenated F.Braced (take 36 (drop 1 s)))
-        (pick (both (eqb (length s) 45) (after_urn s)) (hyphenated F.Urn (drop 9 s)) Invalid) ≡ Parsed g
+        (pick (both (eqb (length s) 45) (after_urn s)) (hyphenated F.Urn (drop 9 s)) None) ≡ Some g
         → FormTold s g
     go38 true p q =
         told s g F.Braced (λ z. clash cc)
@@ -207,7 +183,7 @@ reader_forms s g e = go32 (eqb (length s) 32) refl e
     go36 : (t : Bool) → eqb (length s) 36 ≡ t
         → pick t (hyphenated F.Hyphenated s)
         (pick (both (eqb (length s) 38) (in_braces s)) (hyphenated F.Braced (take 36 (drop 1 s)))
-        (pick (both (eqb (length s) 45) (after_urn s)) (hyphenated F.Urn (drop 9 s)) Invalid)) ≡ Parsed g
+        (pick (both (eqb (length s) 45) (after_urn s)) (hyphenated F.Urn (drop 9 s)) None)) ≡ Some g
         → FormTold s g
     go36 true p q = told s g F.Hyphenated (λ z. clash cc) (eqb-true (length s) 36 p) (hyphenated_form F.Hyphenated s g q)
     go36 false p q = go38 (both (eqb (length s) 38) (in_braces s)) refl q
@@ -216,7 +192,7 @@ reader_forms s g e = go32 (eqb (length s) 32) refl e
         → pick t (simple s)
         (pick (eqb (length s) 36) (hyphenated F.Hyphenated s)
         (pick (both (eqb (length s) 38) (in_braces s)) (hyphenated F.Braced (take 36 (drop 1 s)))
-        (pick (both (eqb (length s) 45) (after_urn s)) (hyphenated F.Urn (drop 9 s)) Invalid))) ≡ Parsed g
+        (pick (both (eqb (length s) 45) (after_urn s)) (hyphenated F.Urn (drop 9 s)) None))) ≡ Some g
         → FormTold s g
     go32 true p q =
         told s g F.Simple (λ z. clash cc) (eqb-true (length s) 32 p)

@@ -1,10 +1,8 @@
 -- Bytes: characters as bytes, texts compared and searched, and a text written into a lent buffer.
 -- Public contracts rest on these definitions; they assume nothing.
-use Rattle.std.specs.Prelude.{ℕ, suc, ◌+◌, ◌≡◌, Bool, true, false, ◌&&◌, List, [], ◌∷◌, ◌++◌, eqb, leb, length, take, drop}
+use Rattle.std.specs.Prelude.{ℕ, suc, ◌+◌, ◌≡◌, Bool, true, false, ◌&&◌, List, [], ◌∷◌, ◌++◌, eqb, leb, length, take, drop, Option, Some, None}
 use Prim.Native.Char.{Char, code}
 use Prim.Native.String.{String, [] as []ᵗ, ◌∷◌ as ◌∷ᵗ◌}
-use Rattle.text.specs.declared.bytes.Written.{Written}
-use Rattle.text.specs.declared.bytes.Written.TheVariants.{Upto, TooShort}
 
 -- the first where the test holds, else the second
 abbrev pub pick : {A : Type 0} → Bool → A → A → A
@@ -45,13 +43,13 @@ abbrev pub fits_at : ℕ → ℕ → ℕ → Bool
 fits_at room at len = leb (at + len) room
 
 -- writing v into l at a place, the answer: the place after its last byte, or too short
-unfoldable pub write_answer : List ℕ → ℕ → List ℕ → Written
-write_answer l at v = pick (fits_at (length l) at (length v)) (Upto (at + length v)) TooShort
+unfoldable pub write_answer : List ℕ → ℕ → List ℕ → Option ℕ
+write_answer l at v = pick (fits_at (length l) at (length v)) (Some (at + length v)) None
 
 -- writing v into l at a place, the buffer after it: unchanged where it is too short
 unfoldable pub write_buffer : List ℕ → ℕ → List ℕ → List ℕ
 write_buffer l at v = pick (fits_at (length l) at (length v)) (written l at v) l
 
 -- a writer's answer, and the buffer that it leaves
-abbrev pub Wrote : List ℕ → ℕ → List ℕ → Written → List ℕ → Type 0
+abbrev pub Wrote : List ℕ → ℕ → List ℕ → Option ℕ → List ℕ → Type 0
 Wrote l at v answer after = (answer ≡ write_answer l at v) × (after ≡ write_buffer l at v)

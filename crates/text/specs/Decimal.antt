@@ -1,9 +1,7 @@
 -- Index numbers in base ten: how one is written, and which number a text is (`parse::<u16>`).
 -- Public contracts rest on these definitions; they assume nothing.
-use Rattle.std.specs.Prelude.{ℕ, zero, suc, ◌+◌, ◌*◌, ◌-◌, ◌/◌, ◌%◌, Bool, ◌&&◌, List, [], ◌∷◌, ◌++◌, ltb, leb, eqb}
+use Rattle.std.specs.Prelude.{ℕ, zero, suc, ◌+◌, ◌*◌, ◌-◌, ◌/◌, ◌%◌, Bool, ◌&&◌, List, [], ◌∷◌, ◌++◌, ltb, leb, eqb, Option, Some, None}
 use Rattle.text.specs.Bytes.{pick, byte}
-use Rattle.text.specs.declared.decimal.IndexParse.{IndexParse}
-use Rattle.text.specs.declared.decimal.IndexParse.TheVariants.{Parsed, Invalid}
 
 -- "value at most 65535"
 abbrev pub number_max : ℕ
@@ -16,18 +14,18 @@ abbrev pub is_digit : ℕ → Bool
 is_digit b = leb (byte "0") b && leb b (byte "9")
 
 -- digits to the end, after those that made a: "value at most 65535; leading zeros allowed"
-unfoldable pub read_digits : ℕ → List ℕ → IndexParse
-read_digits a [] = pick (leb a number_max) (Parsed a) Invalid
-read_digits a (d ∷ ds) = pick (is_digit d) (read_digits (a * 10 + (d - byte "0")) ds) Invalid
+unfoldable pub read_digits : ℕ → List ℕ → Option ℕ
+read_digits a [] = pick (leb a number_max) (Some a) None
+read_digits a (d ∷ ds) = pick (is_digit d) (read_digits (a * 10 + (d - byte "0")) ds) None
 
 -- "one or more digits"
-unfoldable pub unsigned : List ℕ → IndexParse
-unsigned [] = Invalid
+unfoldable pub unsigned : List ℕ → Option ℕ
+unsigned [] = None
 unsigned (d ∷ ds) = read_digits 0 (d ∷ ds)
 
 -- "one optional `+`, then one or more digits"
-unfoldable pub index_number : List ℕ → IndexParse
-index_number [] = Invalid
+unfoldable pub index_number : List ℕ → Option ℕ
+index_number [] = None
 index_number (b ∷ bs) = pick (eqb b (byte "+")) (unsigned bs) (unsigned (b ∷ bs))
 
 -- ---- writing

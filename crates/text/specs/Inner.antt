@@ -1,17 +1,15 @@
 -- What the contracts of private functions and the laws for the layers above say.
 -- No public contract rests on these: a reader may leave them out.
-use Rattle.std.specs.Prelude.{ℕ, ◌+◌, ◌≤◌, ◌≡◌, Bool, true, false, ◌&&◌, List, [], ◌∷◌, ltb, length, drop}
+use Rattle.std.specs.Prelude.{ℕ, ◌+◌, ◌≤◌, ◌≡◌, Bool, true, false, ◌&&◌, List, [], ◌∷◌, ltb, length, drop, Option, Some, None}
 use Rattle.text.specs.Bytes.{byte, written}
 use Rattle.text.specs.Decimal.{is_digit}
 use Rattle.text.specs.Utf8.{valid_run}
 use Rattle.text.specs.Uuid.{read_hex, is_from}
-use Rattle.text.specs.declared.uuid.Hex.{Hex}
-use Rattle.text.specs.declared.uuid.Hex.TheVariants.{Number, NotHex}
 
 -- the digits of ys after those that made h
-abbrev pub after : Hex → List ℕ → Hex
-after (Number v) ys = read_hex v ys
-after NotHex ys = NotHex
+abbrev pub after : Option ℕ → List ℕ → Option ℕ
+after (Some v) ys = read_hex v ys
+after None ys = None
 
 -- v was written at a place where it fits, and next is the place after its last byte
 abbrev pub Put : List ℕ → ℕ → List ℕ → ℕ → List ℕ → Type 0

@@ -1,13 +1,11 @@
 -- The four spellings of one UUID, which of them was read, and its text in lower case: the theorems `spelled_alike`,
 -- `reader_forms` and `lower_text`.
 -- The theorems rest on these definitions; they assume nothing.
-use Rattle.std.specs.Prelude.{ℕ, ◌+◌, ◌≡◌, List, [], ◌∷◌, ◌++◌, map, length, take, drop}
+use Rattle.std.specs.Prelude.{ℕ, ◌+◌, ◌≡◌, List, [], ◌∷◌, ◌++◌, map, length, take, drop, Option, Some, None}
 use Rattle.text.specs.Bytes.{pick, byte, ascii}
 use Rattle.text.specs.declared.uuid.Spelled.{Spelled}
 use Rattle.text.specs.declared.uuid.Form.{Form}
 use Rattle.text.specs.declared.uuid.Form.TheVariants as F
-use Rattle.text.specs.declared.uuid.UuidParse.{UuidParse}
-use Rattle.text.specs.declared.uuid.UuidParse.TheVariants.{Parsed, Invalid}
 use Rattle.text.specs.Uuid.{is_from, uuid_of, uuid_text}
 
 -- ---- "32 hex digits; RFC 4122's form with hyphens [..]; that form in braces [..]; that form after [..] `urn:uuid:`"
@@ -25,9 +23,9 @@ abbrev pub with_urn : List ℕ → List ℕ
 with_urn d = ascii "urn:uuid:" ++ with_hyphens d
 
 -- the same UUID, or none, in another form
-abbrev pub in_form : Form → UuidParse → UuidParse
-in_form f (Parsed g) = Parsed (record { id = g.id; form = f })
-in_form f Invalid = Invalid
+abbrev pub in_form : Form → Option Spelled → Option Spelled
+in_form f (Some g) = Some (record { id = g.id; form = f })
+in_form f None = None
 
 -- the theorem `spelled_alike`: 32 characters are read alike in each of the four spellings, digits or not, but for the
 -- form that is told
@@ -51,7 +49,7 @@ pub record FormTold (s : List ℕ) (g : Spelled) : Type 0 where
   pub not_xinput : g.form ≡ F.Xinput → ⊥
 
 abbrev pub ReaderForms : Type 0
-ReaderForms = (s : List ℕ) (g : Spelled) → uuid_of s ≡ Parsed g → FormTold s g
+ReaderForms = (s : List ℕ) (g : Spelled) → uuid_of s ≡ Some g → FormTold s g
 
 -- ---- "Either letter case."
 
@@ -61,4 +59,4 @@ lower_byte b = pick (is_from (byte "A") (byte "F") b) (b + 32) b
 
 -- the theorem `lower_text`: what is written of a UUID that was read is its 32 digits in lower case
 abbrev pub LowerText : Type 0
-LowerText = (d : List ℕ) (g : Spelled) → length d ≡ 32 → uuid_of d ≡ Parsed g → uuid_text g.id ≡ map lower_byte d
+LowerText = (d : List ℕ) (g : Spelled) → length d ≡ 32 → uuid_of d ≡ Some g → uuid_text g.id ≡ map lower_byte d

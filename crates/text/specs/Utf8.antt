@@ -1,6 +1,6 @@
 -- UTF-8 by the ABNF of RFC 3629, section 4. Each alternative of a rule is the list of the ranges of its octets.
 -- Public contracts rest on these definitions; they assume nothing.
-use Rattle.std.specs.Prelude.{ℕ, zero, suc, ◌+◌, ◌<◌, ◌≤◌, ◌≡◌, Bool, true, false, ◌&&◌, List, [], ◌∷◌, ◌++◌, leb, eqb, length, drop}
+use Rattle.std.specs.Prelude.{ℕ, zero, suc, ◌+◌, ◌<◌, ◌≤◌, ◌≡◌, Bool, true, false, ◌&&◌, List, [], ◌∷◌, ◌++◌, leb, eqb, length, drop, Option, Some, None, option_map, unwrap_or}
 use Rattle.text.specs.Bytes.{pick}
 
 -- `%xLOW-HIGH` of the ABNF; one octet `%xE0` is %x 0xE0 0xE0
@@ -58,19 +58,19 @@ begins [] s = true
 begins (r ∷ rs) [] = false
 begins (r ∷ rs) (b ∷ bs) = in_range r b && begins rs bs
 
--- the length of the first alternative that the bytes begin with, or 0
-unfoldable pub first_length : List Alternative → List ℕ → ℕ
-first_length [] s = 0
-first_length (a ∷ others) s = pick (begins a s) (length a) (first_length others s)
+-- the length of the first alternative that the bytes begin with
+unfoldable pub first_length : List Alternative → List ℕ → Option ℕ
+first_length [] s = None
+first_length (a ∷ others) s = pick (begins a s) (Some (length a)) (first_length others s)
 
--- the length of the character that the bytes begin with, or 0 where they begin with none
-unfoldable pub char_length : List ℕ → ℕ
+-- the length of the character that the bytes begin with
+unfoldable pub char_length : List ℕ → Option ℕ
 char_length s = first_length utf8_char s
 
 -- at most k characters, one after the other
 unfoldable pub run_of : ℕ → List ℕ → ℕ
 run_of zero s = 0
-run_of (suc k) s = pick (eqb (char_length s) 0) 0 (char_length s + run_of k (drop (char_length s) s))
+run_of (suc k) s = unwrap_or (option_map (λ n. n + run_of k (drop n s)) (char_length s)) 0
 
 -- "the length of the longest valid run of whole characters from the first byte on" (UTF8-octets = *( UTF8-char ))
 unfoldable pub valid_run : List ℕ → ℕ
@@ -83,7 +83,7 @@ is_utf8 s = eqb (valid_run s) (length s)
 -- "whole characters": each is one character, and nothing after it
 unfoldable pub AllWhole : List (List ℕ) → Type 0
 AllWhole [] = Unit {0}
-AllWhole (c ∷ cs) = ((0 < length c) × (char_length c ≡ length c)) × AllWhole cs
+AllWhole (c ∷ cs) = ((0 < length c) × (char_length c ≡ Some (length c))) × AllWhole cs
 
 -- characters one after the other
 unfoldable pub together : List (List ℕ) → List ℕ

@@ -1,14 +1,11 @@
 -- UUID texts: the four forms that `Uuid::parse_str` takes, by RFC 4122, section 3, and the text that is written.
 -- Public contracts rest on these definitions; they assume nothing.
-use Rattle.std.specs.Prelude.{ℕ, zero, suc, ◌+◌, ◌*◌, ◌-◌, ◌/◌, ◌%◌, ◌<◌, ◌^◌, ◌≡◌, Bool, ◌&&◌, List, [], ◌∷◌, ◌++◌, ltb, leb, eqb, length, get_or, take, drop}
+use Rattle.std.specs.Prelude.{ℕ, zero, suc, ◌+◌, ◌*◌, ◌-◌, ◌/◌, ◌%◌, ◌<◌, ◌^◌, ◌≡◌, Bool, ◌&&◌, List, [], ◌∷◌, ◌++◌, ltb, leb, eqb, length, get_or, take, drop, Option, Some, None, option_and_then}
+use Rattle.text.specs.declared.uuid.Spelled.{Spelled}
 use Rattle.text.specs.Bytes.{pick, byte, ascii, same}
 use Rattle.text.specs.declared.uuid.Uuid.{Uuid}
-use Rattle.text.specs.declared.uuid.Hex.{Hex}
-use Rattle.text.specs.declared.uuid.Hex.TheVariants.{Number, NotHex}
 use Rattle.text.specs.declared.uuid.Form.{Form}
 use Rattle.text.specs.declared.uuid.Form.TheVariants as F
-use Rattle.text.specs.declared.uuid.UuidParse.{UuidParse}
-use Rattle.text.specs.declared.uuid.UuidParse.TheVariants.{Parsed, Invalid}
 
 -- ---- hexadecimal digits
 
@@ -16,34 +13,34 @@ use Rattle.text.specs.declared.uuid.UuidParse.TheVariants.{Parsed, Invalid}
 abbrev pub is_from : ℕ → ℕ → ℕ → Bool
 is_from first last b = leb first b && leb b last
 
--- "hex digits [..] either letter case": the value of a digit, 16 for any other byte
-unfoldable pub hex_digit : ℕ → ℕ
+-- "hex digits [..] either letter case": the value of a digit, none for any other byte
+unfoldable pub hex_digit : ℕ → Option ℕ
 hex_digit b =
-    pick (is_from (byte "0") (byte "9") b) (b - byte "0")
-    (pick (is_from (byte "A") (byte "F") b) (b - byte "A" + 10)
-    (pick (is_from (byte "a") (byte "f") b) (b - byte "a" + 10) 16))
+    pick (is_from (byte "0") (byte "9") b) (Some (b - byte "0"))
+    (pick (is_from (byte "A") (byte "F") b) (Some (b - byte "A" + 10))
+    (pick (is_from (byte "a") (byte "f") b) (Some (b - byte "a" + 10)) None))
 
 -- hexadecimal digits to the end, after those that made a
-unfoldable pub read_hex : ℕ → List ℕ → Hex
-read_hex a [] = Number a
-read_hex a (d ∷ ds) = pick (ltb (hex_digit d) 16) (read_hex (a * 16 + hex_digit d) ds) NotHex
+unfoldable pub read_hex : ℕ → List ℕ → Option ℕ
+read_hex a [] = Some a
+read_hex a (d ∷ ds) = option_and_then (λ v. read_hex (a * 16 + v) ds) (hex_digit d)
 
 -- ---- reading
 
 -- a UUID of the number of its first sixteen digits and that of its last sixteen, and which form was read
-abbrev pub with_low : Form → ℕ → Hex → UuidParse
-with_low f h (Number l) = Parsed (record { id = record { high = h; low = l }; form = f })
-with_low f h NotHex = Invalid
+abbrev pub with_low : Form → ℕ → Option ℕ → Option Spelled
+with_low f h (Some l) = Some (record { id = record { high = h; low = l }; form = f })
+with_low f h None = None
 
-abbrev pub joined : Form → Hex → Hex → UuidParse
-joined f (Number h) low = with_low f h low
-joined f NotHex low = Invalid
+abbrev pub joined : Form → Option ℕ → Option ℕ → Option Spelled
+joined f (Some h) low = with_low f h low
+joined f None low = None
 
-abbrev pub of_digits : Form → List ℕ → List ℕ → UuidParse
+abbrev pub of_digits : Form → List ℕ → List ℕ → Option Spelled
 of_digits f first last = joined f (read_hex 0 first) (read_hex 0 last)
 
 -- "32 hex digits"
-abbrev pub simple : List ℕ → UuidParse
+abbrev pub simple : List ℕ → Option Spelled
 simple s = of_digits F.Simple (take 16 s) (drop 16 s)
 
 -- a hyphen stands at that place
@@ -58,11 +55,11 @@ abbrev pub last_groups : List ℕ → List ℕ
 last_groups s = take 4 (drop 19 s) ++ take 12 (drop 24 s)
 
 -- time-low "-" time-mid "-" time-high-and-version "-" clock-seq "-" node: 8, 4, 4, 4 and 12 digits
-unfoldable pub hyphenated : Form → List ℕ → UuidParse
+unfoldable pub hyphenated : Form → List ℕ → Option Spelled
 hyphenated f s =
     pick (hyphen_at s 8 && (hyphen_at s 13 && (hyphen_at s 18 && hyphen_at s 23)))
     (of_digits f (first_groups s) (last_groups s))
-    Invalid
+    None
 
 -- "in braces"
 abbrev pub in_braces : List ℕ → Bool
@@ -74,13 +71,13 @@ after_urn s = same (take 9 s) (ascii "urn:uuid:")
 
 -- "32 hex digits; RFC 4122's form with hyphens (36 characters); that form in braces (38);
 -- that form after lower-case `urn:uuid:` (45)"; request P11: "The UUID reader shall say which of the four forms it read"
-unfoldable pub uuid_of : List ℕ → UuidParse
+unfoldable pub uuid_of : List ℕ → Option Spelled
 uuid_of s =
     pick (eqb (length s) 32) (simple s)
     (pick (eqb (length s) 36) (hyphenated F.Hyphenated s)
     (pick (eqb (length s) 38 && in_braces s) (hyphenated F.Braced (take 36 (drop 1 s)))
     (pick (eqb (length s) 45 && after_urn s) (hyphenated F.Urn (drop 9 s))
-    Invalid)))
+    None)))
 
 -- ---- writing
 

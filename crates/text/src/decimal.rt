@@ -4,58 +4,34 @@ ghost use Rattle.text.specs.Bytes.{Wrote};
 ghost use Rattle.text.specs.Decimal.{decimal, index_number, unsigned};
 ghost use Rattle.text.specs.Inner.{Put};
 
-use crate::bytes::{Written, fits};
-
-// The largest index number.
-const NUMBER_MAX: u32 = 65535;
-
-// What a text is as an index number.
-#[derive(Clone, Copy)]
-pub enum IndexParse {
-    Parsed(u16),
-    Invalid,
-}
+use crate::bytes::fits;
 
 // One or more digits.
-fn parse_unsigned(s: &[u8]) -> IndexParse
+#[tactic(auto, unfolding(crate::specs::Decimal::unsigned, crate::specs::Decimal::read_digits))]
+fn parse_unsigned(s: &[u8]) -> Option<u16>
     ensures { result ≡ unsigned s.now }
 {
-    if s.len() == 0 {
-        return IndexParse::Invalid;
+    if s.is_empty() {
+        return None;
     }
-    let mut value: u32 = 0;
-    let mut i = 0;
-    while i < s.len() {
-        let b = s[i];
-        if b < b'0' {
-            return IndexParse::Invalid;
+    let mut value: u16 = 0;
+    for &b in s {
+        if !b.is_ascii_digit() {
+            return None;
         }
-        if b'9' < b {
-            return IndexParse::Invalid;
-        }
-        value = value * 10 + (b - b'0') as u32;
-        if NUMBER_MAX < value {
-            return IndexParse::Invalid;
-        }
-        i += 1;
+        value = value.checked_mul(10)?.checked_add((b - b'0') as u16)?;
     }
-    IndexParse::Parsed(value as u16)
+    Some(value)
 }
 
-// The index number that a text is.
-pub fn parse_u16(s: &[u8]) -> IndexParse
+// The index number that a text is, at most 65535.
+pub fn parse_u16(s: &[u8]) -> Option<u16>
     ensures { result ≡ index_number s.now }
 {
-    if s.len() == 0 {
-        return IndexParse::Invalid;
-    }
-    if s[0] == b'+' {
-        return parse_unsigned(&s[1..]);
-    }
-    parse_unsigned(s)
+    parse_unsigned(s.strip_prefix(b"+").unwrap_or(s))
 }
 
-// How many digits `n` has in base ten.
+// How many digits `n` has in base ten. A loop that divides: it walks by no place, and what it counts is the answer.
 pub fn index_len(n: usize) -> usize
     ensures { result ≡ length (decimal n) }
 {
@@ -86,12 +62,13 @@ fn put_index(out: &mut [u8], at: usize, n: usize) -> usize
     end
 }
 
-// Writes `n` in base ten at `at`.
-pub fn write_index(out: &mut [u8], at: usize, n: usize) -> Written
+// Writes `n` in base ten at `at`, and returns the place after its last digit; `None` where the buffer is too short, which
+// is left as it is.
+pub fn write_index(out: &mut [u8], at: usize, n: usize) -> Option<usize>
     ensures { Wrote out.old at (decimal n) result out.new }
 {
     if fits(out.len(), at, index_len(n)) {
-        return Written::Upto(put_index(out, at, n));
+        return Some(put_index(out, at, n));
     }
-    Written::TooShort
+    None
 }

@@ -1,145 +1,92 @@
 // UTF-8 by the ABNF of RFC 3629, section 4.
 ghost use Rattle.std.specs.Prelude.{◌≡◌, [], ◌∷◌, ◌+◌, ◌≤◌, length, take, drop, replicate};
-ghost use Rattle.text.specs.Utf8.{%x, utf8_tail, utf8_3, utf8_4, begins, first_length, char_length};
+ghost use Rattle.text.specs.Utf8.{%x, in_range, utf8_tail, utf8_3, utf8_4, begins, first_length, char_length};
 ghost use Rattle.text.specs.Utf8.{valid_run, is_utf8};
 ghost use Rattle.text.specs.Inner.{every, is_ascii, Passed};
 
+// Whether the byte is from `low` to `high`.
+fn in_range(b: u8, low: u8, high: u8) -> bool
+    ensures { result ≡ in_range (%x low high) b }
+{
+    low <= b && b <= high
+}
+
 // The bytes begin with one from `low` to `high`.
+#[tactic(auto, using(crate::proofs::Utf8Laws::begins_one, crate::proofs::Utf8Laws::begins_nothing))]
 fn begins_in(s: &[u8], low: u8, high: u8) -> bool
     ensures { result ≡ begins (%x low high ∷ []) s.now }
 {
-    if s.len() == 0 {
-        return false;
+    match s {
+        [b, ..] => in_range(*b, low, high),
+        [] => false,
     }
-    let b = s[0];
-    if b < low {
-        return false;
-    }
-    if high < b {
-        return false;
-    }
-    true
 }
 
 // The bytes begin with `n` of UTF8-tail.
 fn begins_tails(s: &[u8], n: usize) -> bool
     ensures { result ≡ begins (replicate n utf8_tail) s.now }
 {
-    let mut i = 0;
-    while i < n {
-        if !begins_in(&s[i..], 0x80, 0xBF) {
-            return false;
-        }
-        i += 1;
-    }
-    true
+    n <= s.len() && s[..n].iter().all(|b| in_range(*b, 0x80, 0xBF))
 }
 
 // The bytes begin with one from `low` to `high`, one from `low2` to `high2`, and `n` of UTF8-tail.
+#[tactic(auto, using(crate::proofs::Utf8Laws::begins_two, crate::proofs::Utf8Laws::begins_short))]
 fn begins_with(s: &[u8], low: u8, high: u8, low2: u8, high2: u8, n: usize) -> bool
     ensures { result ≡ begins (%x low high ∷ %x low2 high2 ∷ replicate n utf8_tail) s.now }
 {
-    if !begins_in(s, low, high) {
-        return false;
+    match s {
+        [a, b, tails @ ..] => in_range(*a, low, high)
+            && in_range(*b, low2, high2)
+            && begins_tails(tails, n),
+        _ => false,
     }
-    if !begins_in(&s[1..], low2, high2) {
-        return false;
-    }
-    begins_tails(&s[2..], n)
 }
 
-// 3 where `s` begins with a character of UTF8-3, or 0.
-fn three_octets(s: &[u8]) -> usize
+// 3 where `s` begins with a character of UTF8-3.
+#[tactic(auto, unfolding(crate::specs::Utf8::first_length))]
+fn three_octets(s: &[u8]) -> Option<usize>
     ensures { result ≡ first_length utf8_3 s.now }
 {
-    if begins_with(s, 0xE0, 0xE0, 0xA0, 0xBF, 1) {
-        return 3;
-    }
-    if begins_with(s, 0xE1, 0xEC, 0x80, 0xBF, 1) {
-        return 3;
-    }
-    if begins_with(s, 0xED, 0xED, 0x80, 0x9F, 1) {
-        return 3;
-    }
-    if begins_with(s, 0xEE, 0xEF, 0x80, 0xBF, 1) {
-        return 3;
-    }
-    0
+    (begins_with(s, 0xE0, 0xE0, 0xA0, 0xBF, 1)
+        || begins_with(s, 0xE1, 0xEC, 0x80, 0xBF, 1)
+        || begins_with(s, 0xED, 0xED, 0x80, 0x9F, 1)
+        || begins_with(s, 0xEE, 0xEF, 0x80, 0xBF, 1)).then_some(3)
 }
 
-// 4 where `s` begins with a character of UTF8-4, or 0.
-fn four_octets(s: &[u8]) -> usize
+// 4 where `s` begins with a character of UTF8-4.
+#[tactic(auto, unfolding(crate::specs::Utf8::first_length))]
+fn four_octets(s: &[u8]) -> Option<usize>
     ensures { result ≡ first_length utf8_4 s.now }
 {
-    if begins_with(s, 0xF0, 0xF0, 0x90, 0xBF, 2) {
-        return 4;
-    }
-    if begins_with(s, 0xF1, 0xF3, 0x80, 0xBF, 2) {
-        return 4;
-    }
-    if begins_with(s, 0xF4, 0xF4, 0x80, 0x8F, 2) {
-        return 4;
-    }
-    0
+    (begins_with(s, 0xF0, 0xF0, 0x90, 0xBF, 2)
+        || begins_with(s, 0xF1, 0xF3, 0x80, 0xBF, 2)
+        || begins_with(s, 0xF4, 0xF4, 0x80, 0x8F, 2)).then_some(4)
 }
 
-// The length of the character that `s` begins with, or 0 where it begins with none.
-fn char_length(s: &[u8]) -> usize
+// The length of the character that `s` begins with.
+#[tactic(auto, unfolding(crate::specs::Utf8::first_length, crate::specs::Utf8::char_length))]
+fn char_length(s: &[u8]) -> Option<usize>
     ensures { result ≡ char_length s.now }
 {
     if begins_in(s, 0x00, 0x7F) {
-        return 1;
+        return Some(1);
     }
     if begins_with(s, 0xC2, 0xDF, 0x80, 0xBF, 0) {
-        return 2;
+        return Some(2);
     }
-    let three = three_octets(s);
-    if three != 0 {
-        return three;
-    }
-    four_octets(s)
+    three_octets(s).or_else(|| four_octets(s))
 }
 
-// Whether the sixteen bytes at k are ASCII. All are read first: then they make one load and one test.
+// Whether the sixteen bytes at k are ASCII.
 fn ascii_block(s: &[u8], k: usize) -> bool
     requires { k + 16 ≤ length s.now }
     ensures { result ≡ every is_ascii (take 16 (drop k s.now)) }
 {
-    let a = s[k];
-    let b = s[k + 1];
-    let c = s[k + 2];
-    let d = s[k + 3];
-    let e = s[k + 4];
-    let f = s[k + 5];
-    let g = s[k + 6];
-    let h = s[k + 7];
-    let i = s[k + 8];
-    let j = s[k + 9];
-    let l = s[k + 10];
-    let m = s[k + 11];
-    let n = s[k + 12];
-    let o = s[k + 13];
-    let p = s[k + 14];
-    let q = s[k + 15];
-    (a < 128)
-        & (b < 128)
-        & (c < 128)
-        & (d < 128)
-        & (e < 128)
-        & (f < 128)
-        & (g < 128)
-        & (h < 128)
-        & (i < 128)
-        & (j < 128)
-        & (l < 128)
-        & (m < 128)
-        & (n < 128)
-        & (o < 128)
-        & (p < 128)
-        & (q < 128)
+    s[k..k + 16].is_ascii()
 }
 
-// A place that ASCII bytes alone lead to from `from` on, found sixteen at a time.
+// A place that ASCII bytes alone lead to from `from` on, found sixteen at a time. A loop that holds the place: it starts
+// in the middle of the bytes, and `chunks_exact` would have the place reckoned from a count of blocks.
 fn ascii_front(s: &[u8], from: usize) -> usize
     requires { from ≤ length s.now }
     ensures { Passed s.now from result }
@@ -154,7 +101,8 @@ fn ascii_front(s: &[u8], from: usize) -> usize
     i
 }
 
-// The first place from `from` on that has no ASCII byte, or the end.
+// The first place from `from` on that has no ASCII byte, or the end. A loop: by `position` it was tried, and what stayed
+// open is that the bytes before the place, and all of them where there is none, are whole characters.
 fn ascii_end(s: &[u8], from: usize) -> usize
     requires { from ≤ length s.now }
     ensures { Passed s.now from result }
@@ -169,19 +117,16 @@ fn ascii_end(s: &[u8], from: usize) -> usize
     i
 }
 
-// The length of the longest run of whole characters from the first byte on.
+// The length of the longest run of whole characters from the first byte on. A loop that holds the place: each character
+// says how far the next step goes, so nothing is counted.
 pub fn valid_up_to(s: &[u8]) -> usize
     ensures { result ≡ valid_run s.now }
 {
-    let mut at = 0;
-    loop {
-        let past = ascii_end(s, at);
-        let n = char_length(&s[past..]);
-        if n == 0 {
-            return past;
-        }
-        at = past + n;
+    let mut at = ascii_end(s, 0);
+    while let Some(n) = char_length(&s[at..]) {
+        at = ascii_end(s, at + n);
     }
+    at
 }
 
 // Whether the whole is UTF-8.

@@ -5,25 +5,18 @@ ghost use Rattle.text.specs.Uuid.{lower_digit, hex_text, uuid_text, without_chec
 ghost use Rattle.text.specs.Inner.{after, Put};
 ghost use Rattle.text.specs.Bytes.{written, Wrote};
 
-use crate::bytes::{Written, fits, same_bytes};
+use crate::bytes::fits;
 
 // A UUID: its first eight bytes and its last eight, high byte first.
-#[derive(Clone, Copy)]
+#[derive(Clone, Copy, PartialEq, Eq, PartialOrd, Ord)]
 pub struct Uuid {
     pub high: u64,
     pub low: u64,
 }
 
-// What a text is as hexadecimal digits.
-#[derive(Clone, Copy)]
-enum Hex {
-    Number(u64),
-    NotHex,
-}
-
 // How a UUID is spelled: 32 digits, with hyphens, with hyphens in braces, after `urn:uuid:`. `Xinput` is the word of
 // that name in the first field of a line, which the walker takes for the UUID of zeros.
-#[derive(Clone, Copy)]
+#[derive(Clone, Copy, PartialEq, Eq)]
 pub enum Form {
     Simple,
     Hyphenated,
@@ -33,89 +26,58 @@ pub enum Form {
 }
 
 // A UUID, and how it was spelled.
-#[derive(Clone, Copy)]
+#[derive(Clone, Copy, PartialEq, Eq)]
 pub struct Spelled {
     pub id: Uuid,
     pub form: Form,
 }
 
-// What a text is as a UUID.
-#[derive(Clone, Copy)]
-pub enum UuidParse {
-    Parsed(Spelled),
-    Invalid,
-}
-
-// The value of a hexadecimal digit, or 16.
-fn hex_digit(b: u8) -> u8
+// The value of a hexadecimal digit.
+#[tactic(auto, unfolding(crate::specs::Uuid::hex_digit))]
+fn hex_digit(b: u8) -> Option<u8>
     ensures { result ≡ hex_digit b }
 {
-    if b < b'0' {
-        return 16;
+    match b {
+        b'0'..=b'9' => Some(b - b'0'),
+        b'A'..=b'F' => Some(b - b'A' + 10),
+        b'a'..=b'f' => Some(b - b'a' + 10),
+        _ => None,
     }
-    if b <= b'9' {
-        return b - b'0';
-    }
-    if b < b'A' {
-        return 16;
-    }
-    if b <= b'F' {
-        return b - b'A' + 10;
-    }
-    if b < b'a' {
-        return 16;
-    }
-    if b <= b'f' {
-        return b - b'a' + 10;
-    }
-    16
 }
 
 // The digits of `s` after those that made `first`.
-fn hex_more(first: u64, s: &[u8]) -> Hex
+fn hex_more(first: u64, s: &[u8]) -> Option<u64>
     requires { (length s.now ≤ 16) × (first < 16 ^ (16 - length s.now)) }
     ensures { result ≡ read_hex first s.now }
 {
     let mut value = first;
-    let mut i = 0;
-    while i < s.len() {
-        let d = hex_digit(s[i]);
-        if 16 <= d {
-            return Hex::NotHex;
-        }
-        value = value * 16 + d as u64;
-        i += 1;
+    for &b in s {
+        value = value * 16 + hex_digit(b)? as u64;
     }
-    Hex::Number(value)
+    Some(value)
 }
 
 // The digits of `s` after those of `h`.
-fn hex_then(h: Hex, s: &[u8]) -> Hex
-    requires { (length s.now ≤ 16) × ((v : ℕ) → h ≡ Hex.Number v → v < 16 ^ (16 - length s.now)) }
+fn hex_then(h: Option<u64>, s: &[u8]) -> Option<u64>
+    requires { (length s.now ≤ 16) × ((v : ℕ) → h ≡ Some v → v < 16 ^ (16 - length s.now)) }
     ensures { result ≡ after h s.now }
 {
-    match h {
-        Hex::Number(v) => hex_more(v, s),
-        Hex::NotHex => Hex::NotHex,
-    }
+    hex_more(h?, s)
 }
 
 // A UUID of its two halves, in that form.
-fn join_halves(form: Form, high: Hex, low: Hex) -> UuidParse
+fn join_halves(form: Form, high: Option<u64>, low: Option<u64>) -> Option<Spelled>
     ensures { result ≡ joined form high low }
 {
-    let Hex::Number(h) = high else {
-        return UuidParse::Invalid;
+    let id = Uuid {
+        high: high?,
+        low: low?,
     };
-    let Hex::Number(l) = low else {
-        return UuidParse::Invalid;
-    };
-    let id = Uuid { high: h, low: l };
-    UuidParse::Parsed(Spelled { id, form })
+    Some(Spelled { id, form })
 }
 
 // 32 digits.
-fn simple_uuid(s: &[u8]) -> UuidParse
+fn simple_uuid(s: &[u8]) -> Option<Spelled>
     requires { length s.now ≡ 32 }
     ensures { result ≡ simple s.now }
 {
@@ -124,8 +86,9 @@ fn simple_uuid(s: &[u8]) -> UuidParse
     join_halves(Form::Simple, high, low)
 }
 
-// The first three groups of digits: 8, 4 and 4.
-fn first_groups(s: &[u8]) -> Hex
+// The first three groups of digits: 8, 4 and 4. That `s` has 36 bytes is said at three functions: `&[u8; 36]` would say
+// it too, but a part of a text is a slice, and would have to be turned into an array first.
+fn first_groups(s: &[u8]) -> Option<u64>
     requires { length s.now ≡ 36 }
     ensures { result ≡ read_hex 0 (first_groups s.now) }
 {
@@ -135,7 +98,7 @@ fn first_groups(s: &[u8]) -> Hex
 }
 
 // The last two groups of digits: 4 and 12.
-fn last_groups(s: &[u8]) -> Hex
+fn last_groups(s: &[u8]) -> Option<u64>
     requires { length s.now ≡ 36 }
     ensures { result ≡ read_hex 0 (last_groups s.now) }
 {
@@ -144,21 +107,13 @@ fn last_groups(s: &[u8]) -> Hex
 }
 
 // 8, 4, 4, 4 and 12 digits with hyphens between; `form`: what stands around them.
-fn hyphenated_uuid(form: Form, s: &[u8]) -> UuidParse
+#[tactic(auto, unfolding(crate::specs::Uuid::hyphenated))]
+fn hyphenated_uuid(form: Form, s: &[u8]) -> Option<Spelled>
     requires { length s.now ≡ 36 }
     ensures { result ≡ hyphenated form s.now }
 {
-    if s[8] != b'-' {
-        return UuidParse::Invalid;
-    }
-    if s[13] != b'-' {
-        return UuidParse::Invalid;
-    }
-    if s[18] != b'-' {
-        return UuidParse::Invalid;
-    }
-    if s[23] != b'-' {
-        return UuidParse::Invalid;
+    if s[8] != b'-' || s[13] != b'-' || s[18] != b'-' || s[23] != b'-' {
+        return None;
     }
     let high = first_groups(s);
     let low = last_groups(s);
@@ -181,12 +136,10 @@ fn put_half(out: &mut [u8], at: usize, n: u64)
     requires { at + 16 ≤ length out.old }
     ensures { out.new ≡ written out.old at (hex_text 16 n) }
 {
-    let mut left: usize = 16;
     let mut rest = n;
-    while 0 < left {
-        left -= 1;
-        out[at + left] = lower_digit((rest % 16) as u8);
-        rest = rest / 16;
+    for i in (0..16).rev() {
+        out[at + i] = lower_digit((rest % 16) as u8);
+        rest /= 16;
     }
 }
 
@@ -205,30 +158,17 @@ impl Uuid {
     pub const NIL: Uuid = Uuid { high: 0, low: 0 };
 
     // The UUID that a text is, in any of the four forms.
-    pub fn parse_str(s: &[u8]) -> UuidParse
+    #[tactic(auto, unfolding(crate::specs::Uuid::uuid_of))]
+    pub fn parse_str(s: &[u8]) -> Option<Spelled>
         ensures { result ≡ uuid_of s.now }
     {
-        if s.len() == 32 {
-            return simple_uuid(s);
+        match s.len() {
+            32 => simple_uuid(s),
+            36 => hyphenated_uuid(Form::Hyphenated, s),
+            38 if s[0] == b'{' && s[37] == b'}' => hyphenated_uuid(Form::Braced, &s[1..37]),
+            45 if s.starts_with(b"urn:uuid:") => hyphenated_uuid(Form::Urn, &s[9..]),
+            _ => None,
         }
-        if s.len() == 36 {
-            return hyphenated_uuid(Form::Hyphenated, s);
-        }
-        if s.len() == 38 {
-            if s[0] != b'{' {
-                return UuidParse::Invalid;
-            }
-            if s[37] != b'}' {
-                return UuidParse::Invalid;
-            }
-            return hyphenated_uuid(Form::Braced, &s[1..37]);
-        }
-        if s.len() == 45 {
-            if same_bytes(&s[0..9], b"urn:uuid:") {
-                return hyphenated_uuid(Form::Urn, &s[9..]);
-            }
-        }
-        UuidParse::Invalid
     }
 
     // The same UUID with bytes 2 and 3, counted from 0, zero: recent SDL releases put a checksum there.
@@ -241,13 +181,14 @@ impl Uuid {
         }
     }
 
-    // Writes the 32 lower-case digits at `at`.
-    pub fn write_simple(self, out: &mut [u8], at: usize) -> Written
+    // Writes the 32 lower-case digits at `at`, and returns the place after the last; `None` where the buffer is too short,
+    // which is left as it is.
+    pub fn write_simple(self, out: &mut [u8], at: usize) -> Option<usize>
         ensures { Wrote out.old at (uuid_text self) result out.new }
     {
         if fits(out.len(), at, 32) {
-            return Written::Upto(put_simple(out, at, self));
+            return Some(put_simple(out, at, self));
         }
-        Written::TooShort
+        None
     }
 }

@@ -1,4 +1,5 @@
-// The parts of an entry as parts of its number, and back.
+// The parts of an entry as parts of its number, and back. Halves and kinds are digits of that number, by which a C program
+// keeps the entries of a pad's map.
 ghost use Rattle.std.specs.Prelude.{◌≡◌, ◌+◌, ◌*◌, ◌<◌};
 ghost use Rattle.line.specs.Numbers.{code_unit, shape_unit, half_number, ranges_number, half_in, ranges_in};
 ghost use Rattle.line.specs.Numbers.{element_of_kind, shaped_entry, entry_in};
@@ -11,7 +12,8 @@ pub const CODE_UNIT: u64 = 4294967296;
 
 pub const SHAPE_UNIT: u64 = 65536;
 
-// A half as a number: full is 0.
+// A half as a number: full is 0. C's structs of tokens and ranges number the halves otherwise, the lower one is 0 there:
+// so those have functions of their own.
 fn half_number(r: AxisRange) -> u16
     ensures { (half_in result ≡ r) × (result < 4) × (result ≡ half_number r) }
 {
@@ -26,13 +28,11 @@ fn half_number(r: AxisRange) -> u16
 fn half_of(k: u64) -> AxisRange
     ensures { result ≡ half_in k }
 {
-    if k == 0 {
-        return AxisRange::Full;
+    match k {
+        0 => AxisRange::Full,
+        1 => AxisRange::UpperHalf,
+        _ => AxisRange::LowerHalf,
     }
-    if k == 1 {
-        return AxisRange::UpperHalf;
-    }
-    AxisRange::LowerHalf
 }
 
 // The ranges as a number: the halves of input and output, and whether it is inverted.
@@ -71,8 +71,8 @@ pub fn pack(code: u32, shape: u16, number: u16) -> u64
 pub fn element_of(kind: u64, number: u16) -> AxisOrBtn
     ensures { result ≡ element_of_kind kind number }
 {
-    if kind == 0 {
-        return AxisOrBtn::Btn(Button(number));
+    match kind {
+        0 => AxisOrBtn::Btn(Button(number)),
+        _ => AxisOrBtn::Axis(Axis(number)),
     }
-    AxisOrBtn::Axis(Axis(number))
 }

@@ -3,19 +3,13 @@ ghost use Rattle.std.specs.Prelude.{◌≡◌, ◌<◌, ◌^◌};
 ghost use Rattle.line.specs.Walker.{step_of};
 ghost use Rattle.line.specs.Parser.{with_answer, tokens_of};
 
-use crate::parser::{Answer, Error, Parser, State, Stepped, start_state};
-
-#[derive(Clone, Copy)]
-pub enum LastRefusal {
-    Is(Error),
-    Nothing,
-}
+use crate::parser::{Error, Parser, State, Stepped, Token};
 
 // How many tokens a walker gives, and its last refusal.
 #[derive(Clone, Copy)]
 pub struct Tokens {
     pub count: usize,
-    pub last: LastRefusal,
+    pub last: Option<Error>,
 }
 
 // The next token of a walker that stands at `pos`, and where it stands then.
@@ -35,44 +29,40 @@ pub fn token_at(line: &[u8], pos: usize, state: State) -> Stepped
     }
 }
 
-// A walker over a line is called up to its end, or to a refusal that leaves it where it stands.
+// A walker over a line is called up to its end, or to a refusal that leaves it where it stands. A loop that walks by the
+// walker's own place: each step says where the next one starts.
 pub fn count_tokens(line: &[u8]) -> Tokens
     ensures { result ≡ tokens_of line.now }
 {
+    let mut walker = Parser::new(line);
     let mut tokens = Tokens {
         count: 0,
-        last: LastRefusal::Nothing,
+        last: None,
     };
-    let mut pos: usize = 0;
-    let mut state = start_state(line);
-    while pos < line.len() {
-        let next = token_at(line, pos, state);
-        let answer = next.answer;
-        tokens = counted(tokens, answer);
-        if next.pos <= pos {
+    while walker.pos < line.len() {
+        let pos = walker.pos;
+        tokens = counted(tokens, walker.next_token());
+        if walker.pos <= pos {
             return tokens;
         }
-        pos = next.pos;
-        state = next.state;
     }
     tokens
 }
 
 // One answer more.
-fn counted(tokens: Tokens, answer: Answer) -> Tokens
+fn counted(tokens: Tokens, answer: Option<Result<Token, Error>>) -> Tokens
     requires { tokens.count < 2 ^ 63 }
     ensures { result ≡ with_answer tokens answer }
 {
-    let last = tokens.last;
     match answer {
-        Answer::Found(_) => Tokens {
+        Some(Ok(_)) => Tokens {
             count: tokens.count + 1,
-            last,
+            ..tokens
         },
-        Answer::Refused(e) => Tokens {
-            count: tokens.count,
-            last: LastRefusal::Is(e),
+        Some(Err(e)) => Tokens {
+            last: Some(e),
+            ..tokens
         },
-        Answer::End => tokens,
+        None => tokens,
     }
 }

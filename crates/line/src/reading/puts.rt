@@ -6,6 +6,8 @@ use crate::ev::{Axis, AxisOrBtn, Button, Code};
 use crate::mapping::Entry;
 use crate::parser::{Ranges, Token};
 
+// The unknown direction is a case beside the others and no error of a Result: a reader looks through the cases once, and
+// with a Result it would do so in two steps for the same answer.
 #[derive(Clone, Copy)]
 pub enum Puts {
     Nothing,
@@ -25,22 +27,16 @@ pub enum Puts {
     UnknownHatDirection,
 }
 
-// The codes that a direction of hat 0 stands for.
+// The codes that a direction of hat 0 stands for, and its flag.
 #[derive(Clone, Copy)]
-pub enum HatCodes {
-    Centre,
-    Codes { axis: Code, button: Code, flag: u8 },
-    Unknown,
-}
-
-// The DPad axis beside a DPad button.
-#[derive(Clone, Copy)]
-pub enum Beside {
-    Axis(Axis),
-    Nothing,
+pub struct HatCodes {
+    pub axis: Code,
+    pub button: Code,
+    pub flag: u8,
 }
 
 // What a token puts, after which the line goes on at `after`.
+#[tactic(auto, unfolding(crate::specs::Puts::puts_of))]
 pub fn puts_of(token: Token, after: usize, buttons: &[u32], axes: &[u32]) -> Puts
     ensures { result ≡ puts_of token after buttons.now axes.now }
 {
@@ -57,74 +53,50 @@ pub fn puts_of(token: Token, after: usize, buttons: &[u32], axes: &[u32]) -> Put
             start: after,
             len: 0,
         },
-        Token::Platform { start: _, len: _ } => Puts::Nothing,
+        Token::Platform { .. } => Puts::Nothing,
         Token::Name { start, len } => Puts::Name { start, len },
     }
 }
 
 // The put of the code at `n` of a list, if there is one.
+#[tactic(auto, unfolding(crate::specs::Puts::listed))]
 fn listed_put(codes: &[u32], n: u16, to: AxisOrBtn, ranges: Ranges) -> Puts
     ensures { result ≡ listed codes.now n to ranges }
 {
-    let at = n as usize;
-    if at < codes.len() {
-        let code = Code(codes[at]);
-        return Puts::One {
-            entry: Entry::ranged(code, to, ranges),
+    match codes.get(n as usize) {
+        Some(code) => Puts::One {
+            entry: Entry::ranged(Code(*code), to, ranges),
             flags: 0,
-        };
+        },
+        None => Puts::Nothing,
     }
-    Puts::Nothing
 }
 
+#[tactic(auto, unfolding(crate::specs::Puts::hat_puts))]
 fn hat_puts(hat: u16, direction: u16, to: AxisOrBtn, ranges: Ranges) -> Puts
     ensures { result ≡ hat_puts hat direction to ranges }
 {
-    if hat != 0 {
+    if hat != 0 || direction == 0 {
         return Puts::Nothing;
     }
     match hat_codes(direction) {
-        HatCodes::Centre => Puts::Nothing,
-        HatCodes::Codes { axis, button, flag } => dpad_puts(axis, button, to, ranges, flag),
-        HatCodes::Unknown => Puts::UnknownHatDirection,
+        Some(codes) => dpad_puts(codes.axis, codes.button, to, ranges, codes.flag),
+        None => Puts::UnknownHatDirection,
     }
 }
 
-fn hat_codes(direction: u16) -> HatCodes
+#[tactic(auto, unfolding(crate::specs::Puts::hat_codes))]
+fn hat_codes(direction: u16) -> Option<HatCodes>
     ensures { result ≡ hat_codes direction }
 {
-    if direction == 0 {
-        return HatCodes::Centre;
-    }
-    if direction == 1 {
-        return HatCodes::Codes {
-            axis: Code::AXIS_DPADY,
-            button: Code::BTN_DPAD_UP,
-            flag: 1,
-        };
-    }
-    if direction == 4 {
-        return HatCodes::Codes {
-            axis: Code::AXIS_DPADY,
-            button: Code::BTN_DPAD_DOWN,
-            flag: 4,
-        };
-    }
-    if direction == 2 {
-        return HatCodes::Codes {
-            axis: Code::AXIS_DPADX,
-            button: Code::BTN_DPAD_RIGHT,
-            flag: 2,
-        };
-    }
-    if direction == 8 {
-        return HatCodes::Codes {
-            axis: Code::AXIS_DPADX,
-            button: Code::BTN_DPAD_LEFT,
-            flag: 8,
-        };
-    }
-    HatCodes::Unknown
+    let (axis, button, flag) = match direction {
+        1 => (Code::AXIS_DPADY, Code::BTN_DPAD_UP, 1),
+        4 => (Code::AXIS_DPADY, Code::BTN_DPAD_DOWN, 4),
+        2 => (Code::AXIS_DPADX, Code::BTN_DPAD_RIGHT, 2),
+        8 => (Code::AXIS_DPADX, Code::BTN_DPAD_LEFT, 8),
+        _ => return None,
+    };
+    Some(HatCodes { axis, button, flag })
 }
 
 fn dpad_puts(axis: Code, button: Code, to: AxisOrBtn, ranges: Ranges, flags: u8) -> Puts
@@ -145,35 +117,27 @@ fn dpad_puts(axis: Code, button: Code, to: AxisOrBtn, ranges: Ranges, flags: u8)
 }
 
 // DPadX beside DPad left and right, DPadY beside up and down.
-fn dpad_axis(button: Button) -> Beside
+#[tactic(auto, unfolding(crate::specs::Puts::dpad_axis))]
+fn dpad_axis(button: Button) -> Option<Axis>
     ensures { result ≡ dpad_axis button }
 {
-    let n = button.0;
-    if n == Button::DPadLeft.0 {
-        return Beside::Axis(Axis::DPadX);
+    match button {
+        Button::DPadLeft | Button::DPadRight => Some(Axis::DPadX),
+        Button::DPadUp | Button::DPadDown => Some(Axis::DPadY),
+        _ => None,
     }
-    if n == Button::DPadRight.0 {
-        return Beside::Axis(Axis::DPadX);
-    }
-    if n == Button::DPadUp.0 {
-        return Beside::Axis(Axis::DPadY);
-    }
-    if n == Button::DPadDown.0 {
-        return Beside::Axis(Axis::DPadY);
-    }
-    Beside::Nothing
 }
 
 // The axis code to the DPad axis, then the entry.
-fn beside_puts(beside: Beside, axis: Code, put: Entry, flags: u8) -> Puts
+fn beside_puts(beside: Option<Axis>, axis: Code, put: Entry, flags: u8) -> Puts
     ensures { result ≡ beside_of beside axis put flags }
 {
     match beside {
-        Beside::Axis(a) => Puts::Two {
+        Some(a) => Puts::Two {
             first: Entry::new(axis, AxisOrBtn::Axis(a)),
             second: put,
             flags,
         },
-        Beside::Nothing => Puts::One { entry: put, flags },
+        None => Puts::One { entry: put, flags },
     }
 }

@@ -1,101 +1,70 @@
 // What a build checks before its line is made: 10, 17, 12, 13, 14, 15, 14, 15, 16, in this order.
 ghost use Rattle.std.specs.Prelude.{◌≡◌};
-ghost use Rattle.map.specs.Build.{filled_buttons, filled_axes, missing_of, axis_checks, slot_checks, checks_of};
-ghost use Rattle.map.specs.Inner.{held_in, Few, PlacedIn, Holds};
+ghost use Rattle.map.specs.Build.{filled_axes, axis_checks, slot_checks, checks_of};
+ghost use Rattle.map.specs.Inner.{held_in, placed_in, Passes, Gathered};
 
-use crate::error::{MappingAnswer, MappingError};
+use crate::error::MappingError;
 use crate::from_data::NAME_MAX;
-use crate::from_data::filled::Filled;
+use crate::from_data::filled::{Filled, Pairs};
+use crate::from_data::gather::{Kind, gather};
 use crate::lists::lists_fit;
-use crate::mapping_data::{MappingData, SlotCode};
+use crate::mapping_data::MappingData;
 use line::ev::{Axis, Button};
 use text::bytes::find_byte;
 use text::utf8::valid_up_to;
 
-// The first code that is not in the list.
-fn missing(filled: Filled, list: &[u32]) -> SlotCode
-    requires { Few filled × PlacedIn list.now filled }
-    ensures { result ≡ missing_of (held_in filled) list.now }
-{
-    let n = filled.count;
-    let mut i: usize = 0;
-    while i < n {
-        if list.len() <= filled.places[i] {
-            let e = filled.entries[i];
-            let code = e.code;
-            return SlotCode::Is(code);
-        }
-        i += 1;
-    }
-    SlotCode::Nothing
-}
-
 // The axes' slots: 14, 15, 16.
-fn axes_checked(slots: MappingData, filled: Filled, axes: &[u32]) -> MappingAnswer
-    requires { Holds axes.now filled (filled_axes slots) }
-    ensures { result ≡ axis_checks slots axes.now }
+fn axes_checked(slots: &MappingData, axes: &[u32]) -> Result<Filled, MappingError>
+    ensures { Passes result (axis_checks slots.now axes.now)
+        (λ f. held_in f ≡ placed_in axes.now (filled_axes slots.now)) }
 {
     if slots.axis(Axis::Unknown).is_some() {
-        return MappingAnswer::Refused(MappingError::UnknownElement);
+        return Err(MappingError::UnknownElement);
     }
-    match missing(filled, axes) {
-        SlotCode::Is(code) => MappingAnswer::Refused(MappingError::InvalidCode(code)),
-        SlotCode::Nothing => {
-            if slots.axis(Axis::DPadX).is_some() {
-                return MappingAnswer::Refused(MappingError::NotSdl2Compatible);
-            }
-            if slots.axis(Axis::DPadY).is_some() {
-                return MappingAnswer::Refused(MappingError::NotSdl2Compatible);
-            }
-            MappingAnswer::Accepted
-        }
+    let filled = gather(&slots.axes, Kind::Axis, axes)?;
+    if slots.axis(Axis::DPadX).is_some() || slots.axis(Axis::DPadY).is_some() {
+        return Err(MappingError::NotSdl2Compatible);
     }
+    Ok(filled)
 }
 
 // The buttons' slots: 14, 15; then the axes'.
-fn slots_checked(
-    slots: MappingData,
-    first: Filled,
-    last: Filled,
-    buttons: &[u32],
-    axes: &[u32],
-) -> MappingAnswer
-    requires { Holds buttons.now first (filled_buttons slots) × Holds axes.now last (filled_axes slots) }
-    ensures { result ≡ slot_checks slots buttons.now axes.now }
+fn slots_checked(slots: &MappingData, buttons: &[u32], axes: &[u32]) -> Result<Pairs, MappingError>
+    ensures { Passes result (slot_checks slots.now buttons.now axes.now) (Gathered slots.now buttons.now axes.now) }
 {
     if slots.button(Button::Unknown).is_some() {
-        return MappingAnswer::Refused(MappingError::UnknownElement);
+        return Err(MappingError::UnknownElement);
     }
-    match missing(first, buttons) {
-        SlotCode::Is(code) => MappingAnswer::Refused(MappingError::InvalidCode(code)),
-        SlotCode::Nothing => axes_checked(slots, last, axes),
-    }
+    let first = gather(&slots.buttons, Kind::Button, buttons)?;
+    let last = axes_checked(slots, axes)?;
+    Ok(Pairs {
+        buttons: first,
+        axes: last,
+    })
 }
 
-// The name and the lists: 10, 17, 12, 13; then the slots.
+// The name and the lists: 10, 17, 12, 13; then the slots, whose pairs are handed back.
 pub fn checked(
-    slots: MappingData,
-    first: Filled,
-    last: Filled,
+    slots: &MappingData,
     buttons: &[u32],
     axes: &[u32],
     name: &[u8],
-) -> MappingAnswer
-    requires { Holds buttons.now first (filled_buttons slots) × Holds axes.now last (filled_axes slots) }
-    ensures { result ≡ checks_of slots buttons.now axes.now name.now }
+) -> Result<Pairs, MappingError>
+    ensures { Passes result (checks_of slots.now buttons.now axes.now name.now)
+        (Gathered slots.now buttons.now axes.now) }
 {
     let run = valid_up_to(name);
     if run != name.len() {
-        return MappingAnswer::Refused(MappingError::NotUtf8(run));
+        return Err(MappingError::NotUtf8(run));
     }
     if NAME_MAX < name.len() {
-        return MappingAnswer::Refused(MappingError::NameTooLong);
+        return Err(MappingError::NameTooLong);
     }
     if !lists_fit(buttons, axes) {
-        return MappingAnswer::Refused(MappingError::ListTooLong);
+        return Err(MappingError::ListTooLong);
     }
     if find_byte(name, b',') != name.len() {
-        return MappingAnswer::Refused(MappingError::InvalidName);
+        return Err(MappingError::InvalidName);
     }
-    slots_checked(slots, first, last, buttons, axes)
+    slots_checked(slots, buttons, axes)
 }

@@ -1,73 +1,58 @@
-// The filled slots as entries, in ascending order, and the places of their codes.
-ghost use Rattle.std.specs.Prelude.{◌≡◌};
-ghost use Rattle.map.specs.Build.{filled_buttons, filled_axes};
-ghost use Rattle.map.specs.Inner.{none_filled_of, Holds};
+// The filled slots as entries, in ascending order, each with the place of its code.
+ghost use Rattle.std.specs.Prelude.{◌≡◌, ◌+◌, ◌<◌, ◌≤◌, [], ◌∷◌, ◌++◌, take};
+ghost use Rattle.map.specs.Slots.{button_slots};
 
-use crate::lists::find_code;
-use crate::mapping_data::{AXES, BUTTONS, MappingData, SlotCode};
-use line::ev::{Axis, AxisOrBtn, Button};
+use crate::mapping_data::BUTTONS;
 use line::mapping::Entry;
 
-// The first `count` entries, and the place of each one's code in its list: the list's length where it has none.
+// A filled slot: its entry, and the place of its code in the list of codes.
+#[derive(Clone, Copy)]
+pub struct Placed {
+    pub entry: Entry,
+    pub place: usize,
+}
+
+// The filled slots: the first `count`.
 #[derive(Clone, Copy)]
 pub struct Filled {
     pub count: usize,
-    pub entries: [Entry; BUTTONS],
-    pub places: [usize; BUTTONS],
+    pub slots: [Placed; BUTTONS],
+    ghost few: { count ≤ button_slots },
 }
 
 impl Filled {
     pub fn new() -> Filled
-        ensures { result ≡ none_filled_of }
+        ensures { take result.count result.slots ≡ [] }
     {
         Filled {
             count: 0,
-            entries: [Entry::UNUSED; BUTTONS],
-            places: [0; BUTTONS],
+            slots: [Placed {
+                entry: Entry::UNUSED,
+                place: 0,
+            }; BUTTONS],
         }
+    }
+
+    pub fn slots(&self) -> &[Placed]
+        ensures { result.now ≡ take self.now.count self.now.slots }
+    {
+        &self.slots[..self.count]
+    }
+
+    // One slot more.
+    pub fn push(&mut self, slot: Placed)
+        requires { self.old.count < button_slots }
+        ensures more { take self.new.count self.new.slots ≡ take self.old.count self.old.slots ++ slot ∷ [] }
+        ensures count { self.new.count ≡ self.old.count + 1 }
+    {
+        self.slots[self.count] = slot;
+        self.count += 1;
     }
 }
 
-pub fn filled_buttons(slots: MappingData, list: &[u32]) -> Filled
-    ensures { Holds list.now result (filled_buttons slots) }
-{
-    let mut filled = Filled::new();
-    let mut i: usize = 0;
-    while i < BUTTONS {
-        let slot = slots.buttons[i];
-        let b = Button(i as u16);
-        i += 1;
-        match slot.code() {
-            SlotCode::Is(code) => {
-                let n = filled.count;
-                filled.entries[n] = Entry::new(code, AxisOrBtn::Btn(b));
-                filled.places[n] = find_code(list, code);
-                filled.count = n + 1;
-            }
-            SlotCode::Nothing => {}
-        }
-    }
-    filled
-}
-
-pub fn filled_axes(slots: MappingData, list: &[u32]) -> Filled
-    ensures { Holds list.now result (filled_axes slots) }
-{
-    let mut filled = Filled::new();
-    let mut i: usize = 0;
-    while i < AXES {
-        let slot = slots.axes[i];
-        let a = Axis(i as u16);
-        i += 1;
-        match slot.code() {
-            SlotCode::Is(code) => {
-                let n = filled.count;
-                filled.entries[n] = Entry::new(code, AxisOrBtn::Axis(a));
-                filled.places[n] = find_code(list, code);
-                filled.count = n + 1;
-            }
-            SlotCode::Nothing => {}
-        }
-    }
-    filled
+// What a line has of the slots: the pairs of the buttons, and those of the axes.
+#[derive(Clone, Copy)]
+pub struct Pairs {
+    pub buttons: Filled,
+    pub axes: Filled,
 }

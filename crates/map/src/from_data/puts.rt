@@ -1,33 +1,35 @@
-// The map of a build, by the same puts as its line.
-ghost use Rattle.std.specs.Prelude.{◌≡◌, ◌+◌, ◌≤◌, length};
-ghost use Rattle.map.specs.Inner.{Few, Adds, put_map_of};
+// The map of a build, by the same puts as its line. The entries are handed over as numbers, since `Mapping::of_numbers` is
+// the function whose promise is a map of puts one after the other: to put them here would be that loop and its proof again.
+ghost use Rattle.std.specs.Prelude.{◌≡◌, length, map};
+ghost use Rattle.line.specs.Numbers.{entry_in};
+ghost use Rattle.map.specs.Inner.{put_map_of};
 
 use crate::from_data::NAME_START;
-use crate::from_data::filled::Filled;
+use crate::from_data::filled::{Pairs, Placed};
 use crate::mapping_data::BUTTONS;
 use line::mapping::Mapping;
 
-// The filled slots as numbers, after the first n. How many there are then.
-fn add_numbers(xs: &mut [u64], n: usize, filled: Filled) -> usize
-    requires { Few filled × (n + filled.count ≤ length xs.old) }
-    ensures { Adds n xs.old filled result xs.new }
+// The filled slots as numbers.
+fn put_numbers(xs: &mut [u64], slots: &[Placed])
+    requires { length xs.old ≡ length slots.now }
+    ensures { map entry_in xs.new ≡ map (λ s. s.entry) slots.now }
 {
-    let mut i: usize = 0;
-    while i < filled.count {
-        let e = filled.entries[i];
-        xs[n + i] = e.number();
-        i += 1;
+    for (i, slot) in slots.iter().enumerate() {
+        let entry = slot.entry;
+        xs[i] = entry.number();
     }
-    n + i
 }
 
 // The map of both, its name of so many bytes.
-pub fn built_map(first: Filled, last: Filled, len: usize) -> Mapping
-    requires { Few first × Few last }
-    ensures { result ≡ put_map_of first last len }
+pub fn built_map(pairs: &Pairs, name_len: usize) -> Mapping
+    ensures { result ≡ put_map_of pairs.now name_len }
 {
+    let first = pairs.buttons.slots();
+    let last = pairs.axes.slots();
+    let n = first.len();
+    let count = n + last.len();
     let mut xs = [0u64; BUTTONS + BUTTONS];
-    let n = add_numbers(&mut xs, 0, first);
-    let count = add_numbers(&mut xs, n, last);
-    Mapping::of_numbers(&xs[..count], NAME_START, len)
+    put_numbers(&mut xs[..n], first);
+    put_numbers(&mut xs[n..count], last);
+    Mapping::of_numbers(&xs[..count], NAME_START, name_len)
 }

@@ -4,11 +4,7 @@ use Rattle.exports.specs.FlatMaps.{flat_entry}
 use lib.ListN.{take, drop}
 use mathlib.Core.List.{◌++◌, map}
 use mathlib.Core.Path.{◌≡◌}
-use Prim.Native.Nat.{◌≤◌, ◌-◌}
 use Rattle.exports.proofs.flat_mapping.flat_first.Given as goal
 
 abbrev pub invariant-loop-i : goal.invariant-loop-i
-invariant-loop-i l = (l.i ≤ l.n) × (l.out ≡ map flat_entry (take l.i l.entries) ++ drop l.i l.initial.out)
-
-abbrev pub decreases-loop-i : goal.decreases-loop-i
-decreases-loop-i l = l.n - l.i
+invariant-loop-i l = l.out ≡ map flat_entry (take l.i l.entries) ++ drop l.i l.initial.out

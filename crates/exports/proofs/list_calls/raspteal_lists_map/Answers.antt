@@ -1,22 +1,24 @@
 -- The look-up goes by the first place of the code. Assumes nothing.
-use Rattle.exports.proofs.ListLaws.{found_flat_lem, none_flat, past_flat}
+use mathlib.Core.Path.{refl, sym, ◌∙◌}
+use Rattle.exports.proofs.ListLaws.{place-found, place-none, found_flat_lem, none_flat, past_flat}
 use Rattle.exports.proofs.list_calls.raspteal_lists_map.Goals as goal
 
-pub returns-then-i-elements : goal.returns-then-i-elements
-returns-then-i-elements c =
+pub returns-in-Some : goal.returns-in-Some
+returns-in-Some c =
     let a = c.args in
-    let place = c.code_place-i in
-    found_flat_lem a.codes.now a.elements.now a.code place.result place.ensures _
-    c.if-i-codes.true c.if-i-elements.true c.listed_element.ensures
+    let i = c.in-Some.i in
+    let p = place-found a.code a.codes.now i (sym c.code_place.ensures ∙ c.in-Some.is) in
+    found_flat_lem a.codes.now a.elements.now a.code i p.0 _ p.1 c.if-i-elements.true c.listed_element.ensures
 
-pub returns-else-i-elements : goal.returns-else-i-elements
-returns-else-i-elements c =
+pub returns-in_default : goal.returns-in_default
+returns-in_default c =
     let a = c.args in
-    let place = c.code_place-i in
-    past_flat a.codes.now a.elements.now a.code place.result place.ensures c.if-i-elements.false
+    let i = c.in-Some.i in
+    let p = place-found a.code a.codes.now i (sym c.code_place.ensures ∙ c.in-Some.is) in
+    past_flat a.codes.now a.elements.now a.code i p.0 c.if-i-elements.false
 
-pub returns-else-i-codes : goal.returns-else-i-codes
-returns-else-i-codes c =
+pub returns-in_default-2 : goal.returns-in_default-2
+returns-in_default-2 c =
     let a = c.args in
-    let place = c.code_place-i in
-    none_flat a.codes.now a.elements.now a.code place.result place.ensures c.if-i-codes.false
+    none_flat a.codes.now a.elements.now a.code _ refl
+    (place-none a.code a.codes.now (sym c.code_place.ensures ∙ c.in_default.is))

@@ -11,12 +11,3 @@ flat_made-requires c =
     let a = c.args in
     subst (λ (r : SdlMapping). Unused r.map.count r.map.entries) (sym c.parse_sdl_mapping-read.ensures)
     (tidy_reading a.buttons.now a.axes.now a.line.now).unused
-
-pub returns : goal.returns
-returns c =
-    simp (
-      c.flat_made.ensures,
-      c.flat_outcome.ensures,
-      c.outcome.ensures,
-      c.parse_sdl_mapping-read.ensures,
-    )

@@ -1,18 +1,11 @@
--- By the count after the put. Assumes nothing.
-use Rattle.line.proofs.TurnLaws.{one_stored, one_full}
+use mathlib.Core.Path.{refl}
+use Rattle.line.specs.Reading.{put_one}
 use Rattle.line.proofs.reading.put_one.Goals as goal
 
-pub put_number-n-requires : goal.put_number-n-requires
-put_number-n-requires c = c.requires
+pub returns-in-Ok : goal.returns-in-Ok
+unfolding put_one
+returns-in-Ok c = rw (← c.put.ensures.1, ← c.put.ensures.0, c.in-Ok.is) refl
 
-pub returns-then-n-gt-CODES_MAX : goal.returns-then-n-gt-CODES_MAX
-returns-then-n-gt-CODES_MAX c =
-    let a = c.args in
-    one_full a.draft a.xs.now a.e a.p _ _ c.put_number-n.ensures _ c.if-n-gt-CODES_MAX.true c.requires.0
-    c.stops.ensures
-
-pub returns : goal.returns
-returns c =
-    let a = c.args in
-    one_stored a.draft a.xs.now a.e a.p _ _ c.put_number-n.ensures _ c.if-n-gt-CODES_MAX.false
-    c.goes_on.ensures
+pub returns-in-Err : goal.returns-in-Err
+unfolding put_one
+returns-in-Err c = rw (← c.put.ensures.0, c.in-Err.is) refl

@@ -1,17 +1,14 @@
--- What is left to read from where the walker stands is, at every turn, what the line reads as. Assumes nothing.
+-- What is left to read from where the walker stands is, at every turn, what the line reads as.
 use Prim.Native.Nat.{◌-◌}
 use mathlib.Core.Path.{◌≡◌}
 use lib.ListN.{length}
-use Rattle.line.specs.Maps.{to_map}
 use Rattle.line.specs.Reading.{read_line}
-use Rattle.line.specs.Inner.{view_in, Roomy}
 use Rattle.line.proofs.ReadingLaws.{rest_of}
 use Rattle.line.proofs.reading.read_fields.Given as goal
 
 abbrev pub invariant-loop-pos : goal.invariant-loop-pos
 invariant-loop-pos l =
-    (rest_of l.line l.pos l.state (to_map (view_in l.draft l.xs)) l.buttons l.axes ≡ read_line l.line l.buttons l.axes)
-    × Roomy l.draft.count l.xs
+    rest_of l.line l.pos l.state l.map l.buttons l.axes ≡ read_line l.line l.buttons l.axes
 
 abbrev pub decreases-loop-pos : goal.decreases-loop-pos
 decreases-loop-pos l = length l.line - l.pos

@@ -5,8 +5,8 @@ use Rattle.map.proofs.default.default.Goals as goal
 
 pub returns-then-lists_fit : goal.returns-then-lists_fit
 unfolding default_of
-returns-then-lists_fit c = rw (sym c.lists_fit.ensures ∙ c.if-lists_fit.true, c.kept_map-map.ensures)
+returns-then-lists_fit c = rw (sym c.lists_fit.ensures ∙ c.if-lists_fit.true, c.kept_map.ensures)
 
-pub returns : goal.returns
+pub returns-else-lists_fit : goal.returns-else-lists_fit
 unfolding default_of
-returns c = rw (sym c.lists_fit.ensures ∙ c.if-lists_fit.false, c.new.ensures)
+returns-else-lists_fit c = rw (sym c.lists_fit.ensures ∙ c.if-lists_fit.false, c.new.ensures)

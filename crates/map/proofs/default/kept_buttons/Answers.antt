@@ -1,106 +1,38 @@
-use Prim.Native.Nat.{ℕ, suc, ◌+◌, ◌<◌}
-use mathlib.Core.Path.{◌≡◌, sym, ap, ◌∙◌}
-use mathlib.Core.List.{List, []}
-use native.Mathlib.Omega.{arith}
-use lib.ListN.{length, get_or}
-use Rattle.line.specs.declared.mapping.Entry.{Entry}
-use Rattle.line.specs.declared.mapping.PutAnswer.{PutAnswer}
-use Rattle.line.specs.Elements.{button_last, code_of}
-use Rattle.line.specs.Maps.{entry_of, put_entry, to_map}
+-- By the number at each place: 0, and no row, or a button's, and its row. Assumes nothing.
+use Rattle.std.proofs.Common.{ℕ, ◌≡◌, ◌+◌, ◌<◌, get_or, arith, ap, sym, ◌∙◌}
+use Rattle.line.specs.Elements.{code_of}
+use Rattle.line.specs.Maps.{entry_of}
 use Rattle.line.specs.Tables.{as_button}
-use Rattle.line.proofs.ViewLaws.{put_adds, put_map}
 use Rattle.map.specs.Keys.{key_first, key_count, key_number}
-use Rattle.map.specs.Default.{put_kept, flagged_map}
+use Rattle.map.specs.Default.{button_rows}
 use Rattle.map.proofs.KeyLaws.{table_number}
-use Rattle.map.proofs.DefaultLaws.{key_row, rows_from, rows-first, rows_last, rows_none, rows-some, buttons_many}
-use Rattle.map.proofs.DefaultLaws.{none_kept, row_kept, row_dropped, flagged_empty}
+use Rattle.map.proofs.DefaultLaws.{key_row, rows_from, rows-first, rows_last, rows_none, rows-some, buttons_many, fill_none, fill_turn, fill_end, flagged_empty}
 use Rattle.map.proofs.default.kept_buttons.Goals as goal
-use Rattle.map.proofs.default.kept_buttons.Goals.{then-n-ne0+then-in_its_list, then-n-ne0+else-in_its_list, else-n-ne0}
+use Rattle.map.proofs.default.kept_buttons.Goals.{then-n-ne0, else-n-ne0}
 
 pub loop-i-init : goal.loop-i-init
 loop-i-init c =
-    let a = c.args in
-    let many : length (rows_from 0) ≡ button_last = ap length rows-first ∙ buttons_many in (
-      c.key_table-table.ensures,
-      omega arith,
-      (
-        [],
-        omega (arith, many),
-        flagged_empty c.new-map.result c.new-map.ensures,
-        ap (λ (xs : List Entry). put_kept a.buttons.now a.axes.now [] xs) rows-first,
-      ),
-    )
+    rw rows-first (fill_none c.args.buttons.now c.args.axes.now button_rows _ (omega (arith, buttons_many)) (flagged_empty c.new-map.result c.new-map.ensures))
 
 pub loop-i-preserved : goal.loop-i-preserved
 loop-i-preserved c =
-    let a = c.args in
-    let b = a.buttons.now in
-    let x = a.axes.now in
-    let t = c.key_table-table.result in
+    let b = c.args.buttons.now in
+    let a = c.args.axes.now in
     let i = c.loop-i.i in
-    let inv = c.loop-i.invariant.2 in
-    let es = inv.0 in
     let h : i < key_count = omega arith in
-    let number : get_or t.buttons i 0 ≡ key_number (key_first + i) = table_number t i c.loop-i.invariant.0 h in
-    let row = key_row (key_first + i) in
-    let rest = rows_from (i + 1) in
+    let number : get_or c.key_table-table.result.buttons i 0 ≡ key_number (key_first + i) =
+    table_number c.key_table-table.result i c.key_table-table.ensures h in
     elim c.if-n-ne0.branch [
-      | then-n-ne0+then-in_its_list w ↦
+      | then-n-ne0 w ↦
           let some = rows-some i h (λ z. w.if-n-ne0.true (number ∙ z)) in
-          let long : length (rows_from i) ≡ suc (length rest) = ap length some in
-          let made = w.key_row-e.ensures ∙ ap (λ (n : ℕ). entry_of (code_of (key_first + i)) (as_button n)) number in
-          let kept = rw made at w.in_its_list.ensures in
-          let put = rw (made, inv.2) at w.put-a.ensures in (
-            c.loop-i.invariant.0,
-            omega arith,
-            (
-              put_entry row es,
-              omega (arith, long, put_adds row es),
-              w.map-is ∙ ap (λ (r : PutAnswer). r.map) put ∙ put_map (flagged_map es) row (omega arith),
-              sym (row_kept b x es rest row (sym kept ∙ w.if-in_its_list.true))
-                  ∙ sym (ap (λ (xs : List Entry). put_kept b x es xs) some)
-                  ∙ inv.3,
-            ),
-          )
-      | then-n-ne0+else-in_its_list w ↦
-          let some = rows-some i h (λ z. w.if-n-ne0.true (number ∙ z)) in
-          let long : length (rows_from i) ≡ suc (length rest) = ap length some in
-          let made = w.key_row-e.ensures ∙ ap (λ (n : ℕ). entry_of (code_of (key_first + i)) (as_button n)) number in
-          let kept = rw made at w.in_its_list.ensures in (
-            c.loop-i.invariant.0,
-            omega arith,
-            (
-              es,
-              omega (arith, long),
-              w.map-is ∙ inv.2,
-              sym (row_dropped b x es rest row (sym kept ∙ w.if-in_its_list.false))
-                  ∙ sym (ap (λ (xs : List Entry). put_kept b x es xs) some)
-                  ∙ inv.3,
-            ),
-          )
-      | else-n-ne0 w ↦
-          let none = rows_none i h (sym number ∙ w.if-n-ne0.false) in
-          let long : length (rows_from i) ≡ length rest = ap length none in (
-            c.loop-i.invariant.0,
-            omega arith,
-            (
-              es,
-              omega (arith, long),
-              w.map-is ∙ inv.2,
-              sym (ap (λ (xs : List Entry). put_kept b x es xs) none) ∙ inv.3,
-            ),
-          )
+          let made = w.key_row.ensures ∙ ap (λ (n : ℕ). entry_of (code_of (key_first + i)) (as_button n)) number in
+          rw w.map-is
+          (fill_turn b a button_rows (key_row (key_first + i)) (rows_from (i + 1)) _ _
+          (rw made at w.put_listed.ensures) (rw some at c.loop-i.invariant))
+      | else-n-ne0 w ↦ rw (w.map-is, sym (rows_none i h (sym number ∙ w.if-n-ne0.false))) c.loop-i.invariant
     ]
 
 pub returns : goal.returns
 returns c =
-    let a = c.args in
-    let b = a.buttons.now in
-    let x = a.axes.now in
-    let inv = c.loop-i.invariant.2 in
-    let e : c.loop-i.i ≡ key_count = omega arith in
-    let done =
-    sym (none_kept b x inv.0)
-    ∙ sym (ap (λ (xs : List Entry). put_kept b x inv.0 xs) (rows_last c.loop-i.i e))
-    ∙ inv.3 in
-    inv.2 ∙ ap (λ (es : List Entry). to_map (flagged_map es)) done
+    fill_end c.args.buttons.now c.args.axes.now button_rows _
+    (rw (rows_last c.loop-i.i (omega arith)) at c.loop-i.invariant)

@@ -1,65 +1,28 @@
-use Prim.Native.Nat.{◌+◌, ◌≤◌, ◌<◌}
-use mathlib.Core.Path.{◌≡◌, sym, ap, ◌∙◌}
-use mathlib.Core.List.{List, []}
-use native.Mathlib.Omega.{arith}
-use lib.ListN.{length, get_or}
-use Rattle.line.specs.declared.mapping.Entry.{Entry}
-use Rattle.line.specs.declared.mapping.PutAnswer.{PutAnswer}
-use Rattle.line.specs.Maps.{unused_entry, put_entry, to_map}
-use Rattle.line.proofs.ViewLaws.{put_adds, put_map}
-use Rattle.map.specs.Default.{button_rows, axis_rows, axis_row_count, put_kept, flagged_map}
-use Rattle.map.proofs.DefaultLaws.{kept_put, kept_not, kept_append, kept_many}
-use Rattle.map.proofs.DefaultLaws.{rows_long, rows-done, buttons_many}
+-- One row after the other. Assumes nothing.
+use Rattle.std.proofs.Common.{◌<◌, ◌≤◌, length, refl, arith, add-one, ◌∙◌}
+use Rattle.std.proofs.Math.Seq.{drop-cons}
+use Rattle.std.proofs.Math.ListN.{drop_of_length-le}
+use Rattle.map.specs.declared.default.TheConstants.{AXIS_ROWS}
+use Rattle.map.specs.Default.{rows, axis_rows}
+use Rattle.map.proofs.DefaultLaws.{row_of, fill_axes, fill_turn, fill_end}
 use Rattle.map.proofs.default.kept_map.Goals as goal
-use Rattle.map.proofs.default.kept_map.Goals.{then-in_its_list, else-in_its_list}
 
-pub loop-i-init : goal.loop-i-init
-loop-i-init c =
-    let a = c.args in
-    let b = a.buttons.now in
-    let x = a.axes.now in
-    let first = put_kept b x [] button_rows in
-    let many : length first ≤ 0 + length button_rows = kept_many b x [] button_rows in
-    let split = sym (kept_append b x [] button_rows axis_rows) in
-    (omega arith, (first, omega (arith, buttons_many), c.kept_buttons-map.ensures, split))
+pub loop-code-init : goal.loop-code-init
+loop-code-init c = fill_axes c.args.buttons.now c.args.axes.now _ c.kept_buttons-map.ensures
 
-pub loop-i-preserved : goal.loop-i-preserved
-loop-i-preserved c =
-    let a = c.args in
-    let i = c.loop-i.i in
-    let inv = c.loop-i.invariant.1 in
-    let x = get_or axis_rows i unused_entry in
-    let row = c.row-e.ensures in
-    let kept = rw row at c.in_its_list.ensures in
-    let in_rows : i < length axis_rows = rows_long i (omega arith) in
-    elim c.if-in_its_list.branch [
-      | then-in_its_list w ↦
-          let put = rw (row, inv.2) at w.put-a.ensures in (
-            omega arith,
-            (
-              put_entry x inv.0,
-              omega (arith, put_adds x inv.0),
-              w.map-is ∙ ap (λ (r : PutAnswer). r.map) put ∙ put_map (flagged_map inv.0) x (omega arith),
-              sym (kept_put a.buttons.now a.axes.now inv.0 axis_rows i unused_entry in_rows (sym kept ∙ w.if-in_its_list.true))
-                  ∙ inv.3,
-            ),
-          )
-      | else-in_its_list w ↦ (
-        omega arith,
-        (
-          inv.0,
-          omega arith,
-          w.map-is ∙ inv.2,
-          sym (kept_not a.buttons.now a.axes.now inv.0 axis_rows i unused_entry in_rows (sym kept ∙ w.if-in_its_list.false))
-              ∙ inv.3,
-        ),
-      )
-    ]
+pub loop-code-preserved : goal.loop-code-preserved
+unfolding axis_rows
+loop-code-preserved c =
+    let b = c.args.buttons.now in
+    let a = c.args.axes.now in
+    let i = c.loop-code.code-index in
+    let h : i < length axis_rows = omega arith in
+    let made = c.new.ensures ∙ row_of AXIS_ROWS axis_rows i _ h refl in
+    let left = drop-cons axis_rows i _ h in
+    rw add-one (fill_turn b a rows _ _ _ _ (rw made at c.put_listed.ensures) (rw left at c.loop-code.invariant))
 
 pub returns : goal.returns
+unfolding axis_rows
 returns c =
-    let a = c.args in
-    let inv = c.loop-i.invariant.1 in
-    let e : c.loop-i.i ≡ axis_row_count = omega arith in
-    let done = sym (rows-done a.buttons.now a.axes.now inv.0 c.loop-i.i e) ∙ inv.3 in
-    inv.2 ∙ ap (λ (es : List Entry). to_map (flagged_map es)) done
+    let h : length axis_rows ≤ c.loop-code.code-index = omega arith in
+    fill_end c.args.buttons.now c.args.axes.now rows _ (rw (drop_of_length-le axis_rows h) at c.loop-code.invariant)

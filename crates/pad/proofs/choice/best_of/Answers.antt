@@ -1,48 +1,45 @@
-use Prim.Native.Nat.{ℕ, ◌-◌, ◌+◌, ◌<◌}
-use mathlib.Core.Path.{◌≡◌, sym, subst}
-use native.Mathlib.Omega.{arith}
-use lib.ListN.{drop}
-use Rattle.pad.specs.declared.choice.Best.{Best}
-use Rattle.pad.specs.Pads.{choose}
-use Rattle.pad.specs.Inner.{helds_in, entries_in, Holds}
-use Rattle.pad.proofs.NumberLaws.{none_yet, one_more}
+-- One held code more, from the last one on. Assumes nothing.
+use Rattle.std.proofs.Common.{ℕ, ◌≡◌, ◌+◌, ◌-◌, ◌<◌, length, map, arith, rules, sym, ap, ◌∙◌}
+use lib.IntN.{ℤ}
+use mir.Syntax.{w16}
+use mir.Val.{SFits}
+use mir.ValLaws.{to_z-of_z}
+use Rattle.line.specs.Numbers.{entry_in}
+use Rattle.pad.specs.Pads.{preferred}
+use Rattle.pad.specs.Inner.{chosen_by}
+use Rattle.pad.proofs.NumberLaws.{one_more, none_more, none_yet}
 use Rattle.pad.proofs.choice.best_of.Goals as goal
 
 pub loop-i-init : goal.loop-i-init
-loop-i-init c = (
-  omega arith,
-  none_yet c.args.held.now c.args.n (entries_in c.args.m c.args.entries.now)
-      c.args.el c.requires.0,
-)
+loop-i-init c = (omega arith, none_yet c.args.held.now (map entry_in c.args.entries.now) c.args.el)
 
-pub bounds-held-i : goal.bounds-held-i
-bounds-held-i c = omega (arith, c.requires.0)
-
-pub given-requires : goal.given-requires
-given-requires c = c.requires.1
+pub loop-i-preserved-in-Some : goal.loop-i-preserved-in-Some
+loop-i-preserved-in-Some c =
+    let i = c.loop-i.i in
+    let k : ℕ = i - 1 in
+    let one : i ≡ k + 1 = omega arith in
+    let l : k < length c.args.held.now = omega (arith, c.loop-i.invariant.0) in
+    let f : SFits w16 c.in-Some.value = search rules in (
+      omega (arith, c.loop-i.invariant.0),
+      c.prefer.ensures
+          ∙ ap (λ (z : ℤ). preferred c.held_of-h.result.code.0 z (chosen_by c.loop-i.best))
+          (to_z-of_z w16 c.in-Some.value f)
+          ∙ one_more c.args.held.now i k (map entry_in c.args.entries.now) c.args.el c.held_of-h.result l one
+          c.held_of-h.ensures _ c.loop-i.invariant.1 c.in-Some.value (sym c.given.ensures ∙ c.in-Some.is),
+    )
 
 pub loop-i-preserved : goal.loop-i-preserved
 loop-i-preserved c =
-    let at = c.loop-i in
-    let k = at.i - 1 in
-    let lt : k < c.args.n = omega arith in
-    let one : k + 1 ≡ at.i = omega arith in
-    let called = c.held_of-h in
-    let es = entries_in c.args.m c.args.entries.now in
-    let inv : Holds at.best (choose (drop (k + 1) (helds_in c.args.n c.args.held.now)) es c.args.el) =
-    rw one at.invariant.1 in (
-      omega arith,
-      subst (λ (b : Best). Holds b (choose (drop k (helds_in c.args.n c.args.held.now)) es c.args.el))
-          (sym c.prefer-best.ensures)
-          (one_more c.args.held.now c.args.n k es c.args.el called.result at.best lt c.requires.0
-          called.ensures
-          inv c.given.result c.given.ensures),
+    let i = c.loop-i.i in
+    let k : ℕ = i - 1 in
+    let one : i ≡ k + 1 = omega arith in
+    let l : k < length c.args.held.now = omega (arith, c.loop-i.invariant.0) in (
+      omega (arith, c.loop-i.invariant.0),
+      none_more c.args.held.now i k (map entry_in c.args.entries.now) c.args.el c.held_of-h.result l one
+          c.held_of-h.ensures _ c.loop-i.invariant.1 (sym c.given.ensures ∙ c.in_default.is),
     )
 
 pub returns : goal.returns
 returns c =
-    let at = c.loop-i in
-    let z : at.i ≡ 0 = omega arith in
-    subst (λ (k : ℕ). Holds at.best (choose (drop k (helds_in c.args.n c.args.held.now))
-    (entries_in c.args.m c.args.entries.now) c.args.el))
-    z at.invariant.1
+    let z : c.loop-i.i ≡ 0 = omega arith in
+    rw z at c.loop-i.invariant.1

@@ -1,12 +1,11 @@
-use Prim.Native.Nat.{◌≤◌}
-use lib.ListN.{drop}
+-- What was chosen of those from i on. Assumes nothing.
+use Rattle.std.proofs.Common.{◌≡◌, ◌≤◌, length, drop, map}
+use Rattle.line.specs.Numbers.{entry_in}
 use Rattle.pad.specs.Pads.{choose}
-use Rattle.pad.specs.Inner.{helds_in, entries_in, Holds}
+use Rattle.pad.specs.States.{held_in}
+use Rattle.pad.specs.Inner.{chosen_by}
 use Rattle.pad.proofs.choice.best_of.Given as goal
 
 abbrev pub invariant-loop-i : goal.invariant-loop-i
 invariant-loop-i l =
-    (l.i ≤ l.n) × Holds l.best (choose (drop l.i (helds_in l.n l.held)) (entries_in l.m l.entries) l.el)
-
-abbrev pub decreases-loop-i : goal.decreases-loop-i
-decreases-loop-i l = l.i
+    (l.i ≤ length l.held) × (chosen_by l.best ≡ choose (map held_in (drop l.i l.held)) (map entry_in l.entries) l.el)

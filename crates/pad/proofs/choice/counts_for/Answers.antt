@@ -1,39 +1,19 @@
--- By its element, and by the place of the first entry of its code. Assumes nothing.
-use Prim.Native.Nat.{◌≤◌}
-use mathlib.Core.Path.{sym, ◌∙◌}
-use native.Mathlib.Omega.{arith}
-use lib.ListN.{length, take}
-use lib.Seq.{length-take-le}
-use Rattle.pad.proofs.OwnLaws.{counted-first, counted-later, counted_other}
+-- By its element, and by whether its code was seen. Assumes nothing.
+use Rattle.std.proofs.Common.{◌≡◌, sym, ◌∙◌, rules}
+use borrow.Author.Tests.{tests}
+use Rattle.line.specs.Elements.{same_element}
+use Rattle.pad.proofs.OwnLaws.{counted_is, counted_other, none_is}
 use Rattle.pad.proofs.choice.counts_for.Goals as goal
 
-pub returns-then-held_place-j : goal.returns-then-held_place-j
-returns-then-held_place-j c =
+pub returns-then-eq : goal.returns-then-eq
+returns-then-eq c =
     let e = c.of_number-e in
-    let p = c.held_place in
-    let es = c.args.entries.now in
-    let j = c.args.j in
-    let l : j ≤ length es = omega (arith, c.requires) in
-    sym
-    (counted-first c.args.el (take j es) _ e.result e.ensures p.result j
-    (sym c.eq.ensures ∙ c.if-eq.true) p.ensures.0 c.if-held_place-j.true
-    (length-take-le j es l))
-
-pub returns-else-held_place-j : goal.returns-else-held_place-j
-returns-else-held_place-j c =
-    let e = c.of_number-e in
-    let p = c.held_place in
-    let es = c.args.entries.now in
-    let j = c.args.j in
-    let l : j ≤ length es = omega (arith, c.requires) in
-    sym
-    (counted-later c.args.el (take j es) _ e.result e.ensures p.result j
-    (sym c.eq.ensures ∙ c.if-eq.true) p.ensures.0 c.if-held_place-j.false
-    (length-take-le j es l))
+    let q : c.eq.result ≡ same_element e.result.element c.args.el = search (rules, tests) in
+    let n = counted_is c.args.el c.args.before.now c.args.x e.result e.ensures _ c.code_place.ensures in
+    rw (n, sym q ∙ c.if-eq.true) (none_is _ _ c.is_none.ensures)
 
 pub returns-else-eq : goal.returns-else-eq
 returns-else-eq c =
     let e = c.of_number-e in
-    sym
-    (counted_other c.args.el (take c.args.j c.args.entries.now) _ e.result e.ensures
-    (sym c.eq.ensures ∙ c.if-eq.false))
+    let q : c.eq.result ≡ same_element e.result.element c.args.el = search (rules, tests) in
+    c.if-eq.false ∙ sym (counted_other c.args.el c.args.before.now c.args.x e.result e.ensures (sym q ∙ c.if-eq.false))

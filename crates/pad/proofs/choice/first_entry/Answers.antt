@@ -1,31 +1,15 @@
-use Prim.Native.Nat.{◌<◌}
-use mathlib.Core.Path.{refl, sym, ap, ◌∙◌}
-use native.Mathlib.Omega.{arith}
-use Rattle.line.specs.declared.mapping.Entry.{Entry}
-use Rattle.line.specs.declared.mapping.Entered.TheVariants as En
-use Rattle.pad.proofs.NumberLaws.{found, passed, none_left}
+-- By whether the code has a place. Assumes nothing.
+use Rattle.std.proofs.Common.{arith, sym, rules}
+use Rattle.pad.proofs.NumberLaws.{place_some, place_none, entry_of_place, entry_none}
 use Rattle.pad.proofs.choice.first_entry.Goals as goal
 
-pub loop-j-init : goal.loop-j-init
-loop-j-init c = (omega arith, refl)
-
-pub returns-then-entries-j : goal.returns-then-entries-j
-returns-then-entries-j c =
-    let at = c.loop-j in
-    let lt : at.j < c.args.m = omega arith in
-    ap (λ (e : Entry). En.Is e) c.of_number.ensures
-    ∙ sym (found c.args.entries.now c.args.m at.j c.args.code c.requires lt at.invariant.1
-    c.if-entries-j.true)
-
-pub loop-j-preserved : goal.loop-j-preserved
-loop-j-preserved c =
-    let at = c.loop-j in
-    let lt : at.j < c.args.m = omega arith in (
-      omega arith,
-      passed c.args.entries.now c.args.m at.j c.args.code c.requires lt at.invariant.1 c.if-entries-j.false,
-    )
+pub returns-in_err-i : goal.returns-in_err-i
+returns-in_err-i c =
+    let n = entry_none c.args.code c.args.entries.now (place_none c.args.code.0 c.args.entries.now (sym c.in_err-i.ensures)) in
+    rw n (search rules)
 
 pub returns : goal.returns
 returns c =
-    let at = c.loop-j in
-    sym (none_left c.args.entries.now c.args.m at.j c.args.code c.requires (omega arith)) ∙ at.invariant.1
+    let p = place_some c.args.code.0 c.args.entries.now _ (sym c.in_ok-i.ensures) in
+    let n = entry_of_place c.args.code c.args.entries.now 0 (omega (arith, p.0, p.1)) in
+    rw (n, p.0, sym c.of_number.ensures)

@@ -1,30 +1,13 @@
-use Prim.Native.Nat.{◌<◌}
-use native.Mathlib.Omega.{arith}
-use Rattle.pad.proofs.PlaceLaws.{place_found, place_passed, place_none}
+-- By whether the code has a place. Assumes nothing.
+use Rattle.std.proofs.Common.{arith, sym}
+use Rattle.pad.proofs.NumberLaws.{place_some, place_none}
 use Rattle.pad.proofs.choice.held_place.Goals as goal
 
-pub loop-i-init : goal.loop-i-init
-loop-i-init c = (omega arith, omega arith)
+pub returns-in-Some : goal.returns-in-Some
+returns-in-Some c =
+    let p = place_some c.args.code.0 c.args.held.now _ (sym c.in-Some.ensures) in
+    (sym p.0, omega (arith, p.1))
 
-pub returns-then-held-i : goal.returns-then-held-i
-returns-then-held-i c =
-    let at = c.loop-i in
-    let lt : at.i < c.args.n = omega arith in (
-      place_found c.args.held.now c.args.n at.i c.args.code.0 c.requires at.invariant.1 lt c.if-held-i.true,
-      omega arith,
-    )
-
-pub loop-i-preserved : goal.loop-i-preserved
-loop-i-preserved c =
-    let at = c.loop-i in
-    let lt : at.i < c.args.n = omega arith in (
-      omega arith,
-      place_passed c.args.held.now c.args.n at.i c.args.code.0 c.requires at.invariant.1 lt c.if-held-i.false,
-    )
-
-pub returns : goal.returns
-returns c =
-    let at = c.loop-i in (
-      place_none c.args.held.now c.args.n at.i c.args.code.0 c.requires at.invariant.1 (omega arith),
-      omega arith,
-    )
+pub returns-in-None : goal.returns-in-None
+returns-in-None c =
+    (sym (place_none c.args.code.0 c.args.held.now (sym c.in-None.ensures)), omega arith)

@@ -1,5 +1,4 @@
 -- The first i are the numbers of the entries, the others 0. Assumes nothing.
-use Prim.Native.Nat.{◌≤◌, ◌-◌}
 use mathlib.Core.Path.{◌≡◌}
 use mathlib.Core.List.{◌++◌, map}
 use lib.ListN.{take, drop, replicate}
@@ -9,7 +8,4 @@ use Rattle.pad.proofs.state.entry_numbers.Given as goal
 
 abbrev pub invariant-loop-i : goal.invariant-loop-i
 invariant-loop-i l =
-    (l.i ≤ l.n) × (l.out ≡ take l.i (map entry_number l.map.entries) ++ drop l.i (replicate 256 0)) × ShortAll (take l.i l.map.entries)
-
-abbrev pub decreases-loop-i : goal.decreases-loop-i
-decreases-loop-i l = l.n - l.i
+    (l.numbers ≡ take l.i (map entry_number l.map.entries) ++ drop l.i (replicate 256 0)) × ShortAll (take l.i l.map.entries)

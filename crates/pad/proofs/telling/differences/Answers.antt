@@ -1,57 +1,41 @@
-use Prim.Native.Nat.{◌<◌}
-use native.Mathlib.Omega.{arith}
-use Rattle.pad.proofs.ListLaws.{small_nth, none-listed, listed_same, listed_other, all_listed}
+-- By whether the value is another. Assumes nothing.
+use Rattle.std.proofs.Common.{get_or, arith, rules, sym, ap, ◌∙◌}
+use lib.IntN.{ℤ, pos}
+use mir.Syntax.{w16}
+use mir.Val.{SFits, to_z, of_z}
+use mir.ValLaws.{to_z-of_z}
+use Rattle.line.specs.declared.ev.AxisOrBtn.{AxisOrBtn}
+use Rattle.pad.specs.Pads.{element_at}
+use Rattle.pad.specs.Inner.{one_event}
+use Rattle.pad.proofs.ListLaws.{none-listed, listed_same, listed_other, all_listed}
 use Rattle.pad.proofs.telling.differences.Goals as goal
+use Rattle.pad.proofs.telling.differences.Goals.{then-before-k, else-before-k}
 
 pub loop-k-init : goal.loop-k-init
-loop-k-init c =
-    let a = c.args in
-    none-listed a.before.now a.after.now
-
-pub bounds-before-k : goal.bounds-before-k
-bounds-before-k c = omega (arith, c.requires.0)
-
-pub bounds-after-k : goal.bounds-after-k
-bounds-after-k c = omega (arith, c.requires.1)
-
-pub loop-k-preserved-then-before-k : goal.loop-k-preserved-then-before-k
-loop-k-preserved-then-before-k c =
-    let at = c.loop-k in
-    let lt : at.k < 27 = omega arith in
-    listed_same c.args.before.now c.args.after.now at.k c.requires.0 c.requires.1 lt at.list at.count
-    at.invariant c.if-before-k.true
-
-pub bounds-after-k-else-before-k : goal.bounds-after-k-else-before-k
-bounds-after-k-else-before-k c = omega (arith, c.requires.1)
-
-pub event_at-requires : goal.event_at-requires
-event_at-requires c =
-    let at = c.loop-k in
-    let lt : at.k < 27 = omega arith in
-    (lt, small_nth c.args.after.now at.k c.requires.3 (omega (arith, lt, c.requires.1)))
-
-pub offset_bounds-list-count : goal.offset_bounds-list-count
-offset_bounds-list-count c = omega (arith, c.loop-k.invariant.few)
-
-pub bounds-list-count : goal.bounds-list-count
-bounds-list-count c = omega (arith, c.loop-k.invariant.few)
-
-pub overflow_add-count : goal.overflow_add-count
-overflow_add-count c = omega (arith, c.loop-k.invariant.few)
+loop-k-init c = none-listed c.args.before.now c.args.after.now
 
 pub loop-k-preserved : goal.loop-k-preserved
 loop-k-preserved c =
-    let at = c.loop-k in
-    let lt : at.k < 27 = omega arith in
-    let bs = c.args.before.now in
-    let cs = c.args.after.now in
-    let v = c.event_at in
-    listed_other bs cs at.k c.requires.0 c.requires.1 lt at.list at.count v.result at.invariant
-    (small_nth bs at.k c.requires.2 (omega (arith, lt, c.requires.0)))
-    (small_nth cs at.k c.requires.3 (omega (arith, lt, c.requires.1))) c.if-before-k.false v.ensures
+    let k = c.loop-k.k in
+    let a = get_or c.args.before.now k (pos 0) in
+    let b = get_or c.args.after.now k (pos 0) in
+    let fa : SFits w16 a = search rules in
+    let fb : SFits w16 b = search rules in
+    elim c.if-before-k.branch [
+      | then-before-k w ↦
+          rw (w.list-is, w.count-is)
+          (listed_other c.args.before.now c.args.after.now k (omega arith) (omega arith) (omega arith) (pos 0)
+          c.loop-k.list c.loop-k.count _ c.loop-k.invariant (λ q. w.if-before-k.true (ap (of_z w16) q))
+          (ap (λ (el : AxisOrBtn). one_event el (to_z w16 (of_z w16 b))) w.element_at-element.ensures
+          ∙ ap (λ (z : ℤ). one_event (element_at k) z) (to_z-of_z w16 b fb)))
+      | else-before-k w ↦
+          rw (w.list-is, w.count-is)
+          (listed_same c.args.before.now c.args.after.now k (omega arith) (omega arith) (omega arith) (pos 0)
+          c.loop-k.list c.loop-k.count c.loop-k.invariant
+          (sym (to_z-of_z w16 a fa) ∙ ap (to_z w16) w.if-before-k.false ∙ to_z-of_z w16 b fb))
+    ]
 
 pub returns : goal.returns
 returns c =
-    let at = c.loop-k in
-    all_listed c.args.before.now c.args.after.now at.list at.count at.k c.requires.0 (omega arith)
-    at.invariant
+    all_listed c.args.before.now c.args.after.now c.loop-k.list c.loop-k.count c.loop-k.k (omega arith) (omega arith)
+    c.loop-k.invariant

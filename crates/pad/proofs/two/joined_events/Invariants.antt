@@ -1,11 +1,7 @@
--- What becomes of the first i stands in the list, and unused events after it. Assumes nothing.
-use Prim.Native.Nat.{◌-◌}
-use lib.ListN.{take}
+-- The events of the first ones stand in the list. Assumes nothing.
+use Rattle.pad.specs.PadGuarantee.{told_events}
 use Rattle.pad.specs.Inner.{Refining}
 use Rattle.pad.proofs.two.joined_events.Given as goal
 
-abbrev pub invariant-loop-i : goal.invariant-loop-i
-invariant-loop-i l = Refining l.leads l.own l.beside (take l.told.count l.told.list) l.list l.count l.i
-
-abbrev pub decreases-loop-i : goal.decreases-loop-i
-decreases-loop-i l = l.told.count - l.i
+abbrev pub invariant-loop-e : goal.invariant-loop-e
+invariant-loop-e l = Refining l.which l.own l.beside (told_events l.fn.told) l.list l.count l.e-index

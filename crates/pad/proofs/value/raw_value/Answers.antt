@@ -1,11 +1,11 @@
 -- By what is reported. Assumes nothing.
+use Rattle.std.specs.Prelude.{Some}
 use borrow.Author.Rules.{rules}
 use mathlib.Core.Path.{ap, ◌∙◌}
 use lib.IntN.{ℤ}
 use mir.Syntax.{w16}
 use mir.ValLaws.{to_z-of_z}
 use Rattle.pad.specs.Values.{raw_value, axis_value, part_of}
-use Rattle.pad.specs.declared.value.ElementValue.TheVariants as Ev
 use Rattle.pad.proofs.value.raw_value.Goals as goal
 
 pub returns-in-ButtonReleased : goal.returns-in-ButtonReleased
@@ -15,7 +15,7 @@ returns-in-ButtonReleased c = simp c.in-ButtonReleased.is
 pub returns-in-ButtonPressed : goal.returns-in-ButtonPressed
 unfolding raw_value
 returns-in-ButtonPressed c =
-    ap (λ (z : ℤ). Ev.Is z)
+    ap (λ (z : ℤ). Some z)
     (to_z-of_z w16 c.pressed_value.result (record { sfits = c.pressed_value.type_inv }) ∙ c.pressed_value.ensures)
     ∙ simp c.in-ButtonPressed.is
 

@@ -1,34 +1,38 @@
 -- The walk writes the lines of a sound store down, `take_lines` files by number, and `settle` writes out.
-use mathlib.Core.Path.{◌∙◌}
 use native.Mathlib.Omega.{arith}
 use Rattle.store.specs.Layout.{Bytes}
 use Rattle.store.proofs.BatchLaws.{both_most, loads_held, batch_settles, batch_end, went_from}
-use Rattle.store.proofs.ChainLaws.{chained_none}
 use Rattle.store.proofs.LoadLaws.{loads_extend}
-use Rattle.store.proofs.SurveyLaws.{walk_of}
+use Rattle.store.proofs.SurveyLaws.{walk_of, survey_some, survey_of}
 use Rattle.store.proofs.UseLaws.{loads_addable, loads_owed}
-use Rattle.store.proofs.WriteLaws.{empty_long}
 use Rattle.store.proofs.batch.insert_batch.Goals as goal
 
-pub survey-seen-requires : goal.survey-seen-requires
-survey-seen-requires c =
+pub survey-requires : goal.survey-requires
+survey-requires c =
     let args = c.args in
     let pre = c.requires in record {
       index_len_bound = both_most args.index.now args.text.now (λ k. omega (arith, c.slice_known-1.given k))
           pre.text_value;
-      chained = chained_none _;
-      long = empty_long;
+      chained = c.new-table.ensures.chained;
+      long = c.new-table.ensures.long;
     }
+
+pub unwrap-seen-requires : goal.unwrap-seen-requires
+unwrap-seen-requires c =
+    let args = c.args in
+    let bytes : Bytes args.index.now = λ k. omega (arith, c.slice_known-1.given k) in
+    survey_some args.index.now args.text.now _ _ _ _ c.survey.ensures
+    (walk_of args.index.now args.text.now bytes c.requires.text_value)
 
 pub dues_of-dues-requires : goal.dues_of-dues-requires
 dues_of-dues-requires c =
     let args = c.args in
     let pre = c.requires in
     let bytes : Bytes args.index.now = λ k. omega (arith, c.slice_known-1.given k) in
-    let survey = c.survey-seen in
-    let whole = survey.ensures.is ∙ walk_of args.index.now args.text.now bytes pre.text_value in record {
+    let seen = c.unwrap-seen in
+    let loads = (survey_of args.index.now args.text.now _ _ _ _ c.survey.ensures _ seen.ensures).loads in record {
       given = pre.given;
-      addable = loads_addable args.index.now args.text.now _ _ _ survey.result.fill (survey.ensures.loads whole)
+      addable = loads_addable args.index.now args.text.now _ _ _ seen.result.fill loads
           pre.text_value;
     }
 
@@ -37,13 +41,13 @@ take_lines-part-requires c =
     let args = c.args in
     let pre = c.requires in
     let bytes : Bytes args.index.now = λ k. omega (arith, c.slice_known-1.given k) in
-    let survey = c.survey-seen in
-    let whole = survey.ensures.is ∙ walk_of args.index.now args.text.now bytes pre.text_value in
+    let seen = c.unwrap-seen in
+    let loads = (survey_of args.index.now args.text.now _ _ _ _ c.survey.ensures _ seen.ensures).loads in
     let dues = c.dues_of-dues in record {
       from_in_bounds = pre.from_in_bounds;
       some_rows = loads_held dues.result args.shares.now args.index.now args.text.now args.lines.now _ _ _
-          survey.result.fill args.owner (survey.ensures.loads whole)
-          (loads_owed args.index.now args.text.now _ _ _ survey.result.fill (survey.ensures.loads whole)
+          seen.result.fill args.owner loads
+          (loads_owed args.index.now args.text.now _ _ _ seen.result.fill loads
           args.shares.now args.owner dues.result dues.ensures bytes) pre.text_value;
     }
 
@@ -52,14 +56,14 @@ settle-requires c =
     let args = c.args in
     let pre = c.requires in
     let bytes : Bytes args.index.now = λ k. omega (arith, c.slice_known-1.given k) in
-    let survey = c.survey-seen in
-    let whole = survey.ensures.is ∙ walk_of args.index.now args.text.now bytes pre.text_value in
+    let seen = c.unwrap-seen in
+    let loads = (survey_of args.index.now args.text.now _ _ _ _ c.survey.ensures _ seen.ensures).loads in
     let dues = c.dues_of-dues in
     let took = c.take_lines-part in record {
-      extends = loads_extend args.index.now args.text.now _ _ _ survey.result.fill (survey.ensures.loads whole);
+      extends = loads_extend args.index.now args.text.now _ _ _ seen.result.fill loads;
       settles = batch_settles dues.result args.shares.now args.index.now args.text.now args.lines.now _ _ _
-          survey.result.fill args.owner (survey.ensures.loads whole)
-          (loads_owed args.index.now args.text.now _ _ _ survey.result.fill (survey.ensures.loads whole)
+          seen.result.fill args.owner loads
+          (loads_owed args.index.now args.text.now _ _ _ seen.result.fill loads
           args.shares.now args.owner dues.result dues.ensures bytes) args.from _ took.result
           took.ensures.takes_lines pre.text_value;
     }
@@ -69,15 +73,15 @@ returns c =
     let args = c.args in
     let pre = c.requires in
     let bytes : Bytes args.index.now = λ k. omega (arith, c.slice_known-1.given k) in
-    let survey = c.survey-seen in
-    let whole = survey.ensures.is ∙ walk_of args.index.now args.text.now bytes pre.text_value in
+    let seen = c.unwrap-seen in
+    let loads = (survey_of args.index.now args.text.now _ _ _ _ c.survey.ensures _ seen.ensures).loads in
     let dues = c.dues_of-dues in
     let took = c.take_lines-part in record {
       batches = batch_end dues.result args.shares.now args.index.now args.text.now args.lines.now _ _ _
-          survey.result.fill args.owner (survey.ensures.loads whole)
-          (loads_owed args.index.now args.text.now _ _ _ survey.result.fill (survey.ensures.loads whole)
+          seen.result.fill args.owner loads
+          (loads_owed args.index.now args.text.now _ _ _ seen.result.fill loads
           args.shares.now args.owner dues.result dues.ensures bytes) args.from _ took.result
           took.ensures.takes_lines _ _ c.settle.ensures;
-      went = went_from args.lines.now args.from survey.result.fill.count took.result survey.ensures.most
+      went = went_from args.lines.now args.from seen.result.fill.count took.result (survey_of args.index.now args.text.now _ _ _ _ c.survey.ensures _ seen.ensures).most
           took.ensures.went;
     }

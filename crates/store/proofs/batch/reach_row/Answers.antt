@@ -7,7 +7,7 @@ pub returns-in_default : goal.returns-in_default
 returns-in_default c =
     let args = c.args in
     let pre = c.requires in
-    slot_not args.dues args.index.now args.text.now args.lines.now _ args.heads.now args.next.now
+    slot_not args.dues args.index.now args.text.now args.lines.now _ args.table.now.heads args.table.now.next
     args.fill args.owner args.at args.len pre.count_lt_rows_max.1
     (wanted_part args.lines.now args.at args.len _ _ c.wanted.ensures
     c.in_default.is)
@@ -17,19 +17,19 @@ returns-then-len-gt-LINE_MAX c =
     let args = c.args in
     let pre = c.requires in
     let wants = wanted_part args.lines.now args.at args.len _ _ c.wanted.ensures
-    c.in-Parsed.is in
-    slot_long args.dues args.index.now args.text.now args.lines.now _ args.heads.now
-    args.next.now
+    c.in-Some.is in
+    slot_long args.dues args.index.now args.text.now args.lines.now _ args.table.now.heads
+    args.table.now.next
     args.fill args.owner args.at args.len pre.count_lt_rows_max.1 _ wants
-    c.if-len-gt-LINE_MAX.true c.stop.result c.stop.ensures
+    c.if-len-gt-LINE_MAX.true
 
-pub file_row-tried-requires : goal.file_row-tried-requires
-file_row-tried-requires c =
+pub file_row-requires : goal.file_row-requires
+file_row-requires c =
     let args = c.args in
     let pre = c.requires in
     let wants = wanted_part args.lines.now args.at args.len _ _
     c.wanted.ensures
-    c.in-Parsed.is in
+    c.in-Some.is in
     let w = pre.some_rows in record {
       count_lt_rows_max = pre.count_lt_rows_max.0;
       fileable = (
@@ -39,8 +39,8 @@ file_row-tried-requires c =
           w.1.0,
           (
             w.1.1.0,
-            slot_files args.dues args.index.now args.text.now args.lines.now _ args.heads.now
-                args.next.now args.fill args.owner args.at args.len pre.count_lt_rows_max.1 _ wants
+            slot_files args.dues args.index.now args.text.now args.lines.now _ args.table.now.heads
+                args.table.now.next args.fill args.owner args.at args.len pre.count_lt_rows_max.1 _ wants
                 c.if-len-gt-LINE_MAX.false w.0 w.1.0 w.1.1.0 w.1.1.1.0
                 w.1.1.1.1,
           ),
@@ -48,44 +48,42 @@ file_row-tried-requires c =
       );
     }
 
-pub returns-in-IndexFull : goal.returns-in-IndexFull
-returns-in-IndexFull c =
+pub returns-in-Err-Index : goal.returns-in-Err-Index
+returns-in-Err-Index c =
     let args = c.args in
     let pre = c.requires in
     let wants = wanted_part args.lines.now args.at args.len _ _
     c.wanted.ensures
-    c.in-Parsed.is in
-    let filed = c.file_row-tried in
-    slot_index args.dues args.index.now args.text.now args.lines.now _ args.heads.now
-    args.next.now
+    c.in-Some.is in
+    let filed = c.file_row in
+    slot_index args.dues args.index.now args.text.now args.lines.now _ args.table.now.heads
+    args.table.now.next
     args.fill args.owner args.at args.len pre.count_lt_rows_max.1 _ wants
     c.if-len-gt-LINE_MAX.false _ _ _ filed.result filed.ensures
-    c.in-IndexFull.is c.stop-in-IndexFull.result
-    c.stop-in-IndexFull.ensures
+    (rw c.in-Err-Index.field-0-is at c.in-Err-Index.is)
 
-pub returns-in-TextFull : goal.returns-in-TextFull
-returns-in-TextFull c =
+pub returns-in-Err-Text : goal.returns-in-Err-Text
+returns-in-Err-Text c =
     let args = c.args in
     let pre = c.requires in
     let wants = wanted_part args.lines.now args.at args.len _ _
     c.wanted.ensures
-    c.in-Parsed.is in
-    let filed = c.file_row-tried in
-    slot_text args.dues args.index.now args.text.now args.lines.now _ args.heads.now
-    args.next.now
+    c.in-Some.is in
+    let filed = c.file_row in
+    slot_text args.dues args.index.now args.text.now args.lines.now _ args.table.now.heads
+    args.table.now.next
     args.fill args.owner args.at args.len pre.count_lt_rows_max.1 _ wants
     c.if-len-gt-LINE_MAX.false _ _ _ filed.result filed.ensures
-    c.in-TextFull.is c.stop-in-TextFull.result
-    c.stop-in-TextFull.ensures
+    (rw c.in-Err-Text.field-0-is at c.in-Err-Text.is)
 
-pub returns-in-Fits : goal.returns-in-Fits
-returns-in-Fits c =
+pub returns-in-Ok : goal.returns-in-Ok
+returns-in-Ok c =
     let args = c.args in
     let pre = c.requires in
     let wants = wanted_part args.lines.now args.at args.len _ _ c.wanted.ensures
-    c.in-Parsed.is in
-    let filed = c.file_row-tried in
-    slot_filed args.dues args.index.now args.text.now args.lines.now _ args.heads.now
-    args.next.now
+    c.in-Some.is in
+    let filed = c.file_row in
+    slot_filed args.dues args.index.now args.text.now args.lines.now _ args.table.now.heads
+    args.table.now.next
     args.fill args.owner args.at args.len pre.count_lt_rows_max.1 _ wants
-    c.if-len-gt-LINE_MAX.false _ _ _ filed.result filed.ensures c.in-Fits.is
+    c.if-len-gt-LINE_MAX.false _ _ _ filed.result filed.ensures _ c.in-Ok.is

@@ -7,8 +7,8 @@ use Rattle.store.proofs.batch.take_lines.Given as goal
 abbrev pub invariant-loop-at : goal.invariant-loop-at
 invariant-loop-at l =
     Taking l.dues l.index l.text l.lines
-    l.initial.rows l.initial.heads l.initial.next l.owner l.from l.initial.fill
-    l.rows l.heads l.next l.fill l.at l.count
+    l.initial.table.rows l.initial.table.heads l.initial.table.next l.owner l.from l.initial.fill
+    l.table.rows l.table.heads l.table.next l.fill l.at l.count
 
 abbrev pub decreases-loop-at : goal.decreases-loop-at
 decreases-loop-at l = length l.lines + 1 - l.at

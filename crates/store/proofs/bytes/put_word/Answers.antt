@@ -1,11 +1,11 @@
--- Two stores side by side.
+-- The bytes stand where they were lent.
+use mathlib.Core.Path.{◌∙◌}
 use native.Mathlib.Omega.{arith}
-use lib.ListN.{length-set}
-use Rattle.store.proofs.BufferLaws.{put_two}
+use Rattle.store.proofs.BufferLaws.{put_between}
+use Rattle.store.proofs.ByteLaws.{two_bytes}
 use Rattle.store.proofs.bytes.put_word.Goals as goal
 
-pub bounds-to-k-2 : goal.bounds-to-k-2
-bounds-to-k-2 c = simp length-set (omega arith)
-
 pub returns : goal.returns
-returns c = put_two c.args.k c.args.to.now _ _ c.requires
+returns c =
+    let args = c.args in
+    put_between args.to.now args.k _ _ _ (omega arith) (c.copy_from_slice.ensures.after ∙ c.to_be_bytes.ensures ∙ two_bytes c.args.x)

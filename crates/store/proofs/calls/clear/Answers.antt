@@ -17,6 +17,5 @@ returns c =
     let args = c.args in
     let if1 = c.if-index-gt-INDEX_MAX in
     let if2 = c.if-text-gt-TEXT_MAX in
-    let zero_all = c.zero_all in
-    let zero-all2 = c.zero_all-2 in
-    clear_done args.index.now args.text.now if1.false if2.false _ _ zero_all.ensures zero-all2.ensures
+    clear_done args.index.now args.text.now if1.false if2.false _ _ (c.fill.ensures.after (λ y e. e))
+    (c.fill-2.ensures.after (λ y e. e))

@@ -15,6 +15,6 @@ returns c =
     let args = c.args in
     let walk = c.walk_insert-walked in
     insert_told args.party _ (sym c.owner_of.ensures
-    ∙ c.in-Byte.is)
+    ∙ c.in-Some.is)
     args.index.now args.text.now args.lines.now _ _ walk.result c.other_spellings-not_simple.result
     walk.ensures c.other_spellings-not_simple.ensures

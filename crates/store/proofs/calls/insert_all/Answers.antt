@@ -3,7 +3,6 @@ use Prim.Native.Nat.{◌<◌}
 use native.Mathlib.Omega.{arith}
 use lib.ListN.{length}
 use borrow.Author.Rules.{rules}
-use borrow.Author.Tests.{not-true, not-false}
 use Rattle.store.proofs.InsertLaws.{insert_first, still_sound, insert_end, insert_stop, insert_turn_lem}
 use Rattle.store.proofs.calls.insert_all.Goals as goal
 
@@ -25,36 +24,35 @@ insert_batch-some-requires c =
       from_in_bounds = loop.invariant.within;
     }
 
-pub shape_of-part-then-not-some : goal.shape_of-part-then-not-some
-shape_of-part-then-not-some c =
+pub shape_of-part-in-Err : goal.shape_of-part-in-Err
+shape_of-part-in-Err c =
     let loop = c.loop-at in
     let some = c.insert_batch-some in
     let e : length some.new.index ≡ length loop.part = search rules in
     e ∙ loop.invariant.index
 
-pub shape_of-text-then-not-some : goal.shape_of-text-then-not-some
-shape_of-text-then-not-some c =
+pub shape_of-text-in-Err : goal.shape_of-text-in-Err
+shape_of-text-in-Err c =
     let loop = c.loop-at in
     let some = c.insert_batch-some in
     let e : length some.new.text ≡ length loop.text = search rules in
     e ∙ loop.invariant.text
 
-pub returns-then-not-some : goal.returns-then-not-some
-returns-then-not-some c =
+pub returns-in-Err : goal.returns-in-Err
+returns-in-Err c =
     let args = c.args in
     let pre = c.requires in
     let loop = c.loop-at in
     let some = c.insert_batch-some in
     insert_stop args.shares.now args.owner args.part.now args.text.now args.lines.now
-    loop.part loop.text loop.at loop.count loop.invariant some.result _ _ some.ensures.batches
-    (not-true _ c.if-not-some.true)
+    loop.part loop.text loop.at loop.count loop.invariant some.result _ _ some.ensures.batches _ c.in-Err.is
 
 pub loop-at-smaller : goal.loop-at-smaller
 loop-at-smaller c =
     let loop = c.loop-at in
     let some = c.insert_batch-some in
     let on : loop.at < some.result.at
-    = some.ensures.went.moved (omega arith) c.loop-at-test.true (not-false _ c.if-not-some.false) in
+    = some.ensures.went.moved (omega arith) c.loop-at-test.true c.in-Ok.is in
     omega (arith, on, some.ensures.went.within, loop.invariant.within)
 
 pub loop-at-preserved : goal.loop-at-preserved
@@ -65,7 +63,7 @@ loop-at-preserved c =
     let some = c.insert_batch-some in
     insert_turn_lem args.shares.now args.owner args.part.now args.text.now args.lines.now
     loop.part loop.text loop.at loop.count loop.invariant some.result _ _ some.ensures.batches
-    (not-false _ c.if-not-some.false) some.ensures.went
+    c.in-Ok.is some.ensures.went
 
 pub shape_of-part : goal.shape_of-part
 shape_of-part c = c.loop-at.invariant.index

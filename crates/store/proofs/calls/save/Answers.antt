@@ -16,22 +16,22 @@ returns-in_default c =
     ∙ save_nobody a.party a.index.now a.text.now (sym c.owner_of.ensures
     ∙ c.in_default.is) args
 
-pub returns-in-Refused : goal.returns-in-Refused
-returns-in-Refused c =
+pub returns-in-Err : goal.returns-in-Err
+returns-in-Err c =
     let a = c.args in
     let args = save_args a.«data» a.buttons.now a.axes.now a.name.now a.uuid in
     let built = c.from_data-built in
-    let own = (sym c.owner_of.ensures ∙ c.in-Byte.is) in
-    ap (λ (x : Saved). record { answer = x; index = a.index.now; text = a.text.now }) c.refused_save-in-Refused.ensures
+    let own = (sym c.owner_of.ensures ∙ c.in-Some.is) in
+    ap (λ (x : Saved). record { answer = x; index = a.index.now; text = a.text.now }) c.refused_save-in-Err.ensures
     ∙ save_refused a.party _ own args _ built.result _ (omega arith) built.ensures _
-    c.in-Refused.is a.index.now a.text.now
+    c.in-Err.is a.index.now a.text.now
 
 pub returns-then-unsaved_name : goal.returns-then-unsaved_name
 returns-then-unsaved_name c =
     let a = c.args in
     let args = save_args a.«data» a.buttons.now a.axes.now a.name.now a.uuid in
     let built = c.from_data-built in
-    let own = (sym c.owner_of.ensures ∙ c.in-Byte.is) in
+    let own = (sym c.owner_of.ensures ∙ c.in-Some.is) in
     ap (λ (x : Saved). record { answer = x; index = a.index.now; text = a.text.now }) c.refused_save-then-unsaved_name.ensures
     ∙ save_unsaved a.party _ own args _ built.result _ (omega arith) built.ensures
     (made a.party _ own args _ built.result _ (omega arith) built.ensures c.in_default-answer.is) a.index.now
@@ -42,7 +42,7 @@ slice_bounds-file_built-end c =
     let a = c.args in
     let args = save_args a.«data» a.buttons.now a.axes.now a.name.now a.uuid in
     let built = c.from_data-built in
-    let own = (sym c.owner_of.ensures ∙ c.in-Byte.is) in
+    let own = (sym c.owner_of.ensures ∙ c.in-Some.is) in
     omega (
       arith,
       (made a.party _ own args _ built.result _ (omega arith) built.ensures
@@ -55,7 +55,7 @@ file_built-filed-requires c =
     let args = save_args a.«data» a.buttons.now a.axes.now a.name.now a.uuid in
     let built = c.from_data-built in
     let own = (sym c.owner_of.ensures
-    ∙ c.in-Byte.is) in
+    ∙ c.in-Some.is) in
     let m = made a.party _ own args _ built.result _ (omega arith) built.ensures c.in_default-answer.is in
     (omega (arith, m.some, m.within), omega (arith, m.most, m.within))
 
@@ -64,7 +64,7 @@ returns c =
     let a = c.args in
     let args = save_args a.«data» a.buttons.now a.axes.now a.name.now a.uuid in
     let built = c.from_data-built in
-    let own = (sym c.owner_of.ensures ∙ c.in-Byte.is) in
+    let own = (sym c.owner_of.ensures ∙ c.in-Some.is) in
     let named = c.unsaved_name in
     let if1 = c.if-unsaved_name in
     let filed = c.file_built-filed in

@@ -35,8 +35,8 @@ loop-c-smaller c =
     let same_at = c.same_at in
     let if2 = c.if-same_at in
     (seek_turn (key_in args.rows.now) args.next.now args.k args.from loop.c
-    c.number-c.result pre.linked loop.invariant.0 (omega arith) (sym same_at.ensures ∙ if2.false)
-    c.number-c.ensures.0).1
+    c.from-c.result pre.linked loop.invariant.0 (omega arith) (sym same_at.ensures ∙ if2.false)
+    c.from-c.ensures).1
 
 pub loop-c-preserved : goal.loop-c-preserved
 loop-c-preserved c =
@@ -46,8 +46,8 @@ loop-c-preserved c =
     let same_at = c.same_at in
     let if2 = c.if-same_at in
     let on = seek_turn (key_in args.rows.now) args.next.now args.k args.from loop.c
-    c.number-c.result pre.linked loop.invariant.0 (omega arith) (sym same_at.ensures ∙ if2.false)
-    c.number-c.ensures.0 in
+    c.from-c.result pre.linked loop.invariant.0 (omega arith) (sym same_at.ensures ∙ if2.false)
+    c.from-c.ensures in
     (on.0, λ l. let left : loop.c ≤ loop.left = loop.invariant.1 l in omega (arith, on.1))
 
 pub returns : goal.returns

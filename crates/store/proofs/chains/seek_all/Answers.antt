@@ -12,12 +12,12 @@ seek-r-requires c =
     let args = c.args in
     let pre = c.requires in
     let loop = c.loop-k in
-    let number = c.number in
-    let last = chain_from (key_in args.rows.now) args.next.now args.n loop.k number.result pre.linked (omega arith)
-    number.ensures.0 in
+    let number = c.from in
+    let last = chain_from (key_in args.keys.rows.now) args.keys.next.now args.keys.count loop.k number.result args.keys.linked (omega arith)
+    number.ensures in
     record {
       k_lt_rows_max = (omega arith, last.within);
-      linked = λ a l. pre.linked a (omega arith);
+      linked = λ a l. args.keys.linked a (omega arith);
       kin = last.kin;
     }
 
@@ -26,30 +26,30 @@ returns-then-r-gt0 c =
     let args = c.args in
     let pre = c.requires in
     let loop = c.loop-k in
-    let number = c.number in
-    let last = chain_from (key_in args.rows.now) args.next.now args.n loop.k number.result pre.linked (omega arith)
-    number.ensures.0 in
+    let number = c.from in
+    let last = chain_from (key_in args.keys.rows.now) args.keys.next.now args.keys.count loop.k number.result args.keys.linked (omega arith)
+    number.ensures in
     let seek = c.seek-r in
     let most = seek.ensures.upper_bound (omega (arith, last.within)) in
-    tells_twice (key_in args.rows.now) args.n (found_twice (key_in args.rows.now) args.n loop.k seek.result (omega arith)
-    (chain_sought (key_in args.rows.now) loop.k number.result last seek.result seek.ensures.seeks) most (omega arith))
+    tells_twice (key_in args.keys.rows.now) args.keys.count (found_twice (key_in args.keys.rows.now) args.keys.count loop.k seek.result (omega arith)
+    (chain_sought (key_in args.keys.rows.now) loop.k number.result last seek.result seek.ensures.seeks) most (omega arith))
 
 pub loop-k-preserved : goal.loop-k-preserved
 loop-k-preserved c =
     let args = c.args in
     let pre = c.requires in
     let loop = c.loop-k in
-    let number = c.number in
-    let last = chain_from (key_in args.rows.now) args.next.now args.n loop.k number.result pre.linked (omega arith)
-    number.ensures.0 in
+    let number = c.from in
+    let last = chain_from (key_in args.keys.rows.now) args.keys.next.now args.keys.count loop.k number.result args.keys.linked (omega arith)
+    number.ensures in
     let seek = c.seek-r in (
       omega arith,
-      apart_turn (key_in args.rows.now) loop.k seek.result loop.invariant.1
-          (chain_sought (key_in args.rows.now) loop.k number.result last seek.result seek.ensures.seeks) (omega arith),
+      apart_turn (key_in args.keys.rows.now) loop.k seek.result loop.invariant.1
+          (chain_sought (key_in args.keys.rows.now) loop.k number.result last seek.result seek.ensures.seeks) (omega arith),
     )
 
 pub returns : goal.returns
 returns c =
     let args = c.args in
     let loop = c.loop-k in
-    tells_apart (key_in args.rows.now) args.n (λ a b l m e. loop.invariant.1 a b l (omega arith) e)
+    tells_apart (key_in args.keys.rows.now) args.keys.count (λ a b l m e. loop.invariant.1 a b l (omega arith) e)

@@ -5,7 +5,7 @@ use Rattle.store.specs.Rows.{key_in}
 use Rattle.store.proofs.chains.seek_all.Given as goal
 
 abbrev pub invariant-loop-k : goal.invariant-loop-k
-invariant-loop-k l = (l.k ≤ l.n) × AllApart (key_in l.rows) l.k
+invariant-loop-k l = (l.k ≤ l.keys.count) × AllApart (key_in l.keys.rows.now) l.k
 
 abbrev pub decreases-loop-k : goal.decreases-loop-k
-decreases-loop-k l = l.n - l.k
+decreases-loop-k l = l.keys.count - l.k

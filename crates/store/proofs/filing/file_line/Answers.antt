@@ -1,11 +1,11 @@
 -- One line, filed by number as an insert does it.
 use native.Mathlib.Omega.{arith}
 use Rattle.store.proofs.LoadLaws.{loads_extend}
-use Rattle.store.proofs.OneLaws.{one_files, one_index, one_text, one_settles, one_filed}
+use Rattle.store.proofs.OneLaws.{one_files, one_full, one_settles, one_filed}
 use Rattle.store.proofs.filing.file_line.Goals as goal
 
-pub file_row-tried-requires : goal.file_row-tried-requires
-file_row-tried-requires c =
+pub file_row-requires : goal.file_row-requires
+file_row-requires c =
     let args = c.args in
     let pre = c.requires in record {
       count_lt_rows_max = pre.loads.1;
@@ -17,41 +17,31 @@ pub settle-requires : goal.settle-requires
 settle-requires c =
     let args = c.args in
     let pre = c.requires in
-    let filed = c.file_row-tried in record {
+    let filed = c.file_row in record {
       extends = loads_extend args.index.now args.text.now _ _ _ args.fill pre.loads.0;
       settles = one_settles args.dues args.index.now args.text.now args.line.now _ _ _ args.fill
           pre.loads.0 args.key pre.in_bounds.0 pre.in_bounds.1 _ _ _ filed.result filed.ensures
-          c.in-Fits.is
+          _ c.in-Ok.is
           pre.text_value pre.some_dues;
     }
 
-pub returns-in-Fits : goal.returns-in-Fits
-returns-in-Fits c =
+pub returns-in-Ok : goal.returns-in-Ok
+returns-in-Ok c =
     let args = c.args in
     let pre = c.requires in
-    let filed = c.file_row-tried in
+    let filed = c.file_row in
     let settled = c.settle in
     one_filed args.dues args.index.now args.text.now args.line.now _ _ _ args.fill
     pre.loads.0 args.key pre.in_bounds.0 pre.in_bounds.1 _ _ _ filed.result filed.ensures
-    c.in-Fits.is _ _
+    _ c.in-Ok.is _ _
     settled.ensures
 
-pub returns-in-IndexFull : goal.returns-in-IndexFull
-returns-in-IndexFull c =
+pub returns-in-Err : goal.returns-in-Err
+returns-in-Err c =
     let args = c.args in
     let pre = c.requires in
-    let filed = c.file_row-tried in
-    one_index args.dues args.index.now args.text.now args.line.now _ _ _ args.fill
-    pre.loads.0 args.key pre.in_bounds.0 pre.in_bounds.1 _ _ _ filed.result filed.ensures
-    c.in-IndexFull.is
-    (λ k. omega (arith, c.slice_known-1.given k))
-
-pub returns-in-TextFull : goal.returns-in-TextFull
-returns-in-TextFull c =
-    let args = c.args in
-    let pre = c.requires in
-    let filed = c.file_row-tried in
-    one_text args.dues args.index.now args.text.now args.line.now _ _ _ args.fill
-    pre.loads.0 args.key pre.in_bounds.0 pre.in_bounds.1 _ _ _ filed.result filed.ensures
-    c.in-TextFull.is
+    let filed = c.file_row in
+    one_full args.dues args.index.now args.text.now args.line.now _ _ _ args.fill
+    pre.loads.0 args.key pre.in_bounds.0 pre.in_bounds.1 _ _ _ filed.result filed.ensures _
+    c.in-Err.is
     (λ k. omega (arith, c.slice_known-1.given k))

@@ -1,67 +1,22 @@
--- The key's chain tells the line that is held: `sees_line`.
-use mathlib.Core.Path.{refl, sym, ◌∙◌}
-use mathlib.Core.List.{[]}
-use lib.ListN.{drop}
-use borrow.Author.Tests.{not-true, not-false}
-use Rattle.store.proofs.WriteLaws.{empty_long}
-use Rattle.store.proofs.ChainLaws.{chained_none}
-use Rattle.store.proofs.LookLaws.{look_ready, sees_unsound, sees_none, sees_line}
-use Rattle.store.proofs.SurveyLaws.{sound_holds}
+-- 24 where the party is nobody; else as `look_by` says.
+use mathlib.Core.Path.{refl, sym, subst, ◌∙◌}
+use Rattle.std.specs.Prelude.{Err}
+use Rattle.store.specs.declared.calls.LookError.TheVariants as L
+use Rattle.store.specs.Store.{Looked}
+use Rattle.store.specs.Sights.{Sees}
+use Rattle.store.proofs.PartyLaws.{look_nobody, look_owner}
 use Rattle.store.proofs.look.look.Goals as goal
 
-pub take_stock-stock-requires : goal.take_stock-stock-requires
-take_stock-stock-requires c =
-    record {
-      shares_value = refl;
-      chained = chained_none _;
-      long = empty_long;
-    }
-
-pub returns-then-not-stock : goal.returns-then-not-stock
-returns-then-not-stock c =
+pub returns-in-Some : goal.returns-in-Some
+returns-in-Some c =
     let args = c.args in
-    sees_unsound args.key args.index.now args.text.now
-    (sym c.take_stock-stock.ensures.is ∙ not-true _ c.if-not-stock.true)
+    subst (λ (x : Looked). Sees args.text.now x c.look_by.result)
+    (look_owner args.party args.index.now args.text.now _ (sym c.owner_of.ensures ∙ c.in-Some.is) args.uuid)
+    c.look_by.ensures
 
-pub part_of-part-requires : goal.part_of-part-requires
-part_of-part-requires c =
+pub returns-in-None : goal.returns-in-None
+returns-in-None c =
     let args = c.args in
-    let stock = c.take_stock-stock in
-    let if1 = c.if-not-stock in
-    let e = not-false _ if1.false in
-    let l = stock.ensures.loads e in
-    let i = args.index.now in
-    let p = stock.result.front in
-    let h = sound_holds i args.text.now _ p (stock.ensures.front e) (sym stock.ensures.is ∙ e) in
-    record {
-      count_lt_rows_max = l.1;
-      ready = look_ready (drop p i) args.text.now h.all.held h.lines _ _ _ stock.result.fill l.0;
-    }
-
-pub returns-then-part-eq0 : goal.returns-then-part-eq0
-returns-then-part-eq0 c =
-    let args = c.args in
-    let stock = c.take_stock-stock in
-    let if1 = c.if-not-stock in
-    let part = c.part_of-part in
-    let e = not-false _ if1.false in
-    let i = args.index.now in
-    let p = stock.result.front in
-    let h = sound_holds i args.text.now _ p (stock.ensures.front e) (sym stock.ensures.is ∙ e) in
-    sees_none args.key i args.text.now h.all h.is part.result
-    (part.ensures.spots (drop p i) args.text.now _ h.all.held (λ j m. refl)
-    ((stock.ensures.loads e).0 args.text.now [] h.all.held h.lines)) c.if-part-eq0.true
-
-pub returns : goal.returns
-returns c =
-    let args = c.args in
-    let stock = c.take_stock-stock in
-    let if1 = c.if-not-stock in
-    let part = c.part_of-part in
-    let e = not-false _ if1.false in
-    let i = args.index.now in
-    let p = stock.result.front in
-    let h = sound_holds i args.text.now _ p (stock.ensures.front e) (sym stock.ensures.is ∙ e) in
-    sees_line args.key i args.text.now h.all h.is part.result
-    (part.ensures.spots (drop p i) args.text.now _ h.all.held (λ j m. refl)
-    ((stock.ensures.loads e).0 args.text.now [] h.all.held h.lines)) c.if-part-eq0.false
+    subst (λ (x : Looked). Sees args.text.now x (Err L.NoOwner))
+    (look_nobody args.party args.index.now args.text.now (sym c.owner_of.ensures ∙ c.in-None.is) args.uuid)
+    (record { how = refl; within = tt; line = refl })

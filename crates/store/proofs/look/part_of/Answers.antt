@@ -1,5 +1,5 @@
 -- The key is the last of the numbers, and its chain tells the one before: `spot_line`.
-use mathlib.Core.Path.{◌∙◌}
+use mathlib.Core.Path.{refl, ◌∙◌}
 use native.Mathlib.Omega.{arith}
 use Rattle.store.proofs.LookLaws.{some-before, spot_none, spot_line, put_agree, put_ready, put_new}
 use Rattle.store.proofs.look.part_of.Goals as goal
@@ -10,7 +10,7 @@ seek_before-r-requires c =
     let pre = c.requires in
     let pre = pre in record {
       k_lt_rows_max = pre.count_lt_rows_max;
-      chained = (put_ready args.rows.now args.heads.now args.next.now args.fill.count args.key pre.count_lt_rows_max pre.ready
+      chained = (put_ready args.table.now.rows args.table.now.heads args.table.now.next args.fill.count args.key pre.count_lt_rows_max pre.ready
           _ c.put_row.ensures.rows_after c.put_row.ensures.owner_bound).chained;
     }
 
@@ -21,15 +21,16 @@ returns-then-len-eq0 c =
     let put = c.put_row in
     let seek = c.seek_before-r in
     let before = c.len_before-len in
-    let agree = put_agree args.rows.now args.heads.now args.next.now args.fill.count args.key pre.count_lt_rows_max
+    let agree = put_agree args.table.now.rows args.table.now.heads args.table.now.next args.fill.count args.key pre.count_lt_rows_max
     pre.ready _ put.ensures.rows_after put.ensures.owner_bound in record {
-      ready_2 = put_ready args.rows.now args.heads.now args.next.now args.fill.count args.key pre.count_lt_rows_max pre.ready
+      ready_2 = put_ready args.table.now.rows args.table.now.heads args.table.now.next args.fill.count args.key pre.count_lt_rows_max pre.ready
           _ put.ensures.rows_after put.ensures.owner_bound;
+      chains_kept = (refl, refl);
       agree = agree;
       spots = λ i t b hs ag x.
-          spot_none args.key i t b _ args.heads.now args.next.now args.fill hs x
+          spot_none args.key i t b _ args.table.now.heads args.table.now.next args.fill hs x
           (λ j l. ag j l ∙ agree j l)
-          (put_new args.rows.now args.heads.now args.next.now args.fill.count args.key pre.count_lt_rows_max
+          (put_new args.table.now.rows args.table.now.heads args.table.now.next args.fill.count args.key pre.count_lt_rows_max
           pre.ready _ put.ensures.rows_after put.ensures.owner_bound)
           seek.result seek.ensures.sought seek.ensures.upper_bound before.result before.ensures c.if-len-eq0.true;
     }
@@ -60,15 +61,16 @@ returns c =
     let put = c.put_row in
     let seek = c.seek_before-r in
     let before = c.len_before-len in
-    let agree = put_agree args.rows.now args.heads.now args.next.now args.fill.count args.key pre.count_lt_rows_max
+    let agree = put_agree args.table.now.rows args.table.now.heads args.table.now.next args.fill.count args.key pre.count_lt_rows_max
     pre.ready _ put.ensures.rows_after put.ensures.owner_bound in record {
-      ready_2 = put_ready args.rows.now args.heads.now args.next.now args.fill.count args.key pre.count_lt_rows_max pre.ready
+      ready_2 = put_ready args.table.now.rows args.table.now.heads args.table.now.next args.fill.count args.key pre.count_lt_rows_max pre.ready
           _ put.ensures.rows_after put.ensures.owner_bound;
+      chains_kept = (refl, refl);
       agree = agree;
       spots = λ i t b hs ag x.
-          spot_line args.key i t b _ args.heads.now args.next.now args.fill hs x
+          spot_line args.key i t b _ args.table.now.heads args.table.now.next args.fill hs x
           (λ j l. ag j l ∙ agree j l)
-          (put_new args.rows.now args.heads.now args.next.now args.fill.count args.key pre.count_lt_rows_max
+          (put_new args.table.now.rows args.table.now.heads args.table.now.next args.fill.count args.key pre.count_lt_rows_max
           pre.ready _ put.ensures.rows_after put.ensures.owner_bound)
           seek.result seek.ensures.sought seek.ensures.upper_bound before.result before.ensures c.if-len-eq0.false
           c.start_at-start.result c.start_at-start.ensures;

@@ -1,6 +1,10 @@
 -- Each try finds its line or none: `sees_exact`, `sees_near`, `sees_neither`.
-use mathlib.Core.Path.{refl, subst}
-use native.Mathlib.Omega.{arith}
+use mathlib.Core.List.{List, []}
+use mathlib.Core.Path.{◌≡◌, refl, sym, subst}
+use Prim.Native.Nat.{ℕ}
+use Rattle.store.specs.declared.table.Fill.{Fill}
+use Rattle.store.specs.Held.{Held}
+use Rattle.store.specs.Table.{InRows}
 use Rattle.text.specs.declared.uuid.Uuid.{Uuid}
 use Rattle.store.specs.Held.{key_by, find}
 use Rattle.store.specs.Near.{plain_key}
@@ -8,47 +12,53 @@ use Rattle.store.specs.Sights.{Spot}
 use Rattle.store.proofs.NearLaws.{sees_exact, sees_near, sees_neither}
 use Rattle.store.proofs.near.try_both.Goals as goal
 
-pub returns-then-whole-gt0 : goal.returns-then-whole-gt0
-returns-then-whole-gt0 c =
+pub returns-in-Some : goal.returns-in-Some
+returns-in-Some c =
     let args = c.args in
-    let whole = c.part_of-whole in
+    let whole = c.part_of in
     λ i t hs x.
     sees_exact t (find args.key hs) (find (plain_key args.key) hs) whole.result
-    (whole.ensures.spots i t _ hs (λ j m. refl) x) c.if-whole-gt0.true
+    (whole.ensures.spots i t _ hs (λ j m. refl) x) _ c.in-Some.is
 
-pub part_of-second-requires : goal.part_of-second-requires
-part_of-second-requires c =
+pub part_of-requires-2 : goal.part_of-requires-2
+part_of-requires-2 c =
     let pre = c.requires in
-    let part_of = c.part_of-whole in
     record {
       count_lt_rows_max = pre.count_lt_rows_max;
-      ready = part_of.ensures.ready_2;
+      ready = c.part_of.ensures.ready_2;
     }
 
-pub returns-then-second-gt0 : goal.returns-then-second-gt0
-returns-then-second-gt0 c =
+-- the chains are those from before
+still : (i t a heads next heads' next' : List ℕ) (f : Fill) (hs : List Held) → heads' ≡ heads → next' ≡ next
+    → InRows i t [] a heads next f.count f hs → InRows i t [] a heads' next' f.count f hs
+still i t a heads next heads' next' f hs p q x =
+    subst (λ (v : List ℕ). InRows i t [] a v next' f.count f hs) (sym p)
+    (subst (λ (v : List ℕ). InRows i t [] a heads v f.count f hs) (sym q) x)
+
+pub returns-in-Some-part_of : goal.returns-in-Some-part_of
+returns-in-Some-part_of c =
     let args = c.args in
     let plain = c.without_checksum in
-    let whole = c.part_of-whole in
-    let if1 = c.if-whole-gt0 in
-    let second = c.part_of-second in
+    let whole = c.part_of in
+    let second = c.part_of-2 in
     λ i t hs x.
     sees_near t (find args.key hs) (find (plain_key args.key) hs) whole.result
     (whole.ensures.spots i t _ hs (λ j m. refl) x) second.result
     (subst (λ (u : Uuid). Spot t (find (key_by args.key.owner u) hs) second.result) plain.ensures
-    (second.ensures.spots i t _ hs whole.ensures.agree x))
-    (omega (arith, if1.false)) c.if-second-gt0.true
+    (second.ensures.spots i t _ hs whole.ensures.agree (still i t _ _ _ _ _ args.fill hs whole.ensures.chains_kept.0
+    whole.ensures.chains_kept.1 x)))
+    c.in_default.is _ c.in-Some-part_of.is
 
 pub returns : goal.returns
 returns c =
     let args = c.args in
     let plain = c.without_checksum in
-    let whole = c.part_of-whole in
-    let if1 = c.if-whole-gt0 in
-    let second = c.part_of-second in
+    let whole = c.part_of in
+    let second = c.part_of-2 in
     λ i t hs x.
     sees_neither t (find args.key hs) (find (plain_key args.key) hs) whole.result
     (whole.ensures.spots i t _ hs (λ j m. refl) x) second.result
     (subst (λ (u : Uuid). Spot t (find (key_by args.key.owner u) hs) second.result) plain.ensures
-    (second.ensures.spots i t _ hs whole.ensures.agree x))
-    (omega (arith, if1.false)) (omega (arith, c.if-second-gt0.false))
+    (second.ensures.spots i t _ hs whole.ensures.agree (still i t _ _ _ _ _ args.fill hs whole.ensures.chains_kept.0
+    whole.ensures.chains_kept.1 x)))
+    c.in_default.is c.in_default-part_of.is

@@ -1,12 +1,9 @@
--- A turn passes sixteen bytes that are none of the one that is sought.
+-- A turn passes a block of bytes that are none of the one that is sought.
 use mathlib.Core.Path.{◌≡◌}
-use Prim.Native.Nat.{◌+◌, ◌-◌, ◌≤◌}
-use lib.ListN.{length, drop}
+use Prim.Native.Nat.{◌+◌, ◌*◌}
+use lib.ListN.{drop}
 use Rattle.text.specs.Bytes.{first_of}
 use Rattle.store.proofs.search.far_front.Given as goal
 
-abbrev pub invariant-loop-i : goal.invariant-loop-i
-invariant-loop-i l = (l.i ≤ length l.s) × (l.i + first_of l.byte (drop l.i l.s) ≡ first_of l.byte l.s)
-
-abbrev pub decreases-loop-i : goal.decreases-loop-i
-decreases-loop-i l = length l.s - l.i
+abbrev pub invariant-loop-k : goal.invariant-loop-k
+invariant-loop-k l = 16 * l.k + first_of l.byte (drop (16 * l.k) l.s) ≡ first_of l.byte l.s

@@ -1,6 +1,7 @@
+use mathlib.Core.Path.{◌∙◌}
 use native.Mathlib.Omega.{arith}
 use borrow.Author.Rules.{rules}
-use Rattle.store.proofs.SeekLaws.{rare_none, rare_within, rare_last, rare_here, rare_on}
+use Rattle.store.proofs.SeekLaws.{rare_none, rare_within, rare_last, rare_here, rare_on, begins_is}
 use Rattle.store.proofs.search.find_text.Goals as goal
 
 pub loop-i-init : goal.loop-i-init
@@ -36,14 +37,14 @@ returns-then-s-at c =
     rare_last a.p.now a.s.now a.d (search rules) loop.i far.result loop.invariant.1
     (search rules) far.ensures c.if-s-at.true
 
-pub returns-then-begins_with : goal.returns-then-begins_with
-returns-then-begins_with c =
+pub returns-then-starts_with : goal.returns-then-starts_with
+returns-then-starts_with c =
     let a = c.args in
     let loop = c.loop-i in
     let far = c.find_far in
     rare_here a.p.now a.s.now a.d (search rules) loop.i far.result loop.invariant.1
     (search rules) far.ensures c.if-s-at.false
-    c.begins_with.result c.begins_with.ensures c.if-begins_with.true
+    _ (c.starts_with.ensures.value ∙ begins_is a.p.now _) c.if-starts_with.true
 
 pub loop-i-preserved : goal.loop-i-preserved
 loop-i-preserved c =
@@ -53,7 +54,7 @@ loop-i-preserved c =
       search rules,
       rare_on a.p.now a.s.now a.d (search rules) loop.i far.result loop.invariant.1
           (search rules) far.ensures c.if-s-at.false
-          c.begins_with.result c.begins_with.ensures c.if-begins_with.false,
+          _ (c.starts_with.ensures.value ∙ begins_is a.p.now _) c.if-starts_with.false,
     )
 
 pub returns : goal.returns

@@ -1,4 +1,7 @@
+use mathlib.Core.Path.{◌≡◌, subst}
+use Prim.Native.Nat.{ℕ}
 use native.Mathlib.Omega.{arith}
+use Rattle.store.specs.Table.{Keeps}
 use Rattle.store.proofs.ClosingLaws.{keep-first, kept_most, keep_end}
 use Rattle.store.proofs.ReadLaws.{read_keeps, read_kept}
 use Rattle.store.proofs.settle.kept_rows.Goals as goal
@@ -47,4 +50,9 @@ loop-k-preserved c =
     len-at.ensures c.if-len-eq0.false _ c.record_size-at.ensures
 
 pub returns : goal.returns
-returns c = keep_end _ _ _ _ _ c.loop-k.invariant
+returns c =
+    let args = c.args in
+    let loop = c.loop-k in
+    let e : loop.k ≡ args.old = omega arith in
+    subst (λ (n : ℕ). Keeps args.rows.now args.old (record { rows = n; at = loop.at; off = loop.off })) e
+    (keep_end _ _ _ _ _ loop.invariant)

@@ -1,27 +1,13 @@
-use mathlib.Core.Path.{refl}
-use native.Mathlib.Omega.{arith}
-use Rattle.store.proofs.BoolLaws.{true-false}
-use Rattle.store.proofs.ShareBufferLaws.{none-turn, none_all}
+-- No share is other than 0: then each is 0.
+use mathlib.Core.Path.{◌≡◌}
+use borrow.Author.Rules.{rules}
+use borrow.Author.Tests.{tests}
+use Rattle.std.proofs.lemmas.Iterator.{YieldsList-from_slice, cases_from_any}
+use Rattle.store.proofs.ShareBufferLaws.{no_share}
 use Rattle.store.proofs.shares.any_share.Goals as goal
-
-pub loop-owner-init : goal.loop-owner-init
-loop-owner-init c = (omega arith, refl)
-
-pub returns-then-shares-owner-ne0 : goal.returns-then-shares-owner-ne0
-returns-then-shares-owner-ne0 c = λ e. absurd (true-false e)
-
-pub loop-owner-preserved : goal.loop-owner-preserved
-loop-owner-preserved c =
-    let args = c.args in
-    let loop = c.loop-owner in
-    let test = c.loop-owner-test in (
-      omega (arith, test.true),
-      none-turn args.shares.now loop.owner (omega (arith, test.true, c.requires))
-          loop.invariant.1 c.if-shares-owner-ne0.false,
-    )
 
 pub returns : goal.returns
 returns c =
-    let loop = c.loop-owner in
-    λ e. none_all c.args.shares.now loop.owner c.requires
-    (omega (arith, loop.invariant.0, c.loop-owner-test.false)) loop.invariant.1
+    no_share c.args.shares.now c.any.result c.requires
+    (cases_from_any _ _ _ (λ x. x ≡ 0 → ⊥) (λ x. x ≡ 0) c.any.ensures.ran
+    (YieldsList-from_slice c.args.shares.now cc) (λ x q k. search (rules, tests)) (λ x q k. search (rules, tests)))

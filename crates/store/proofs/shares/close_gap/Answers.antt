@@ -5,5 +5,5 @@ use Rattle.store.proofs.shares.close_gap.Goals as goal
 
 pub returns : goal.returns
 returns c =
-    gap_closed c.args.part.now c.move_down.new.part c.zero_all.new.s
-    c.requires c.move_down.ensures _ refl c.zero_all.ensures
+    gap_closed c.args.part.now c.move_down.new.part c.fill.new.self
+    c.requires c.move_down.ensures _ refl (c.fill.ensures.after (λ y e. e))

@@ -28,7 +28,7 @@ pub slice_bounds-front_share-end : goal.slice_bounds-front_share-end
 slice_bounds-front_share-end c = omega (arith, c.loop-owner.invariant.within)
 
 pub front_share-share-requires : goal.front_share-share-requires
-front_share-share-requires c = sym c.kind_four.ensures ∙ c.if-kind_four.true
+front_share-share-requires c = sym c.kind_four.ensures ∙ c.if-not-kind_four.false
 
 pub overflow_add-at : goal.overflow_add-at
 overflow_add-at c =
@@ -36,13 +36,13 @@ overflow_add-at c =
     let loop = c.loop-owner in
     let test = c.loop-owner-test in
     let four = c.kind_four in
-    let if1 = c.if-kind_four in
+    let if1 = c.if-not-kind_four in
     let share = c.front_share-share in
     let part = tail_part loop.at args.index.now in
     omega (
       arith,
       reading_within args.index.now loop.shares loop.at loop.owner loop.invariant test.true
-          (ap starts_share (sym part) ∙ sym four.ensures ∙ if1.true) share.result c.share_size-at.result
+          (ap starts_share (sym part) ∙ sym four.ensures ∙ if1.false) share.result c.share_size-at.result
           (share.ensures.0 ∙ ap (front_share loop.owner) part) c.share_size-at.ensures,
     )
 
@@ -52,23 +52,23 @@ loop-owner-preserved c =
     let loop = c.loop-owner in
     let test = c.loop-owner-test in
     let four = c.kind_four in
-    let if1 = c.if-kind_four in
+    let if1 = c.if-not-kind_four in
     let share = c.front_share-share in
     let part = tail_part loop.at args.index.now in
     reading_turn args.index.now loop.shares loop.at loop.owner loop.invariant test.true
-    (ap starts_share (sym part) ∙ sym four.ensures ∙ if1.true) share.result c.share_size-at.result
+    (ap starts_share (sym part) ∙ sym four.ensures ∙ if1.false) share.result c.share_size-at.result
     (share.ensures.0 ∙ ap (front_share loop.owner) part) c.share_size-at.ensures
 
-pub returns-else-kind_four : goal.returns-else-kind_four
-returns-else-kind_four c =
+pub returns-then-not-kind_four : goal.returns-then-not-kind_four
+returns-then-not-kind_four c =
     let args = c.args in
     let loop = c.loop-owner in
     reading_stop args.index.now loop.shares loop.at loop.owner loop.invariant
     (ap starts_share (sym (tail_part loop.at args.index.now)) ∙ sym c.kind_four.ensures
-    ∙ c.if-kind_four.false)
+    ∙ c.if-not-kind_four.true)
 
-pub returns-after-loop-owner : goal.returns-after-loop-owner
-returns-after-loop-owner c =
+pub returns : goal.returns
+returns c =
     let args = c.args in
     let loop = c.loop-owner in
     reading_all args.index.now loop.shares loop.at loop.owner loop.invariant c.loop-owner-test.false

@@ -1,38 +1,44 @@
 use mathlib.Core.Path.{◌≡◌, refl, ap, ap₂, ◌∙◌}
-use Prim.Native.Nat.{ℕ, ◌+◌}
+use Prim.Native.Nat.{ℕ, ◌+◌, ◌<◌}
 use native.Mathlib.Omega.{arith}
-use lib.ListN.{take, get_or}
-use Rattle.store.specs.Shares.{share_sizes}
+use lib.ListN.{length, take, get_or}
+use lib.Seq.{get_or-take, length-take-le}
+use Rattle.store.specs.Shares.{share_size, share_sizes}
 use Rattle.store.proofs.ShareBufferLaws.{size_most, place-turn, place_most}
 use Rattle.store.proofs.shares.share_place.Goals as goal
 
-pub loop-o-init : goal.loop-o-init
-loop-o-init c = (omega arith, unfold share_sizes in refl)
+pub loop-share-init : goal.loop-share-init
+loop-share-init c = unfold share_sizes in refl
 
 pub overflow_add-at : goal.overflow_add-at
 overflow_add-at c =
-    let loop = c.loop-o in
+    let s = c.args.shares.now in
+    let loop = c.loop-share in
+    let k = loop.share-index in
+    let n : length (take c.args.owner s) ≡ c.args.owner = length-take-le c.args.owner s (omega arith) in
     omega (
       arith,
-      loop.invariant.0,
-      loop.invariant.1,
-      place_most c.args.shares.now loop.o,
+      loop.invariant,
+      place_most s k,
       c.share_size-at.ensures,
-      size_most (get_or c.args.shares.now loop.o 0),
-      c.requires,
+      size_most (get_or (take c.args.owner s) k 0),
     )
 
-pub loop-o-preserved : goal.loop-o-preserved
-loop-o-preserved c =
-    let args = c.args in
-    let loop = c.loop-o in (
-      omega (arith, c.loop-o-test.true),
-      ap₂ (λ (x y : ℕ). x + y) loop.invariant.1 c.share_size-at.ensures ∙ place-turn args.shares.now loop.o,
-    )
+pub loop-share-preserved : goal.loop-share-preserved
+loop-share-preserved c =
+    let s = c.args.shares.now in
+    let loop = c.loop-share in
+    let k = loop.share-index in
+    let n : length (take c.args.owner s) ≡ c.args.owner = length-take-le c.args.owner s (omega arith) in
+    let l : k < c.args.owner = omega arith in
+    ap₂ (λ (x y : ℕ). x + y) loop.invariant
+    (c.share_size-at.ensures ∙ ap share_size (get_or-take c.args.owner s k 0 l))
+    ∙ place-turn s k
 
 pub returns : goal.returns
 returns c =
-    let args = c.args in
-    let loop = c.loop-o in
-    let e : loop.o ≡ args.owner = omega (arith, loop.invariant.0, c.loop-o-test.false) in
-    loop.invariant.1 ∙ ap (λ (n : ℕ). share_sizes (take n args.shares.now)) e
+    let s = c.args.shares.now in
+    let loop = c.loop-share in
+    let n : length (take c.args.owner s) ≡ c.args.owner = length-take-le c.args.owner s (omega arith) in
+    let e : loop.share-index ≡ c.args.owner = omega arith in
+    loop.invariant ∙ ap (λ (m : ℕ). share_sizes (take m s)) e

@@ -1,37 +1,33 @@
 -- The store is taken stock of; whether there is room decides, and the record is written: `set-done`.
-use mathlib.Core.Path.{refl, sym, ◌∙◌}
+use mathlib.Core.Path.{refl}
 use native.Mathlib.Omega.{arith}
-use borrow.Author.Tests.{not-true, not-false}
-use Rattle.store.proofs.ChainLaws.{chained_none}
 use Rattle.store.proofs.ShareBufferLaws.{size_most}
 use Rattle.store.proofs.ShareCallLaws.{stocked, share_unsound, set_weighs, end_less, set_crowded, set_full}
 use Rattle.store.proofs.ShareCallLaws.{set-done, set_writes}
-use Rattle.store.proofs.WriteLaws.{empty_long}
 use Rattle.store.proofs.sharing.set_share.Goals as goal
 
-pub take_stock-stock-requires : goal.take_stock-stock-requires
-take_stock-stock-requires c =
+pub take_stock-requires : goal.take_stock-requires
+take_stock-requires c =
     record {
       shares_value = refl;
-      chained = chained_none _;
-      long = empty_long;
+      chained = c.new-table.ensures.chained;
+      long = c.new-table.ensures.long;
     }
 
-pub returns-then-not-stock : goal.returns-then-not-stock
-returns-then-not-stock c =
+pub returns-in_default : goal.returns-in_default
+returns-in_default c =
     let args = c.args in
     share_unsound args.index.now args.text.now args.owner args.bytes
-    (sym c.take_stock-stock.ensures.is ∙ not-true _ c.if-not-stock.true)
+    c.in_default.ensures
 
 pub overflow_add-end : goal.overflow_add-end
 overflow_add-end c =
     let args = c.args in
     let i = args.index.now in
     let t = args.text.now in
-    let stock = c.take_stock-stock in
-    let w = stocked i t _ _ _ _ stock.result
-    (λ k. omega (arith, c.slice_known-1.given k)) stock.ensures
-    (not-false _ c.if-not-stock.false) in
+    let stock = c.in-Some in
+    let w = stocked i t _ _ _ _ stock.stock
+    (λ k. omega (arith, c.slice_known-1.given k)) stock.ensures in
     omega (arith, w.front, w.end, w.fits, w.index_most)
 
 pub overflow_add-end-2 : goal.overflow_add-end-2
@@ -39,10 +35,9 @@ overflow_add-end-2 c =
     let args = c.args in
     let i = args.index.now in
     let t = args.text.now in
-    let stock = c.take_stock-stock in
-    let w = stocked i t _ _ _ _ stock.result
-    (λ k. omega (arith, c.slice_known-1.given k)) stock.ensures
-    (not-false _ c.if-not-stock.false) in
+    let stock = c.in-Some in
+    let w = stocked i t _ _ _ _ stock.stock
+    (λ k. omega (arith, c.slice_known-1.given k)) stock.ensures in
     omega (
       arith,
       w.front,
@@ -58,93 +53,87 @@ overflow_sub-end c =
     let args = c.args in
     let i = args.index.now in
     let t = args.text.now in
-    let stock = c.take_stock-stock in
-    let w = stocked i t _ _ _ _ stock.result
-    (λ k. omega (arith, c.slice_known-1.given k)) stock.ensures
-    (not-false _ c.if-not-stock.false) in
-    end_less i t _ _ stock.result w args.owner args.bytes (omega (arith, c.ranges))
+    let stock = c.in-Some in
+    let w = stocked i t _ _ _ _ stock.stock
+    (λ k. omega (arith, c.slice_known-1.given k)) stock.ensures in
+    end_less i t _ _ stock.stock w args.owner args.bytes (omega (arith, c.ranges))
     c.share_size.result c.share_size-2.result c.share_size.ensures c.share_size-2.ensures
 
-pub share_room-room-requires : goal.share_room-room-requires
-share_room-room-requires c =
+pub share_room-requires : goal.share_room-requires
+share_room-requires c =
     let args = c.args in
     let i = args.index.now in
     let t = args.text.now in
-    let stock = c.take_stock-stock in
-    let w = stocked i t _ _ _ _ stock.result
-    (λ k. omega (arith, c.slice_known-1.given k)) stock.ensures
-    (not-false _ c.if-not-stock.false) in
-    set_weighs i t _ _ stock.result w args.owner args.bytes (omega (arith, c.ranges))
+    let stock = c.in-Some in
+    let w = stocked i t _ _ _ _ stock.stock
+    (λ k. omega (arith, c.slice_known-1.given k)) stock.ensures in
+    set_weighs i t _ _ stock.stock w args.owner args.bytes (omega (arith, c.ranges))
 
 pub write_share-requires : goal.write_share-requires
 write_share-requires c =
     let args = c.args in
     let i = args.index.now in
     let t = args.text.now in
-    let stock = c.take_stock-stock in
-    let w = stocked i t _ _ _ _ stock.result
-    (λ k. omega (arith, c.slice_known-1.given k)) stock.ensures
-    (not-false _ c.if-not-stock.false) in (
+    let stock = c.in-Some in
+    let w = stocked i t _ _ _ _ stock.stock
+    (λ k. omega (arith, c.slice_known-1.given k)) stock.ensures in (
       _,
       (
         w.all.held,
-        set_writes i t _ _ stock.result w args.owner args.bytes (omega (arith, c.ranges))
+        set_writes i t _ _ stock.stock w args.owner args.bytes (omega (arith, c.ranges))
             c.share_size.result c.share_size-2.result
             c.share_size.ensures
             c.share_size-2.ensures (λ k. omega (arith, c.slice_known-1.given k))
-            c.share_room-room.result
-            (c.share_room-room.ensures w.all.held w.used)
-            c.in-Fits.is _ refl,
+            c.share_room.result
+            (c.share_room.ensures w.all.held w.used)
+            c.in-Ok.is _ refl,
       ),
     )
 
-pub returns-in-TextFull : goal.returns-in-TextFull
-returns-in-TextFull c =
+pub returns-in-Err-Text : goal.returns-in-Err-Text
+returns-in-Err-Text c =
     let args = c.args in
     let i = args.index.now in
     let t = args.text.now in
-    let stock = c.take_stock-stock in
-    let w = stocked i t _ _ _ _ stock.result
-    (λ k. omega (arith, c.slice_known-1.given k)) stock.ensures
-    (not-false _ c.if-not-stock.false) in
-    set_crowded i t _ _ stock.result w args.owner args.bytes (omega (arith, c.ranges))
+    let stock = c.in-Some in
+    let w = stocked i t _ _ _ _ stock.stock
+    (λ k. omega (arith, c.slice_known-1.given k)) stock.ensures in
+    set_crowded i t _ _ stock.stock w args.owner args.bytes (omega (arith, c.ranges))
     c.share_size.result c.share_size-2.result c.share_size.ensures
     c.share_size-2.ensures (λ k. omega (arith, c.slice_known-1.given k))
-    c.share_room-room.result (c.share_room-room.ensures w.all.held w.used)
-    c.in-TextFull.is
+    c.share_room.result (c.share_room.ensures w.all.held w.used)
+    _ c.in-Err-Text.is c.in-Err-Text.field-0-is
 
-pub returns-in-IndexFull : goal.returns-in-IndexFull
-returns-in-IndexFull c =
+pub returns-in-Err-Index : goal.returns-in-Err-Index
+returns-in-Err-Index c =
     let args = c.args in
     let i = args.index.now in
     let t = args.text.now in
-    let stock = c.take_stock-stock in
-    let w = stocked i t _ _ _ _ stock.result
-    (λ k. omega (arith, c.slice_known-1.given k)) stock.ensures
-    (not-false _ c.if-not-stock.false) in
-    set_full i t _ _ stock.result w args.owner args.bytes (omega (arith, c.ranges))
+    let stock = c.in-Some in
+    let w = stocked i t _ _ _ _ stock.stock
+    (λ k. omega (arith, c.slice_known-1.given k)) stock.ensures in
+    set_full i t _ _ stock.stock w args.owner args.bytes (omega (arith, c.ranges))
     c.share_size.result c.share_size-2.result c.share_size.ensures
     c.share_size-2.ensures (λ k. omega (arith, c.slice_known-1.given k))
-    c.share_room-room.result (c.share_room-room.ensures w.all.held w.used)
-    c.in-IndexFull.is
+    c.share_room.result (c.share_room.ensures w.all.held w.used)
+    _ c.in-Err-Index.is c.in-Err-Index.field-0-is
 
-pub returns-in-Fits : goal.returns-in-Fits
-returns-in-Fits c =
+pub returns-in-Ok : goal.returns-in-Ok
+returns-in-Ok c =
     let args = c.args in
     let i = args.index.now in
     let t = args.text.now in
-    let stock = c.take_stock-stock in
-    let w = stocked i t _ _ _ _ stock.result
-    (λ k. omega (arith, c.slice_known-1.given k)) stock.ensures
-    (not-false _ c.if-not-stock.false) in
-    let writes = set_writes i t _ _ stock.result w args.owner args.bytes (omega (arith, c.ranges))
+    let stock = c.in-Some in
+    let w = stocked i t _ _ _ _ stock.stock
+    (λ k. omega (arith, c.slice_known-1.given k)) stock.ensures in
+    let writes = set_writes i t _ _ stock.stock w args.owner args.bytes (omega (arith, c.ranges))
     c.share_size.result c.share_size-2.result c.share_size.ensures
     c.share_size-2.ensures (λ k. omega (arith, c.slice_known-1.given k))
-    c.share_room-room.result (c.share_room-room.ensures w.all.held
-    w.used) c.in-Fits.is _ refl in
-    set-done i t _ _ stock.result w args.owner args.bytes (omega (arith, c.ranges))
+    c.share_room.result (c.share_room.ensures w.all.held
+    w.used) c.in-Ok.is _ refl in
+    set-done i t _ _ stock.stock w args.owner args.bytes (omega (arith, c.ranges))
     c.share_size.result c.share_size-2.result c.share_size.ensures
     c.share_size-2.ensures (λ k. omega (arith, c.slice_known-1.given k))
-    c.share_room-room.result (c.share_room-room.ensures w.all.held
-    w.used) c.in-Fits.is _
+    c.share_room.result (c.share_room.ensures w.all.held
+    w.used) c.in-Ok.is _
     (c.write_share.ensures _ w.all.held writes)

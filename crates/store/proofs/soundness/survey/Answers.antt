@@ -4,7 +4,7 @@ use Rattle.text.proofs.LentLaws.{tail_part}
 use Rattle.store.specs.Decode.{head_at}
 use Rattle.store.proofs.HeadLaws.{whole_size}
 use Rattle.store.proofs.RecordLaws.{size_least}
-use Rattle.store.proofs.SurveyLaws.{survey_first, survey_less, survey_end, survey_bad, survey_on}
+use Rattle.store.proofs.SurveyLaws.{survey_first, survey_less, survey_tail, survey_end, survey_bad, survey_on}
 use Rattle.store.proofs.SurveyLaws.{survey_turn}
 use Rattle.store.proofs.soundness.survey.Goals as goal
 
@@ -12,7 +12,7 @@ pub loop-head-init : goal.loop-head-init
 loop-head-init c =
     let args = c.args in
     let pre = c.requires in
-    survey_first args.index.now args.text.now _ args.heads.now args.next.now pre.index_len_bound.0 pre.long
+    survey_first args.index.now args.text.now _ args.table.now.heads args.table.now.next pre.index_len_bound.0 pre.long
     pre.chained
 
 pub slice_bounds-stands-count : goal.slice_bounds-stands-count
@@ -56,7 +56,7 @@ returns-then-not-head_fits c =
     let whole-head = c.whole_head-head in
     let head-fits = c.head_fits in
     let if2 = c.if-not-head_fits in
-    survey_bad args.index.now args.text.now loop.at loop.rows loop.heads loop.next loop.n loop.used loop.verdict loop.invariant whole-head.result
+    survey_bad args.index.now args.text.now loop.at loop.table.rows loop.table.heads loop.table.next loop.n loop.used loop.verdict loop.invariant whole-head.result
     (whole-head.ensures ∙ ap head_at (tail_part loop.at args.index.now))
     (whole_size _ (stands.ensures.0 if1.true) _ whole-head.ensures) head-fits.result head-fits.ensures
     if2.true
@@ -66,7 +66,7 @@ add_row-r-requires c =
     let args = c.args in
     let loop = c.loop-head in
     record {
-      n_lt_rows_max = survey_less args.index.now args.text.now loop.at loop.rows loop.heads loop.next loop.n loop.used loop.verdict loop.invariant;
+      n_lt_rows_max = survey_less args.index.now args.text.now loop.at loop.table.rows loop.table.heads loop.table.next loop.n loop.used loop.verdict loop.invariant;
       chained = loop.invariant.loading.chained;
     }
 
@@ -79,7 +79,7 @@ overflow_add-at c =
     let whole-head = c.whole_head-head in
     let head-fits = c.head_fits in
     let if2 = c.if-not-head_fits in
-    let w = survey_on args.index.now args.text.now loop.at loop.rows loop.heads loop.next loop.n loop.used loop.verdict loop.invariant whole-head.result
+    let w = survey_on args.index.now args.text.now loop.at loop.table.rows loop.table.heads loop.table.next loop.n loop.used loop.verdict loop.invariant whole-head.result
     (whole-head.ensures ∙ ap head_at (tail_part loop.at args.index.now))
     (whole_size _ (stands.ensures.0 if1.true) _ whole-head.ensures) head-fits.result head-fits.ensures if2.false in
     omega (arith, w.index)
@@ -94,7 +94,7 @@ overflow_add-used c =
     let whole-head = c.whole_head-head in
     let head-fits = c.head_fits in
     let if2 = c.if-not-head_fits in
-    let w = survey_on args.index.now args.text.now loop.at loop.rows loop.heads loop.next loop.n loop.used loop.verdict loop.invariant whole-head.result
+    let w = survey_on args.index.now args.text.now loop.at loop.table.rows loop.table.heads loop.table.next loop.n loop.used loop.verdict loop.invariant whole-head.result
     (whole-head.ensures ∙ ap head_at (tail_part loop.at args.index.now))
     (whole_size _ (stands.ensures.0 if1.true) _ whole-head.ensures) head-fits.result head-fits.ensures if2.false in
     omega (arith, w.text, pre.index_len_bound.1)
@@ -103,7 +103,7 @@ pub overflow_add-n : goal.overflow_add-n
 overflow_add-n c =
     let args = c.args in
     let loop = c.loop-head in
-    omega (arith, survey_less args.index.now args.text.now loop.at loop.rows loop.heads loop.next loop.n loop.used loop.verdict loop.invariant)
+    omega (arith, survey_less args.index.now args.text.now loop.at loop.table.rows loop.table.heads loop.table.next loop.n loop.used loop.verdict loop.invariant)
 
 pub loop-head-smaller : goal.loop-head-smaller
 loop-head-smaller c =
@@ -114,7 +114,7 @@ loop-head-smaller c =
     let whole-head = c.whole_head-head in
     let head-fits = c.head_fits in
     let if2 = c.if-not-head_fits in
-    let w = survey_on args.index.now args.text.now loop.at loop.rows loop.heads loop.next loop.n loop.used loop.verdict loop.invariant whole-head.result
+    let w = survey_on args.index.now args.text.now loop.at loop.table.rows loop.table.heads loop.table.next loop.n loop.used loop.verdict loop.invariant whole-head.result
     (whole-head.ensures ∙ ap head_at (tail_part loop.at args.index.now))
     (whole_size _ (stands.ensures.0 if1.true) _ whole-head.ensures) head-fits.result head-fits.ensures if2.false in
     omega (
@@ -135,7 +135,7 @@ loop-head-preserved c =
     let if2 = c.if-not-head_fits in
     let put = c.add_row-r in
     let told = c.told-verdict in
-    survey_turn args.index.now args.text.now loop.at loop.rows loop.heads loop.next loop.n loop.used loop.verdict loop.invariant whole-head.result
+    survey_turn args.index.now args.text.now loop.at loop.table.rows loop.table.heads loop.table.next loop.n loop.used loop.verdict loop.invariant whole-head.result
     (whole-head.ensures ∙ ap head_at (tail_part loop.at args.index.now))
     (whole_size _ (stands.ensures.0 if1.true) _ whole-head.ensures) head-fits.result head-fits.ensures
     if2.false _ put.ensures.rows_after.0 put.ensures.rows_after.1 _ _ put.ensures.chained_2 put.result put.ensures.sought.0
@@ -146,13 +146,20 @@ zero_behind-requires c =
     let loop = c.loop-head in
     (loop.invariant.walks.index, loop.invariant.walks.text)
 
+pub returns-then-not-zero_behind : goal.returns-then-not-zero_behind
+returns-then-not-zero_behind c =
+    let args = c.args in
+    let loop = c.loop-head in
+    survey_tail args.index.now args.text.now loop.at loop.table.rows loop.table.heads loop.table.next loop.n loop.used loop.verdict loop.invariant
+    (c.stands.ensures.1 c.loop-head-test.false ∙ ap head_at (tail_part loop.at args.index.now))
+    c.zero_behind.result c.zero_behind.ensures c.if-not-zero_behind.true
+
 pub returns : goal.returns
 returns c =
     let args = c.args in
     let shared-slice-known = c.shared_slice_known-1 in
     let loop = c.loop-head in
-    let stands = c.stands in
-    let if1 = c.loop-head-test in
-    survey_end args.index.now args.text.now loop.at loop.rows loop.heads loop.next loop.n loop.used loop.verdict loop.invariant
-    (stands.ensures.1 if1.false ∙ ap head_at (tail_part loop.at args.index.now))
-    (λ k. omega (arith, shared-slice-known.given k)) c.zero_behind.result c.zero_behind.ensures
+    survey_end args.index.now args.text.now loop.at loop.table.rows loop.table.heads loop.table.next loop.n loop.used loop.verdict loop.invariant
+    (c.stands.ensures.1 c.loop-head-test.false ∙ ap head_at (tail_part loop.at args.index.now))
+    c.zero_behind.result c.zero_behind.ensures c.if-not-zero_behind.false
+    (λ k. omega (arith, shared-slice-known.given k))

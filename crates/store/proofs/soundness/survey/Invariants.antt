@@ -6,7 +6,7 @@ use Rattle.store.proofs.soundness.survey.Given as goal
 
 abbrev pub invariant-loop-head : goal.invariant-loop-head
 invariant-loop-head l =
-    Surveying l.index l.text l.at l.rows l.heads l.next l.n l.used
+    Surveying l.index l.text l.at l.table.rows l.table.heads l.table.next l.n l.used
     l.verdict
 
 abbrev pub decreases-loop-head : goal.decreases-loop-head

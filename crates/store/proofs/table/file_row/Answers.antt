@@ -16,8 +16,8 @@ overflow_sub-used c =
     let pre = c.requires in
     let put = c.add_row-r in
     let had = c.len_before-had in
-    had_less pre.fileable.0 args.dues args.index.now args.text.now pre.fileable.1 _ args.heads.now
-    args.next.now pre.fileable.2.0
+    had_less pre.fileable.0 args.dues args.index.now args.text.now pre.fileable.1 _ args.table.now.heads
+    args.table.now.next pre.fileable.2.0
     args.fill args.key args.start args.len pre.fileable.2.1.0 pre.fileable.2.1.1 pre.count_lt_rows_max
     put.ensures.rows_after.1 _ put.ensures.rows_after.0
     put.result put.ensures.sought.0 (put.ensures.sought.1 (omega arith)) had.result had.ensures
@@ -46,10 +46,10 @@ returns-then-index-end c =
     let had = c.len_before-had in
     let ends = c.end_with-end in
     λ g s old hs w.
-    files_index g args.dues args.index.now args.text.now s _ args.heads.now args.next.now old
+    files_index g args.dues args.index.now args.text.now s _ args.table.now.heads args.table.now.next old
     args.fill args.key args.start args.len hs w pre.count_lt_rows_max put.ensures.rows_after.1 _ put.ensures.rows_after.0
     put.result put.ensures.sought.0 (put.ensures.sought.1 (omega arith)) had.result had.ensures
-    ends.result ends.ensures _ _ c.if-index-end.true c.told_room.result c.told_room.ensures
+    ends.result ends.ensures _ _ c.if-index-end.true
 
 pub claimed-requires : goal.claimed-requires
 claimed-requires c =
@@ -62,8 +62,8 @@ claimed-requires c =
     = length-take-le args.len (drop args.start pre.fileable.1)
     (omega (arith, length-drop args.start pre.fileable.1, w.inside)) in
     let less : args.dues.theirs ≤ args.fill.used - had.result + args.len =
-    dues_less pre.fileable.0 args.dues args.index.now args.text.now pre.fileable.1 _ args.heads.now
-    args.next.now pre.fileable.2.0
+    dues_less pre.fileable.0 args.dues args.index.now args.text.now pre.fileable.1 _ args.table.now.heads
+    args.table.now.next pre.fileable.2.0
     args.fill args.key args.start args.len pre.fileable.2.1.0 pre.fileable.2.1.1 pre.count_lt_rows_max
     put.ensures.rows_after.1 _ put.ensures.rows_after.0
     put.result put.ensures.sought.0 (put.ensures.sought.1 (omega arith)) had.result had.ensures in
@@ -90,12 +90,12 @@ returns-then-text-claimed c =
     let ends = c.end_with-end in
     let all = c.claimed in
     λ g s old hs w.
-    files_text g args.dues args.index.now args.text.now s _ args.heads.now args.next.now old
+    files_text g args.dues args.index.now args.text.now s _ args.table.now.heads args.table.now.next old
     args.fill args.key args.start args.len hs w pre.count_lt_rows_max put.ensures.rows_after.1 _ put.ensures.rows_after.0
     put.result put.ensures.sought.0 (put.ensures.sought.1 (omega arith)) had.result had.ensures
     ends.result ends.ensures _ _ (omega (arith, c.if-index-end.false)) all.result
     all.ensures
-    c.if-text-claimed.true c.told_room-then-text-claimed.result c.told_room-then-text-claimed.ensures
+    c.if-text-claimed.true
 
 pub strike_before-requires : goal.strike_before-requires
 strike_before-requires c = omega (arith, c.add_row-r.ensures.sought.1 (omega arith))
@@ -109,9 +109,8 @@ returns c =
     let ends = c.end_with-end in
     let all = c.claimed in
     λ g s old hs w.
-    files_fit g args.dues args.index.now args.text.now s _ args.heads.now args.next.now old
+    files_fit g args.dues args.index.now args.text.now s _ args.table.now.heads args.table.now.next old
     args.fill args.key args.start args.len hs w pre.count_lt_rows_max put.ensures.rows_after.1 _ put.ensures.rows_after.0
     put.result put.ensures.sought.0 (put.ensures.sought.1 (omega arith)) had.result had.ensures
     ends.result ends.ensures _ _ (omega (arith, c.if-index-end.false)) all.result all.ensures
     (omega (arith, c.if-text-claimed.false)) put.ensures.chained_2 _ c.strike_before.ensures
-    c.told_room-2.result c.told_room-2.ensures

@@ -1,19 +1,17 @@
-use native.Mathlib.Omega.{arith}
-use Rattle.text.proofs.BytesLaws.{first_at_lem, first_on, first_end}
+-- The place that `position` gives, or the length where it gives none.
+use mathlib.Core.Path.{◌∙◌}
+use borrow.Author.Rules.{rules}
+use borrow.Author.Tests.{tests}
+use lib.Dec.{eqb}
+use Rattle.std.proofs.lemmas.Iterator.{YieldsList-from_slice}
+use Rattle.std.proofs.lemmas.Iterator.Search.{position_from_yields_List}
+use Rattle.text.proofs.BytesLaws.{position_first}
 use Rattle.text.proofs.bytes.find_byte.Goals as goal
-
-pub returns-then-s-i : goal.returns-then-s-i
-returns-then-s-i c =
-    let a = c.args in
-    omega (arith, first_at_lem a.b a.s.now c.loop-i.i (omega arith) c.if-s-i.true)
-
-pub loop-i-preserved : goal.loop-i-preserved
-loop-i-preserved c =
-    let a = c.args in
-    let on = first_on a.b a.s.now c.loop-i.i (omega arith) c.if-s-i.false in
-    (omega arith, omega arith)
 
 pub returns : goal.returns
 returns c =
     let a = c.args in
-    omega (arith, first_end a.b a.s.now c.loop-i.i (omega arith))
+    c.unwrap_or.ensures
+    ∙ position_first a.b a.s.now c.position.result
+    (position_from_yields_List (λ x. eqb x a.b) _ _ _ c.position.ensures.ran (YieldsList-from_slice a.s.now cc)
+    (λ x b q k. search (rules, tests)))

@@ -1,10 +1,14 @@
--- Sixteen reads, then sixteen tests.
-use borrow.Author.Rules.{rules}
-use Rattle.text.specs.Inner.{is_ascii}
-use Rattle.text.proofs.BlockLaws.{sixteen}
+use mathlib.Core.Path.{◌≡◌, ap, ◌∙◌}
+use Prim.Native.Nat.{ℕ, ◌+◌, ◌-◌}
+use native.Mathlib.Omega.{arith}
+use lib.ListN.{take, drop}
+use Rattle.text.specs.Inner.{every, is_ascii}
+use Rattle.text.proofs.BlockLaws.{ascii_every}
 use Rattle.text.proofs.utf8.ascii_block.Goals as goal
 
 pub returns : goal.returns
 returns c =
-    let args = c.args in
-    sixteen is_ascii args.s.now args.k (search rules)
+    let a = c.args in
+    let z : a.k + 16 - a.k ≡ 16 = omega arith in
+    ascii_every c.is_ascii.result _ c.is_ascii.ensures.cases
+    ∙ ap (λ (n : ℕ). every is_ascii (take n (drop a.k a.s.now))) z

@@ -1,67 +1,26 @@
--- An alternative is its first octet, its second, and its tails.
--- Assumes nothing.
+-- Where the first two octets are as asked, the tails decide.
 use mathlib.Core.Path.{◌≡◌, refl, sym, ◌∙◌}
-use mathlib.Core.List.{[], ◌∷◌}
-use mathlib.Core.Bool.{true, false}
-use native.Mathlib.Omega.{arith}
-use lib.ListN.{drop, replicate, length-drop}
-use Rattle.text.specs.Utf8.{%x, utf8_tail, begins}
-use Rattle.text.proofs.Utf8Laws.{begins-two, begins_long, part_says}
+use mathlib.Core.Bool.{Bool, true, false}
+use lib.ListN.{replicate}
+use Rattle.text.specs.Bytes.{both}
+use Rattle.text.specs.Utf8.{%x, utf8_tail}
+use Rattle.text.proofs.ListLaws.{off}
+use Rattle.text.proofs.Utf8Laws.{begins_two, part_says}
 use Rattle.text.proofs.utf8.begins_with.Goals as goal
+use Rattle.text.proofs.utf8.begins_with.Goals.{then-in_range, else-in_range}
 
-pub returns-then-not-begins_in : goal.returns-then-not-begins_in
-returns-then-not-begins_in c =
-    let a = c.args in
-    let e : begins (%x a.low a.high ∷ []) a.s.now ≡ false =
-    sym c.begins_in.ensures ∙ c.if-not-begins_in.true in
-    sym (begins-two (%x a.low a.high) (%x a.low2 a.high2) (replicate a.n utf8_tail) a.s.now ∙ rw e)
+both_hold : (x y z : Bool) → x ≡ true → y ≡ true → both x (both y z) ≡ z
+both_hold true true z p q = refl
+both_hold true false z p q = absurd (off q)
+both_hold false y z p q = absurd (off p)
 
-pub slice_bounds-begins_in-count : goal.slice_bounds-begins_in-count
-slice_bounds-begins_in-count c =
+pub returns-then-in_range-2 : goal.returns-then-in_range-2
+returns-then-in_range-2 c =
     let a = c.args in
-    let e : begins (%x a.low a.high ∷ []) a.s.now ≡ true =
-    sym c.begins_in.ensures ∙ c.if-not-begins_in.false in
-    begins_long (%x a.low a.high ∷ []) a.s.now e
-
-pub slice_bounds-begins_in-start : goal.slice_bounds-begins_in-start
-slice_bounds-begins_in-start c =
-    let a = c.args in
-    let e : begins (%x a.low a.high ∷ []) a.s.now ≡ true =
-    sym c.begins_in.ensures ∙ c.if-not-begins_in.false in
-    omega (arith, begins_long (%x a.low a.high ∷ []) a.s.now e)
-
-pub returns-then-not-begins_in-2 : goal.returns-then-not-begins_in-2
-returns-then-not-begins_in-2 c =
-    let a = c.args in
-    let e : begins (%x a.low a.high ∷ []) a.s.now ≡ true =
-    sym c.begins_in.ensures
-    ∙ c.if-not-begins_in.false in
-    let d = part_says (%x a.low2 a.high2 ∷ []) a.s.now 1 _ false c.begins_in-2.ensures
-    c.if-not-begins_in-2.true in
-    sym (begins-two (%x a.low a.high) (%x a.low2 a.high2) (replicate a.n utf8_tail) a.s.now
-    ∙ rw (e, d))
-
-pub slice_bounds-begins_tails-count : goal.slice_bounds-begins_tails-count
-slice_bounds-begins_tails-count c =
-    let a = c.args in
-    let d = part_says (%x a.low2 a.high2 ∷ []) a.s.now 1 _ true c.begins_in-2.ensures
-    c.if-not-begins_in-2.false in
-    omega (arith, length-drop 1 a.s.now, begins_long (%x a.low2 a.high2 ∷ []) (drop 1 a.s.now) d)
-
-pub slice_bounds-begins_tails-start : goal.slice_bounds-begins_tails-start
-slice_bounds-begins_tails-start c =
-    let a = c.args in
-    let d = part_says (%x a.low2 a.high2 ∷ []) a.s.now 1 _ true c.begins_in-2.ensures
-    c.if-not-begins_in-2.false in
-    omega (arith, length-drop 1 a.s.now, begins_long (%x a.low2 a.high2 ∷ []) (drop 1 a.s.now) d)
-
-pub returns : goal.returns
-returns c =
-    let a = c.args in
-    let e : begins (%x a.low a.high ∷ []) a.s.now ≡ true =
-    sym c.begins_in.ensures
-    ∙ c.if-not-begins_in.false in
-    let d = part_says (%x a.low2 a.high2 ∷ []) a.s.now 1 _ true
-    c.begins_in-2.ensures c.if-not-begins_in-2.false in
-    sym (begins-two (%x a.low a.high) (%x a.low2 a.high2) (replicate a.n utf8_tail) a.s.now
-    ∙ rw (e, d) (part_says (replicate a.n utf8_tail) a.s.now 2 _ _ c.begins_tails.ensures refl))
+    let e = begins_two (%x a.low a.high) (%x a.low2 a.high2) (replicate a.n utf8_tail) a.s.now c.in-len2-up.len_at_least in
+    let t = part_says (replicate a.n utf8_tail) a.s.now 2 _ c.begins_tails.ensures in
+    elim c.if-in_range.branch [
+      | then-in_range w ↦ sym (e ∙ both_hold _ _ _ (sym c.in_range.ensures ∙ w.if-in_range.true)
+          (sym w.in_range-then-in_range.ensures ∙ sym w.value-is ∙ c.if-in_range-2.true) ∙ sym t)
+      | else-in_range w ↦ absurd (off (sym w.if-in_range.false ∙ sym w.value-is ∙ c.if-in_range-2.true))
+    ]

@@ -1,32 +1,36 @@
+use mathlib.Core.Path.{refl, ap, ◌∙◌}
+use mathlib.Core.List.{List}
+use Prim.Native.Nat.{ℕ}
+use Rattle.line.specs.Parser.{step_from}
+use Rattle.line.specs.Walker.{step_of}
 use Rattle.line.proofs.TokenLaws.{counted-first, counted_stays, counted_on, counted-done}
-use mathlib.Core.Path.{◌∙◌}
-use native.Mathlib.Omega.{arith}
 use Rattle.line.proofs.parser.tokens.count_tokens.Goals as goal
 
-pub loop-pos-init : goal.loop-pos-init
-loop-pos-init c = counted-first c.args.line.now c.start_state-state.result c.start_state-state.ensures
+pub loop-walker-init : goal.loop-walker-init
+loop-walker-init c = rw c.new-walker.ensures (refl, counted-first c.args.line.now _ refl)
 
-pub counted-tokens-requires : goal.counted-tokens-requires
-counted-tokens-requires c = omega (arith, c.loop-pos.invariant.few, c.loop-pos-test.true)
-
-pub returns-then-next-pos : goal.returns-then-next-pos
-returns-then-next-pos c =
-    let a = c.args in
+pub returns-then-walker-pos : goal.returns-then-walker-pos
+returns-then-walker-pos c =
+    let l = c.loop-walker in
+    let w = l.walker in
+    let n = c.next_token.ensures in
     c.counted-tokens.ensures
-    ∙ counted_stays a.line.now c.loop-pos.pos c.loop-pos.state c.loop-pos.tokens c.loop-pos-test.true
-    c.token_at-next.result c.token_at-next.ensures c.loop-pos.invariant c.if-next-pos.true
+    ∙ rw n.0 (counted_stays c.args.line.now w.pos w.state l.tokens c.loop-walker-test.true (step_from w)
+    (ap (λ (s : List ℕ). step_of s w.pos w.state) l.invariant.0) l.invariant.1 (rw n.1 at c.if-walker-pos.true))
 
-pub loop-pos-smaller : goal.loop-pos-smaller
-loop-pos-smaller c = omega (arith, c.loop-pos-test.true, c.if-next-pos.false)
-
-pub loop-pos-preserved : goal.loop-pos-preserved
-loop-pos-preserved c =
-    let a = c.args in
-    rw c.counted-tokens.ensures
-    (counted_on a.line.now c.loop-pos.pos c.loop-pos.state c.loop-pos.tokens c.loop-pos-test.true
-    c.token_at-next.result c.token_at-next.ensures c.loop-pos.invariant c.if-next-pos.false)
+pub loop-walker-preserved : goal.loop-walker-preserved
+loop-walker-preserved c =
+    let l = c.loop-walker in
+    let w = l.walker in
+    let n = c.next_token.ensures in
+    rw (n.1, c.counted-tokens.ensures, n.0) (
+      l.invariant.0,
+      counted_on c.args.line.now w.pos w.state l.tokens c.loop-walker-test.true (step_from w)
+          (ap (λ (s : List ℕ). step_of s w.pos w.state) l.invariant.0) l.invariant.1 (rw n.1 at c.if-walker-pos.false),
+    )
 
 pub returns : goal.returns
 returns c =
-    let a = c.args in
-    counted-done a.line.now c.loop-pos.pos c.loop-pos.state c.loop-pos.tokens c.loop-pos-test.false c.loop-pos.invariant
+    let l = c.loop-walker in
+    let w = l.walker in
+    counted-done c.args.line.now w.pos w.state l.tokens c.loop-walker-test.false l.invariant.1

@@ -1,12 +1,13 @@
--- What was counted, with what is left to count, is at every turn all of the line's: one law per turn and exit. Assumes
--- nothing.
-use Rattle.line.proofs.TokenLaws.{Counted}
+-- What was counted, with what is left to count, is at every turn all of the line's.
 use Prim.Native.Nat.{◌-◌}
+use mathlib.Core.Path.{◌≡◌}
 use lib.ListN.{length}
+use Rattle.line.proofs.TokenLaws.{Counted}
 use Rattle.line.proofs.parser.tokens.count_tokens.Given as goal
 
-abbrev pub invariant-loop-pos : goal.invariant-loop-pos
-invariant-loop-pos l = Counted l.line l.pos l.state l.tokens
+abbrev pub invariant-loop-walker : goal.invariant-loop-walker
+invariant-loop-walker l =
+    (l.walker.«data».now ≡ l.line) × Counted l.line l.walker.pos l.walker.state l.tokens
 
-abbrev pub decreases-loop-pos : goal.decreases-loop-pos
-decreases-loop-pos l = length l.line - l.pos
+abbrev pub decreases-loop-walker : goal.decreases-loop-walker
+decreases-loop-walker l = length l.line - l.walker.pos

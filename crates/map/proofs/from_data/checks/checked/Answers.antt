@@ -1,8 +1,8 @@
 -- `checked` meets its contract: one test after the other. Assumes nothing.
-use mathlib.Core.Path.{sym, ◌∙◌}
+use mathlib.Core.Path.{◌≡◌, sym, ◌∙◌}
 use borrow.Author.Tests.{eq-eqb, ne_eqb, le-leb, lt-leb}
 use Rattle.text.specs.Utf8.{is_utf8}
-use Rattle.map.specs.Build.{checks_of}
+use Rattle.map.specs.Build.{checks_of, slot_checks}
 use Rattle.map.proofs.from_data.checks.checked.Goals as goal
 
 pub returns-then-run-name : goal.returns-then-run-name
@@ -37,12 +37,11 @@ returns-then-find_byte-name c =
       ne_eqb _ _ c.if-find_byte-name.true,
     )
 
-pub slots_checked-requires : goal.slots_checked-requires
-slots_checked-requires c = c.requires
-
 pub returns : goal.returns
 unfolding checks_of is_utf8
 returns c =
+    let e : checks_of c.args.slots.now c.args.buttons.now c.args.axes.now c.args.name.now
+    ≡ slot_checks c.args.slots.now c.args.buttons.now c.args.axes.now =
     rw (
       sym c.valid_up_to-run.ensures,
       eq-eqb _ _ c.if-run-name.false,
@@ -50,5 +49,5 @@ returns c =
       sym c.lists_fit.ensures ∙ c.if-not-lists_fit.false,
       sym c.find_byte.ensures,
       eq-eqb _ _ c.if-find_byte-name.false,
-    )
-    c.slots_checked.ensures
+    ) in
+    rw e c.slots_checked.ensures

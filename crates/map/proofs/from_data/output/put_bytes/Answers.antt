@@ -5,4 +5,4 @@ use Rattle.map.proofs.from_data.output.put_bytes.Goals as goal
 pub returns : goal.returns
 returns c =
     let a = c.args in
-    wrote_put a.out.now a.at a.v.now _ _ _ c.requires c.write_bytes.ensures c.upto.ensures
+    wrote_put a.out.now a.at a.v.now _ _ _ _ c.requires c.write_bytes.ensures c.unwrap_or.ensures

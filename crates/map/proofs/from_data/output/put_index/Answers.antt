@@ -6,4 +6,4 @@ use Rattle.map.proofs.from_data.output.put_index.Goals as goal
 pub returns : goal.returns
 returns c =
     let a = c.args in
-    wrote_put a.out.now a.at (decimal a.n) _ _ _ c.requires c.write_index.ensures c.upto.ensures
+    wrote_put a.out.now a.at (decimal a.n) _ _ _ _ c.requires c.write_index.ensures c.unwrap_or.ensures

@@ -6,4 +6,4 @@ use Rattle.map.proofs.from_data.output.put_uuid.Goals as goal
 pub returns : goal.returns
 returns c =
     let a = c.args in
-    wrote_put a.out.now a.at (uuid_text a.uuid) _ _ _ c.requires c.write_simple.ensures c.upto.ensures
+    wrote_put a.out.now a.at (uuid_text a.uuid) _ _ _ _ c.requires c.write_simple.ensures c.unwrap_or.ensures

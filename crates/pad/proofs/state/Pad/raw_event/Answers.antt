@@ -1,8 +1,9 @@
--- The put into the state's numbers, and its events. Assumes nothing.
-use Rattle.pad.proofs.StateLaws.{told_with}
+-- By whether the code was put. Assumes nothing.
+use Rattle.std.proofs.Common.{sym}
+use Rattle.pad.specs.States.{refused_of}
 use Rattle.pad.proofs.state.Pad.raw_event.Goals as goal
 
-pub returns : goal.returns
-returns c =
-    let p = c.put_code-put in
-    (told_with p.ensures.0 c.change_events-events.ensures, p.ensures.4)
+pub returns-in-Err : goal.returns-in-Err
+unfolding refused_of
+returns-in-Err c =
+    (rw (c.in-Err.ensures.told.1, c.no_events.ensures) (sym c.in-Err.ensures.told.0), c.put_code.ensures.within)

@@ -1,23 +1,21 @@
 -- The farther of the two pads' values. Assumes nothing.
-use mathlib.Core.Path.{ap, ◌∙◌}
+use Rattle.std.proofs.Common.{ap, ◌∙◌}
 use lib.IntN.{ℤ}
-use mir.Syntax.{w16}
 use mir.Val.{to_z, of_z}
-use mir.ValLaws.{to_z-of_z}
 use Rattle.pad.specs.States.{pad_value}
+use mir.Syntax.{w16}
+use mir.ValLaws.{to_z-of_z}
 use Rattle.pad.specs.TwoPads.{farther, pads_value}
 use Rattle.pad.proofs.two.Pads.value.Goals as goal
 
 pub returns : goal.returns
 unfolding pads_value
 returns c =
-    let v = c.value in
-    let w = c.value-2 in
+    let a = c.value_of in
+    let b = c.value_of-2 in
+    let ea = to_z-of_z w16 a.result (record { sfits = a.type_inv }) ∙ a.ensures in
+    let eb = to_z-of_z w16 b.result (record { sfits = b.type_inv }) ∙ b.ensures in
     let f = c.farthest in
-    let el = c.args.element in
-    to_z-of_z w16 f.result (record { sfits = f.type_inv })
-    ∙ f.ensures
-    ∙ ap (λ (z : ℤ). farther z (to_z w16 (of_z w16 w.result)))
-    (to_z-of_z w16 v.result (record { sfits = v.type_inv }) ∙ v.ensures)
-    ∙ ap (λ (z : ℤ). farther (pad_value c.args.self.first el) z)
-    (to_z-of_z w16 w.result (record { sfits = w.type_inv }) ∙ w.ensures)
+    to_z-of_z w16 f.result (record { sfits = f.type_inv }) ∙ f.ensures
+    ∙ ap (λ (z : ℤ). farther z (to_z w16 (of_z w16 b.result))) ea
+    ∙ ap (λ (z : ℤ). farther (pad_value c.args.self.first c.args.element) z) eb

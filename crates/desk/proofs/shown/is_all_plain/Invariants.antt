@@ -1,6 +1,0 @@
--- Each turn looks at one byte.
-use Rattle.std.proofs.Common.{◌-◌, length}
-use Rattle.desk.proofs.shown.is_all_plain.Given as goal
-
-abbrev pub decreases-loop-i : goal.decreases-loop-i
-decreases-loop-i l = length l.s - l.i

@@ -1,6 +1,0 @@
--- Each turn looks at one element.
-use Rattle.std.proofs.Common.{◌-◌}
-use Rattle.desk_pads.proofs.playing.say_values.Given as goal
-
-abbrev pub decreases-loop-k : goal.decreases-loop-k
-decreases-loop-k l = 29 - l.k

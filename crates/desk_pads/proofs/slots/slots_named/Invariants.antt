@@ -1,6 +1,0 @@
--- Each turn takes one argument.
-use Rattle.std.proofs.Common.{◌-◌}
-use Rattle.desk_pads.proofs.slots.slots_named.Given as goal
-
-abbrev pub decreases-loop-i : goal.decreases-loop-i
-decreases-loop-i l = l.count - l.i

@@ -1,6 +1,0 @@
--- Each turn takes one argument.
-use Rattle.std.proofs.Common.{◌-◌}
-use Rattle.desk_store.proofs.map_changes.due_from.Given as goal
-
-abbrev pub decreases-loop-i : goal.decreases-loop-i
-decreases-loop-i l = l.count - l.i

@@ -1,0 +1,38 @@
+// The store that a command changes.
+use desk::changing::{Held, may_change, place, replace};
+use desk::console::Console;
+use desk::files::{StoreFile, load};
+use desk::say::Failure;
+
+// Its file's name, and what the script `hub` says of it.
+#[derive(Clone, Copy)]
+pub struct Target<'a> {
+    pub path: &'a [u8],
+    pub held: Held,
+}
+
+impl Target<'_> {
+    // Only where the lock is held.
+    pub(crate) fn may_change(self, console: &Console) -> Result<(), Failure> {
+        may_change(console, self.held)
+    }
+
+    pub(crate) fn load(self, console: &Console) -> Result<StoreFile, Failure> {
+        load(console, self.path)
+    }
+
+    // Puts a store where there is none.
+    pub(crate) fn place(self, console: &Console, file: &StoreFile) -> Result<(), Failure> {
+        place(console, self.path, self.held, file)
+    }
+
+    // Puts a store in the place of the former one, which is kept as STORE.old.
+    pub(crate) fn replace(
+        self,
+        console: &Console,
+        former: &StoreFile,
+        file: &StoreFile,
+    ) -> Result<(), Failure> {
+        replace(console, self.path, self.held, former, file)
+    }
+}

@@ -1,6 +1,0 @@
--- The contract of the call, and that of the layout, give the result.
--- Assumes nothing.
-use Rattle.exports.proofs.data_calls.raspteal_slot_new.Goals as goal
-
-pub returns : goal.returns
-returns c = simp (c.flat_slot.ensures, c.new.ensures)

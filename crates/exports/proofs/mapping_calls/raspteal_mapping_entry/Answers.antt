@@ -1,6 +1,0 @@
--- The contract of the call, and that of the layout, give the result.
--- Assumes nothing.
-use Rattle.exports.proofs.mapping_calls.raspteal_mapping_entry.Goals as goal
-
-pub returns : goal.returns
-returns c = simp (c.flat_entered.ensures, c.entry.ensures, c.mapping_of.ensures)

@@ -1,6 +1,0 @@
--- Each variant by its own arm.
--- Assumes nothing.
-use Rattle.line.proofs.reading.SdlAnswer.outcome.Goals as goal
-
-pub returns-in-Refused : goal.returns-in-Refused
-returns-in-Refused c = simp (c.in-Refused.is, c.refusal.ensures)

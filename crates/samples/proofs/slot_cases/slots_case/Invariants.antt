@@ -1,6 +1,0 @@
--- Each turn passes a call, so the place rises.
-use Rattle.std.proofs.Common.{◌-◌, length}
-use Rattle.samples.proofs.slot_cases.slots_case.Given as goal
-
-abbrev pub decreases-loop-at : goal.decreases-loop-at
-decreases-loop-at g l = length l.calls - l.at

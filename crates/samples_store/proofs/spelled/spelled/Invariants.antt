@@ -1,6 +1,0 @@
--- Each turn passes a part, so the place rises.
-use Rattle.std.proofs.Common.{◌-◌, length}
-use Rattle.samples_store.proofs.spelled.spelled.Given as goal
-
-abbrev pub decreases-loop-at : goal.decreases-loop-at
-decreases-loop-at l = length l.s - l.at

@@ -1,0 +1,126 @@
+// How the test programs write what the library answers. What is written is compared with the cases of data/.
+#![tactic(auto)]
+
+use line::ev::AxisOrBtn;
+use line::mapping::{Entry, Mapping};
+use line::parser::{AxisRange, Ranges, Token};
+use std::fmt;
+
+// `b16` for a button, `a8` for an axis.
+#[derive(Clone, Copy)]
+pub struct Element(pub AxisOrBtn);
+
+impl fmt::Display for Element {
+    fn fmt<W: fmt::Write>(&self, f: &mut fmt::Formatter<W>) -> fmt::Result {
+        match self.0 {
+            AxisOrBtn::Axis(a) => write!(f, "a{}", a.0),
+            AxisOrBtn::Btn(b) => write!(f, "b{}", b.0),
+        }
+    }
+}
+
+// The input and the output range, `F`, `U` or `L`, and `~` where inverted.
+#[derive(Clone, Copy)]
+pub struct Halves(pub Ranges);
+
+fn letter(r: AxisRange) -> char {
+    match r {
+        AxisRange::LowerHalf => 'L',
+        AxisRange::UpperHalf => 'U',
+        AxisRange::Full => 'F',
+    }
+}
+
+impl fmt::Display for Halves {
+    fn fmt<W: fmt::Write>(&self, f: &mut fmt::Formatter<W>) -> fmt::Result {
+        let tilde = if self.0.inverted { "~" } else { "" };
+        write!(
+            f,
+            "{}{}{tilde}",
+            letter(self.0.input),
+            letter(self.0.output)
+        )
+    }
+}
+
+// The element that a pair is for, with its ranges: `a3UF~`, or `b16` where they are full on both sides and upright.
+#[derive(Clone, Copy)]
+pub struct Target(pub AxisOrBtn, pub Ranges);
+
+impl fmt::Display for Target {
+    fn fmt<W: fmt::Write>(&self, f: &mut fmt::Formatter<W>) -> fmt::Result {
+        write!(f, "{}", Element(self.0))?;
+        match self.1 {
+            Ranges {
+                input: AxisRange::Full,
+                output: AxisRange::Full,
+                inverted: false,
+            } => Ok(()),
+            ranges => write!(f, "{}", Halves(ranges)),
+        }
+    }
+}
+
+// A start and a length: `33+1`.
+#[derive(Clone, Copy)]
+pub struct Part(pub usize, pub usize);
+
+impl fmt::Display for Part {
+    fn fmt<W: fmt::Write>(&self, f: &mut fmt::Formatter<W>) -> fmt::Result {
+        write!(f, "{}+{}", self.0, self.1)
+    }
+}
+
+// A token: `N<start>+<len>`, `P<start>+<len>`, or `A<axis>`, `B<button>`, `H<hat>.<direction>` with `><element>` and its
+// ranges. Of a UUID it is `U` alone: the digits are the program's.
+#[derive(Clone, Copy)]
+pub struct TokenText(pub Token);
+
+impl fmt::Display for TokenText {
+    fn fmt<W: fmt::Write>(&self, f: &mut fmt::Formatter<W>) -> fmt::Result {
+        match self.0 {
+            Token::Uuid(_) => write!(f, "U"),
+            Token::Platform { start, len } => write!(f, "P{}", Part(start, len)),
+            Token::Name { start, len } => write!(f, "N{}", Part(start, len)),
+            Token::AxisMapping { from, to, ranges } => {
+                write!(f, "A{from}>{}{}", Element(to), Halves(ranges))
+            }
+            Token::ButtonMapping { from, to, ranges } => {
+                write!(f, "B{from}>{}{}", Element(to), Halves(ranges))
+            }
+            Token::HatMapping {
+                hat,
+                direction,
+                to,
+                ranges,
+            } => write!(f, "H{hat}.{direction}>{}{}", Element(to), Halves(ranges)),
+        }
+    }
+}
+
+// An entry: `10220=b16`, `30002=a3UF~`.
+#[derive(Clone, Copy)]
+pub struct EntryText(pub Entry);
+
+impl fmt::Display for EntryText {
+    fn fmt<W: fmt::Write>(&self, f: &mut fmt::Formatter<W>) -> fmt::Result {
+        let e = self.0;
+        write!(f, "{:x}={}", e.code.0, Target(e.element, e.ranges))
+    }
+}
+
+// `33+1;1;10220=b16,30002=a3UF~,`: the name's start and length, the hat flags, the entries.
+#[derive(Clone, Copy)]
+pub struct MapText<'a>(pub &'a Mapping);
+
+impl fmt::Display for MapText<'_> {
+    fn fmt<W: fmt::Write>(&self, f: &mut fmt::Formatter<W>) -> fmt::Result {
+        let map = self.0;
+        let name = Part(map.name_start, map.name_len);
+        write!(f, "{name};{};", map.hats_mapped)?;
+        for e in map.entries.iter().take(map.count) {
+            write!(f, "{},", EntryText(*e))?;
+        }
+        Ok(())
+    }
+}
