@@ -1,4 +1,4 @@
--- Laws of byte order, of the names that end at a 0, and of the searches by key and by element. Assumes nothing.
+-- Laws of byte order, of the names, and of the searches by key and by element. Assumes nothing.
 use Rattle.std.specs.Prelude.{Option, Some, None}
 use Rattle.std.specs.List.{position_or_len}
 use mathlib.Core.Path.{◌≡◌, refl, ap, sym, ◌∙◌}

@@ -1,13 +1,13 @@
 -- Laws of maps that several proofs cite. Assumes nothing.
-use Rattle.std.specs.List.{find, position_or_len, copy_within}
+use Rattle.std.specs.List.{find, filter, fold, reduce, position_or_len, copy_within}
+use Rattle.std.specs.Ordering.{nat_cmp, min_by_ordering}
 use Rattle.std.specs.Prelude.{Bool, true, false, not, cond, ltb, leb, eqb, Option, Some, None, Ok, Err, option_map, unwrap_or}
 use Prim.Native.Nat.{min, ℕ, zero, suc, ◌+◌, ◌-◌, ◌<◌, ◌≤◌}
 use mathlib.Core.Path.{◌≡◌, refl, sym, ap, ◌∙◌}
 use mathlib.Core.List.{List, [], ◌∷◌, ◌++◌, append_assoc, map}
 use native.Mathlib.Omega.{arith}
-use lib.ListN.{length, take, drop, get_or, set, length-map, length-set, length-take, drop_of_length-le}
+use lib.ListN.{length, take, drop, get_or, set, length-map, length-set, length-take}
 use lib.Seq.{drop-cons, get_or-take}
-use native.Mathlib.Numerals.{add-one}
 use borrow.Author.Tests.{eq-eqb, ne_eqb, lt-ltb, le-ltb, le-leb, lt-leb, leb-true, leb-false, ltb-true, ltb-false}
 use Rattle.line.specs.declared.mapping.Entry.{Entry}
 use Rattle.line.specs.declared.mapping.Mapping.{Mapping}
@@ -187,20 +187,12 @@ module _ (m : Mapping) where
           let long = lt-leb (length (held m) + 1) codes_max (omega arith) in
           rw (p, length_inserted k (held m) e h, long)
 
--- ---- the reverse look-up: what was found before, and what is found in the rest
-abbrev pub least_of : Option Code → Option Code → Option Code
-least_of None r = r
-least_of (Some c) r = lesser c r
-
+-- ---- the reverse look-up: the lesser of two codes, the first one between equals
 abbrev low : Code → Code → Code
 low c d = pick (ltb d.0 c.0) d c
 
-lower : (c d : Code) → lesser c (Some d) ≡ Some (low c d)
-lower c d = go (ltb d.0 c.0)
-  where
-    go : (t : Bool) → pick t (Some d) (Some c) ≡ Some (pick t d c)
-    go true = refl
-    go false = refl
+abbrev pub lesser_of : Code → Code → Code
+lesser_of c d = min_by_ordering (nat_cmp c.0 d.0) c d
 
 low_min : (c d : Code) → (low c d).0 ≡ min c.0 d.0
 low_min c d = go (ltb d.0 c.0) refl
@@ -209,30 +201,47 @@ low_min c d = go (ltb d.0 c.0) refl
     go true e = omega (arith, ltb-true d.0 c.0 e)
     go false e = omega (arith, ltb-false d.0 c.0 e)
 
+of_min : (c d : Code) → (lesser_of c d).0 ≡ min c.0 d.0
+of_min c d = grind arith
+
 same_code : (c d : Code) → c.0 ≡ d.0 → c ≡ d
 same_code c d e = ap (λ (n : ℕ). record { 0 = n }) e
 
-pub least_rest : (b : Option Code) (c : Code) (r : Option Code) → least_of (lesser c b) r ≡ least_of b (lesser c r)
-least_rest None c r = refl
-least_rest (Some d) c None =
-    rw (lower c d) (sym (lower d c ∙ ap (λ (x : Code). Some x) (same_code _ _ (omega (arith, low_min c d, low_min d c)))))
-least_rest (Some d) c (Some x) =
-    rw (lower c d, lower c x, lower (low c d) x, lower d (low c x))
+lower : (c d : Code) → lesser c (Some d) ≡ Some (low c d)
+lower c d = go (ltb d.0 c.0)
+  where
+    go : (t : Bool) → pick t (Some d) (Some c) ≡ Some (pick t d c)
+    go true = refl
+    go false = refl
+
+lesser_twice : (b c : Code) (r : Option Code) → lesser (lesser_of b c) r ≡ lesser b (lesser c r)
+lesser_twice b c None = sym (lower b c ∙ ap (λ (x : Code). Some x) (same_code _ _ (omega (arith, low_min b c, of_min b c))))
+lesser_twice b c (Some x) =
+    rw (lower c x, lower (lesser_of b c) x, lower b (low c x))
     (ap (λ (y : Code). Some y)
-    (same_code _ _ (omega (arith, low_min c d, low_min c x, low_min (low c d) x, low_min d (low c x)))))
+    (same_code _ _ (omega (arith, of_min b c, low_min c x, low_min (lesser_of b c) x, low_min b (low c x)))))
 
--- one entry of the rest
-pub rev_next : (xs : List Entry) (i : ℕ) (d : Entry) (el : AxisOrBtn) → i < length xs
-    → map_rev_of (drop i xs) el
-    ≡ pick (same_element (get_or xs i d).element el) (lesser (get_or xs i d).code (map_rev_of (drop (i + 1) xs) el))
-    (map_rev_of (drop (i + 1) xs) el)
+-- the codes of an element's entries
+abbrev pub codes_of : AxisOrBtn → List Entry → List Code
+codes_of el xs = map (λ (e : Entry). e.code) (filter (λ (e : Entry). same_element e.element el) xs)
+
+-- the least of them, one after the other
+least_from : (xs : List Entry) (el : AxisOrBtn) (b : Code) → Some (fold lesser_of b (codes_of el xs)) ≡ lesser b (map_rev_of xs el)
 unfolding map_rev_of
-rev_next xs i d el h = rw (drop-cons xs i d h, add-one)
+least_from [] el b = refl
+least_from (x ∷ xs) el b = go (same_element x.element el) (λ (c : Code). least_from xs el c)
+  where
+    go : (t : Bool) → ((c : Code) → Some (fold lesser_of c (codes_of el xs)) ≡ lesser c (map_rev_of xs el)) → Some (fold lesser_of b (map (λ (e : Entry). e.code) (cond t (x ∷ filter (λ (e : Entry). same_element e.element el) xs) (filter (λ (e : Entry). same_element e.element el) xs))))
+        ≡ lesser b (pick t (lesser x.code (map_rev_of xs el)) (map_rev_of xs el))
+    go true f = f (lesser_of b x.code) ∙ lesser_twice b x.code (map_rev_of xs el)
+    go false f = f b
 
-pub rev_done : (xs : List Entry) (i : ℕ) (el : AxisOrBtn) → length xs ≤ i → map_rev_of (drop i xs) el ≡ None
+pub least_all : (xs : List Entry) (el : AxisOrBtn) → reduce lesser_of (codes_of el xs) ≡ map_rev_of xs el
 unfolding map_rev_of
-rev_done xs i el h = rw (drop_of_length-le xs h)
-
-pub least-none : (b : Option Code) → least_of b None ≡ b
-least-none None = refl
-least-none (Some c) = refl
+least_all [] el = refl
+least_all (x ∷ xs) el = go (same_element x.element el) (least_all xs el)
+  where
+    go : (t : Bool) → reduce lesser_of (codes_of el xs) ≡ map_rev_of xs el → reduce lesser_of (map (λ (e : Entry). e.code) (cond t (x ∷ filter (λ (e : Entry). same_element e.element el) xs) (filter (λ (e : Entry). same_element e.element el) xs)))
+        ≡ pick t (lesser x.code (map_rev_of xs el)) (map_rev_of xs el)
+    go true e = least_from xs el x.code
+    go false e = e

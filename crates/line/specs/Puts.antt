@@ -24,11 +24,12 @@ unfoldable pub listed : List ℕ → ℕ → AxisOrBtn → Ranges → Puts
 listed codes n to ranges =
     pick (ltb n (length codes)) (One (ranged_entry (code_of (get_or codes n 0)) to ranges) 0) Nothing
 
--- "Hat 0: direction 0 nothing; 1, 4, 2, 8 give DPADY with DPAD_UP, DPADY with DPAD_DOWN, DPADX with DPAD_RIGHT, DPADX
--- with DPAD_LEFT; else 7"
+-- the two codes of a hat's direction, and its flag
 abbrev pub codes : Code → Code → ℕ → HatCodes
 codes axis button flag = record { axis = axis; button = button; flag = flag }
 
+-- "1, 4, 2, 8 give DPADY with DPAD_UP, DPADY with DPAD_DOWN, DPADX with DPAD_RIGHT, DPADX with DPAD_LEFT"; none for
+-- another direction
 unfoldable pub hat_codes : ℕ → Option HatCodes
 hat_codes d =
     pick (eqb d 1) (Some (codes axis_dpady (button_code (B.DPadUp).0) 1))
@@ -62,7 +63,7 @@ abbrev pub codes_puts : Option HatCodes → AxisOrBtn → Ranges → Puts
 codes_puts (Some c) to ranges = dpad_puts c.axis c.button to ranges c.flag
 codes_puts None to ranges = UnknownHatDirection
 
--- "Hat other than 0: nothing."
+-- "Hat other than 0: nothing. Hat 0: direction 0 nothing;" 1, 4, 2, 8 the puts of their codes; "else 7"
 unfoldable pub hat_puts : ℕ → ℕ → AxisOrBtn → Ranges → Puts
 hat_puts h d to ranges = pick (eqb h 0) (pick (eqb d 0) Nothing (codes_puts (hat_codes d) to ranges)) Nothing
 

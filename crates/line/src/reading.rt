@@ -6,7 +6,7 @@ ghost use Rattle.line.specs.Maps.{empty_map};
 ghost use Rattle.line.specs.Reading.{skips, put_one, put_all, taken, read_line, reading_of};
 ghost use Rattle.line.specs.Inner.{Turned};
 
-use crate::mapping::{Entry, MapFull, Mapping};
+use crate::mapping::{Entry, Mapping};
 use crate::parser::{Error, ErrorKind, State, Token, step};
 use crate::reading::puts::{Puts, puts_of};
 use text::utf8::valid_up_to;
@@ -155,8 +155,6 @@ fn put_all(map: &mut Mapping, puts: Puts, p: usize) -> Result<(), ParseSdlMappin
 fn put_one(map: &mut Mapping, e: Entry, p: usize) -> Result<(), ParseSdlMappingError>
     ensures { Turned (put_one map.old e p) result map.new }
 {
-    match map.put(e) {
-        Ok(()) => Ok(()),
-        Err(MapFull) => Err(ParseSdlMappingError::TooManyCodes { position: p }),
-    }
+    map.put(e)
+        .map_err(|_| ParseSdlMappingError::TooManyCodes { position: p })
 }

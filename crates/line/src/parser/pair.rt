@@ -99,55 +99,38 @@ fn mapped(
 ) -> Result<Token, Error>
     ensures { Some result ≡ mapped_of value output to p }
 {
-    match value {
-        Err(position) => Err(Error {
-            kind: ErrorKind::InvalidValue,
-            position,
-        }),
-        Ok(
-            Value::Axis {
-                from,
+    let refused = |kind| Error { kind, position: p };
+    let halved = Ranges {
+        output,
+        ..Ranges::FULL
+    };
+    match value.map_err(|position| Error {
+        kind: ErrorKind::InvalidValue,
+        position,
+    })? {
+        Value::Axis {
+            from,
+            input,
+            inverted,
+        } => Ok(Token::AxisMapping {
+            from,
+            to: to.ok_or(refused(ErrorKind::UnknownAxis))?,
+            ranges: Ranges {
                 input,
+                output,
                 inverted,
             },
-        ) => {
-            let to = to.ok_or(Error {
-                kind: ErrorKind::UnknownAxis,
-                position: p,
-            })?;
-            let ranges = Ranges {
-                input,
-                output,
-                inverted,
-            };
-            Ok(Token::AxisMapping { from, to, ranges })
-        }
-        Ok(Value::Button { from }) => {
-            let to = to.ok_or(Error {
-                kind: ErrorKind::UnknownButton,
-                position: p,
-            })?;
-            let ranges = Ranges {
-                output,
-                ..Ranges::FULL
-            };
-            Ok(Token::ButtonMapping { from, to, ranges })
-        }
-        Ok(Value::Hat { hat, direction }) => {
-            let to = to.ok_or(Error {
-                kind: ErrorKind::UnknownButton,
-                position: p,
-            })?;
-            let ranges = Ranges {
-                output,
-                ..Ranges::FULL
-            };
-            Ok(Token::HatMapping {
-                hat,
-                direction,
-                to,
-                ranges,
-            })
-        }
+        }),
+        Value::Button { from } => Ok(Token::ButtonMapping {
+            from,
+            to: to.ok_or(refused(ErrorKind::UnknownButton))?,
+            ranges: halved,
+        }),
+        Value::Hat { hat, direction } => Ok(Token::HatMapping {
+            hat,
+            direction,
+            to: to.ok_or(refused(ErrorKind::UnknownButton))?,
+            ranges: halved,
+        }),
     }
 }

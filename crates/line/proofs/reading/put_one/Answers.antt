@@ -1,11 +1,7 @@
-use mathlib.Core.Path.{refl}
+use Rattle.std.proofs.Common.{rules, tests}
 use Rattle.line.specs.Reading.{put_one}
 use Rattle.line.proofs.reading.put_one.Goals as goal
 
-pub returns-in-Ok : goal.returns-in-Ok
+pub returns : goal.returns
 unfolding put_one
-returns-in-Ok c = rw (← c.put.ensures.1, ← c.put.ensures.0, c.in-Ok.is) refl
-
-pub returns-in-Err : goal.returns-in-Err
-unfolding put_one
-returns-in-Err c = rw (← c.put.ensures.0, c.in-Err.is) refl
+returns c = rw (← c.put.ensures.1, ← c.put.ensures.0) search (rules, tests)
