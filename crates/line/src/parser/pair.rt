@@ -99,7 +99,7 @@ fn mapped(
 ) -> Result<Token, Error>
     ensures { Some result ≡ mapped_of value output to p }
 {
-    let refused = |kind| Error { kind, position: p };
+    let refusal = |kind| Error { kind, position: p };
     let halved = Ranges {
         output,
         ..Ranges::FULL
@@ -114,7 +114,7 @@ fn mapped(
             inverted,
         } => Ok(Token::AxisMapping {
             from,
-            to: to.ok_or(refused(ErrorKind::UnknownAxis))?,
+            to: to.ok_or(refusal(ErrorKind::UnknownAxis))?,
             ranges: Ranges {
                 input,
                 output,
@@ -123,13 +123,13 @@ fn mapped(
         }),
         Value::Button { from } => Ok(Token::ButtonMapping {
             from,
-            to: to.ok_or(refused(ErrorKind::UnknownButton))?,
+            to: to.ok_or(refusal(ErrorKind::UnknownButton))?,
             ranges: halved,
         }),
         Value::Hat { hat, direction } => Ok(Token::HatMapping {
             hat,
             direction,
-            to: to.ok_or(refused(ErrorKind::UnknownButton))?,
+            to: to.ok_or(refusal(ErrorKind::UnknownButton))?,
             ranges: halved,
         }),
     }
