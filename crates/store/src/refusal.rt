@@ -78,15 +78,11 @@ pub fn save_outcome(answer: Result<(), SaveError>) -> Result<(), Refusal>
     answer.map_err(|refused| refused.refusal())
 }
 
-// The answer of a look-up: whether a line is held. A match, here and below: wrong programs in must-fail change a single
-// arm, each by one line.
+// The answer of a look-up: whether a line is held.
 pub fn look_outcome(answer: Result<bool, LookError>) -> Result<bool, Refusal>
     ensures { result ≡ look_outcome answer }
 {
-    match answer {
-        Ok(held) => Ok(held),
-        Err(error) => Err(error.refusal()),
-    }
+    answer.map_err(|looked| looked.refusal())
 }
 
 // The answer of a look-up that also takes a UUID without its checksum; exact, near and none are told by the answer
@@ -94,18 +90,12 @@ pub fn look_outcome(answer: Result<bool, LookError>) -> Result<bool, Refusal>
 pub fn near_outcome(answer: Result<Option<Nearness>, LookError>) -> Result<(), Refusal>
     ensures { result ≡ near_outcome answer }
 {
-    match answer {
-        Ok(_) => Ok(()),
-        Err(looked) => Err(looked.refusal()),
-    }
+    answer.map(|_| ()).map_err(|tried| tried.refusal())
 }
 
 // The answer of the call that tells a party's share; what is told stands in the answer itself.
 pub fn told_outcome(answer: Result<ShareUse, Unsound>) -> Result<(), Refusal>
     ensures { result ≡ told_outcome answer }
 {
-    match answer {
-        Ok(_told) => Ok(()),
-        Err(unsound) => Err(unsound.refusal()),
-    }
+    answer.map(|_| ()).map_err(|unsound| unsound.refusal())
 }
