@@ -80,11 +80,7 @@ pub enum LookError {
 pub fn found(index: &[u8], text: &[u8], party: Party, uuid: Uuid) -> Result<bool, LookError>
     ensures { result ≡ says_of (look_up party uuid index.now text.now) }
 {
-    match look(index, text, party, uuid) {
-        Ok(Some(_)) => Ok(true),
-        Ok(None) => Ok(false),
-        Err(e) => Err(e),
-    }
+    Ok(look(index, text, party, uuid)?.is_some())
 }
 
 // The line that a party holds under a UUID, as a part of the text; an empty part where it holds none, the store is not
@@ -92,10 +88,8 @@ pub fn found(index: &[u8], text: &[u8], party: Party, uuid: Uuid) -> Result<bool
 pub fn get<'a>(index: &[u8], text: &'a [u8], party: Party, uuid: Uuid) -> &'a [u8]
     ensures { result.now ≡ line_of (look_up party uuid index.now text.now) }
 {
-    match look(index, text, party, uuid) {
-        Ok(part) => line_at(text, part),
-        Err(_) => line_at(text, None),
-    }
+    let part = look(index, text, party, uuid).ok().flatten();
+    line_at(text, part)
 }
 
 // Sets every byte of both buffers to 0, whether the store was sound or not.

@@ -33,11 +33,7 @@ pub fn file_line(
         index.new text.new }
 {
     let len = line.len();
-    match file_row(index, text, table, fill, dues, key, 0, len) {
-        Ok(filled) => {
-            settle(index, text, line, &table.rows, fill, filled.count);
-            Ok(())
-        }
-        Err(full) => Err(full),
-    }
+    let filled = file_row(index, text, table, fill, dues, key, 0, len)?;
+    settle(index, text, line, &table.rows, fill, filled.count);
+    Ok(())
 }

@@ -87,9 +87,9 @@ pub fn found_near(
 pub fn get_near<'a>(index: &[u8], text: &'a [u8], party: Party, uuid: Uuid) -> &'a [u8]
     ensures { result.now ≡ near_line (near_up party uuid index.now text.now) }
 {
-    match look_near(index, text, party, uuid) {
-        Ok(Some((_, part))) => line_at(text, Some(part)),
-        Ok(None) => line_at(text, None),
-        Err(_) => line_at(text, None),
-    }
+    let part = look_near(index, text, party, uuid)
+        .ok()
+        .flatten()
+        .map(|(_, part)| part);
+    line_at(text, part)
 }

@@ -1,4 +1,6 @@
 -- One line, filed by number as an insert does it.
+use Rattle.std.specs.Prelude.{Err}
+use Rattle.std.proofs.Common.{◌≡◌, rules}
 use native.Mathlib.Omega.{arith}
 use Rattle.store.proofs.LoadLaws.{loads_extend}
 use Rattle.store.proofs.OneLaws.{one_files, one_full, one_settles, one_filed}
@@ -21,27 +23,29 @@ settle-requires c =
       extends = loads_extend args.index.now args.text.now _ _ _ args.fill pre.loads.0;
       settles = one_settles args.dues args.index.now args.text.now args.line.now _ _ _ args.fill
           pre.loads.0 args.key pre.in_bounds.0 pre.in_bounds.1 _ _ _ filed.result filed.ensures
-          _ c.in-Ok.is
+          _ c.in_ok-filled.was
           pre.text_value pre.some_dues;
     }
 
-pub returns-in-Ok : goal.returns-in-Ok
-returns-in-Ok c =
+pub returns : goal.returns
+returns c =
     let args = c.args in
     let pre = c.requires in
     let filed = c.file_row in
     let settled = c.settle in
     one_filed args.dues args.index.now args.text.now args.line.now _ _ _ args.fill
     pre.loads.0 args.key pre.in_bounds.0 pre.in_bounds.1 _ _ _ filed.result filed.ensures
-    _ c.in-Ok.is _ _
+    _ c.in_ok-filled.was _ _
     settled.ensures
 
-pub returns-in-Err : goal.returns-in-Err
-returns-in-Err c =
+pub returns-in_err-filled : goal.returns-in_err-filled
+returns-in_err-filled c =
     let args = c.args in
     let pre = c.requires in
     let filed = c.file_row in
-    one_full args.dues args.index.now args.text.now args.line.now _ _ _ args.fill
+    let passed : c.from_residual.result ≡ Err c.in_err-filled.field-0.0 = search rules in
+    rw passed
+    (one_full args.dues args.index.now args.text.now args.line.now _ _ _ args.fill
     pre.loads.0 args.key pre.in_bounds.0 pre.in_bounds.1 _ _ _ filed.result filed.ensures _
-    c.in-Err.is
-    (λ k. omega (arith, c.slice_known-1.given k))
+    c.in_err-filled.was
+    (λ k. omega (arith, c.slice_known-1.given k)))
