@@ -18,7 +18,7 @@ use Rattle.map.specs.declared.from_data.filled.Pairs.{Pairs}
 use Rattle.map.specs.declared.from_data.filled.Placed.{Placed}
 use Rattle.map.specs.declared.mapping_data.MappingData.{MappingData}
 use Rattle.map.specs.Build.{filled_buttons, filled_axes, name_start_of, built_view, built_map}
-use Rattle.map.specs.Inner.{held_in, placed_in, Gathered, put_map_of}
+use Rattle.map.specs.Inner.{placed_in, Gathered, put_map_of}
 
 -- as many as before and one for each at most
 pub puts_few : (es zs : List Entry) → length (puts_into es zs) ≤ length zs + length es
@@ -67,8 +67,8 @@ as_many ys fs h =
     sym (length-map ys entry_in) ∙ ap (λ (l : List Entry). length l) h ∙ length-map fs (λ s. s.entry)
 
 -- the map of those numbers is that of the pairs
-pub map_written : (p : Pairs) (fs ls : List Placed) (xs ys zs : List ℕ) (k len : ℕ) → fs ≡ held_in p.buttons
-    → ls ≡ held_in p.axes → length fs + length ls ≤ length xs → length xs ≤ codes_max
+pub map_written : (p : Pairs) (fs ls : List Placed) (xs ys zs : List ℕ) (k len : ℕ) → fs ≡ p.buttons.items
+    → ls ≡ p.axes.items → length fs + length ls ≤ length xs → length xs ≤ codes_max
     → map entry_in ys ≡ map (λ s. s.entry) fs → map entry_in zs ≡ map (λ s. s.entry) ls
     → to_map (puts_view (take (length fs + length ls) (put_mid (length fs) k (put_mid 0 (length fs) xs ys) zs)) name_start_of len)
     ≡ put_map_of p len
@@ -76,7 +76,7 @@ unfolding put_map_of puts_view
 map_written p fs ls xs ys zs k len b a h c s t =
     let e : length ys ≡ length fs = as_many ys fs s in
     let f : length zs ≡ length ls = as_many zs ls t in
-    let w : map entry_in (ys ++ zs) ≡ map (λ s. s.entry) (held_in p.buttons) ++ map (λ s. s.entry) (held_in p.axes) =
+    let w : map entry_in (ys ++ zs) ≡ map (λ s. s.entry) p.buttons.items ++ map (λ s. s.entry) p.axes.items =
     map-append entry_in ys zs ∙ rw (s, t, b, a) in
     let few : length (map entry_in (ys ++ zs)) ≤ codes_max = simp (length-map, length-append) (omega arith) in
     rw (both_written xs ys zs (length fs) k (length ls) e f h, take_all codes_max (map entry_in (ys ++ zs)) few, w)
