@@ -8,7 +8,7 @@ ghost use Rattle.line.specs.Maps as specs;
 
 use crate::events::{Events, Raw};
 use crate::put::put_code;
-use crate::telling::{change_event, differences, events_of, no_events};
+use crate::telling::{change_event, differences, events_of};
 use crate::values::{all_values, value_of};
 use line::ev::{AxisOrBtn, Code};
 use line::mapping::{CODES_MAX, Mapping};
@@ -79,7 +79,7 @@ impl Pad {
             Err(e) => Told {
                 answer: Err(e),
                 pad,
-                events: no_events(),
+                events: Events::none(),
             },
         }
     }
