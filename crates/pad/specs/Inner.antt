@@ -13,7 +13,6 @@ use Rattle.line.specs.Numbers.{code_unit, entry_in}
 use Rattle.pad.specs.declared.events.Held.{Held}
 use Rattle.pad.specs.declared.events.Event.{Event}
 use Rattle.pad.specs.declared.choice.Best.{Best}
-use Rattle.pad.specs.declared.own.Own.{Own}
 use Rattle.pad.specs.declared.state.Pad.{Pad}
 use Rattle.pad.specs.declared.state.Told.{Told}
 use Rattle.pad.specs.declared.two.Pads.{Pads}
@@ -89,10 +88,6 @@ unfoldable pub own_from : AxisOrBtn → List ℕ → List ℕ → List ℕ
 own_from el seen [] = []
 own_from el seen (x ∷ xs) =
     pick (counted el seen x) (x ∷ own_from el (seen ++ x ∷ []) xs) (own_from el (seen ++ x ∷ []) xs)
-
--- those that the program has gathered
-abbrev pub own_numbers : Own → List ℕ
-own_numbers o = take o.count o.list
 
 -- from hs to ks no element but el takes another value
 abbrev pub OnlyOf : List Held → List Held → List Entry → AxisOrBtn → Type 0
