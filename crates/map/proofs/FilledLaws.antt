@@ -60,9 +60,6 @@ module _ (codes : List ℕ) (kind : Kind) (slots : List (Option Code)) where
     pub are : f ++ placed_in codes (filled_after kind slots i) ≡ placed_in codes (filled_after kind slots 0)
     pub listed : missing_of (filled_after kind slots i) codes ≡ missing_of (filled_after kind slots 0) codes
 
-  pub gather_none : Gathering 0 []
-  gather_none = record { few = omega arith; are = refl; listed = refl }
-
   module _ (i : ℕ) (h : i < length slots) where
     after_next : filled_after kind slots i
         ≡ also (get_or slots i empty_slot) (element_of kind i) (filled_after kind slots (i + 1))

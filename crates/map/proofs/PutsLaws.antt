@@ -1,12 +1,11 @@
 -- Laws of entries that are put one after the other, as entries and as numbers.
 -- Assumes nothing.
-use Prim.Native.Nat.{ℕ, ◌+◌, ◌<◌, ◌≤◌}
+use Prim.Native.Nat.{ℕ, ◌+◌, ◌≤◌}
 use mathlib.Core.Path.{◌≡◌, refl, sym, ap, ◌∙◌}
 use mathlib.Core.List.{List, [], ◌∷◌, ◌++◌, map, map-append}
 use native.Mathlib.Omega.{arith}
-use native.Mathlib.Numerals.{add-one}
-use lib.ListN.{length, take, get_or, set, length-take, length-append, length-map}
-use lib.Seq.{take_all, take-suc, take-suc-set}
+use lib.ListN.{length, take, length-take, length-append, length-map}
+use lib.Seq.{take_all}
 use Rattle.std.proofs.lemmas.Slice.{take-put_mid}
 use borrow.Rule.Slice.PartMut.{put_mid}
 use Rattle.line.specs.declared.mapping.Entry.{Entry}
@@ -42,17 +41,6 @@ built_ascending d name = puts_ascending (filled_buttons d ++ filled_axes d) [] n
 -- ---- slots as numbers, the first i of which are written
 abbrev pub Written : List Placed → ℕ → List ℕ → Type 0
 Written ss i ys = map entry_in (take i ys) ≡ map (λ s. s.entry) (take i ss)
-
-pub write_turn : (ss : List Placed) (i : ℕ) (ys : List ℕ) (d : Placed) (x : ℕ) → i < length ss → i < length ys
-    → entry_in x ≡ (get_or ss i d).entry → Written ss i ys → Written ss (i + 1) (set ys i x)
-write_turn ss i ys d x h k e p =
-    rw (add-one, take-suc-set ys i x k, take-suc ss i d h, map-append, map-append, p, e)
-
-pub write_end : (ss : List Placed) (i : ℕ) (ys : List ℕ) → length ss ≤ i → length ys ≡ length ss → Written ss i ys
-    → map entry_in ys ≡ map (λ s. s.entry) ss
-write_end ss i ys h k p =
-    sym (ap (λ (l : List ℕ). map entry_in l) (take_all i ys (omega arith)))
-    ∙ p ∙ ap (λ (l : List Placed). map (λ s. s.entry) l) (take_all i ss h)
 
 -- those of the buttons, and behind them those of the axes
 both_written : (xs ys zs : List ℕ) (n k m : ℕ) → length ys ≡ n → length zs ≡ m → n + m ≤ length xs

@@ -8,7 +8,7 @@ use native.Mathlib.Omega.{arith}
 use native.Mathlib.Numerals.{add-one}
 use lib.ListN.{length, take, drop, get_or, set, replicate, length-map, length-append, get_or-map}
 use lib.ListN.{drop_of_length-le, length-replicate}
-use lib.Seq.{drop-cons, take-suc-set, take_all}
+use lib.Seq.{drop-cons, take-suc-set}
 use lib.IntN.{ℤ}
 use Rattle.line.specs.declared.mapping.Entry.{Entry}
 use Rattle.line.specs.Numbers.{entry_number}
@@ -42,10 +42,6 @@ filled_more f k x out h l e =
     rw (add-one k) (take-suc-set out k x l)
     ∙ ap (λ (vs : List ℤ). vs ++ x ∷ []) h
     ∙ ap (λ (v : ℤ). tabulate f k 0 ++ v ∷ []) (e ∙ ap f (sym q)) ∙ sym z
-
-pub all_filled : (f : ℕ → ℤ) (k : ℕ) (out : List ℤ) → length out ≡ 27 → k ≡ 27 → Filled f k out → out ≡ tabulate f 27 0
-all_filled f k out l e h =
-    sym (take_all 27 out (omega arith)) ∙ ap (λ (j : ℕ). take j out) (sym e) ∙ h ∙ ap (λ (j : ℕ). tabulate f j 0) e
 
 -- ---- events, one after the other
 pub events_many : (es : List Event) (e : Events) → e ≡ events_in es → e.count ≡ length es

@@ -224,9 +224,6 @@ module _ (el : AxisOrBtn) (es : List ℕ) where
     pub few : length own ≤ j
     pub are : own ++ own_from el (take j es) (drop j es) ≡ own_from el [] es
 
-  pub gathered_none : Gathering 0 []
-  gathered_none = record { few = omega arith; are = refl }
-
   module _ (j : ℕ) (own : List ℕ) (h : Gathering j own) (lt : j < length es) (d : ℕ) where
     step : own_from el (take j es) (drop j es) ≡ own_from el (take j es) (get_or es j d ∷ drop (j + 1) es)
     step = rw (drop-cons es j d lt, add-one)

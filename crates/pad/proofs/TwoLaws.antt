@@ -1,12 +1,12 @@
 -- What becomes of a pad's events when another one plays along. Assumes nothing.
 use Rattle.std.specs.Prelude.{Option, Some, None, Ok, Err}
-use Prim.Native.Nat.{ℕ, zero, suc, ◌+◌, ◌-◌, ◌<◌, ◌≤◌}
+use Prim.Native.Nat.{ℕ, zero, suc, ◌+◌, ◌<◌, ◌≤◌}
 use mathlib.Core.Path.{◌≡◌, refl, sym, ap, subst, ◌∙◌}
 use mathlib.Core.Bool.{Bool, true, false}
 use mathlib.Core.List.{List, [], ◌∷◌, ◌++◌, append_assoc, append-nil}
 use native.Mathlib.Omega.{arith}
 use native.Mathlib.Numerals.{add-one}
-use lib.ListN.{length, drop, get_or, replicate, drop_of_length-le, length-append, length-replicate}
+use lib.ListN.{length, drop, get_or, drop_of_length-le, length-append}
 use lib.Seq.{drop-cons}
 use lib.Dec.{leb}
 use lib.IntN.{ℤ}
@@ -21,7 +21,7 @@ use Rattle.pad.specs.declared.state.Pad.{Pad}
 use Rattle.pad.specs.declared.state.Told.{Told}
 use Rattle.pad.specs.Pads.{held_max, element_at, tabulate, value_of, sameℤ, changes}
 use Rattle.pad.specs.States.{held_of, entries_of, pad_values, pad_value, events_in, told_of, with_held, held_after_event}
-use Rattle.pad.specs.States.{unused_event, refused_of, raw_event_of, change_map_of}
+use Rattle.pad.specs.States.{refused_of, raw_event_of, change_map_of}
 use Rattle.pad.specs.PadGuarantee.{told_events}
 use Rattle.pad.specs.declared.telling.Change.{Change}
 use Rattle.pad.specs.declared.two.Pads.{Pads}
@@ -194,18 +194,6 @@ tells_few p t h =
     let n : length (pad_values p) ≡ 27 = tabulated (λ k. value_of (held_of p) (entries_of p) (element_at k)) 27 0 in
     omega (arith, e, l, n)
 
-pub tells_long : (p : Pad) (t : Told) → TellsItself p t → length t.events.list ≡ 27
-unfolding events_in
-tells_long p t h =
-    let es : List Event = changes 0 (pad_values p) (pad_values t.pad) in
-    let l = changes_few 0 (pad_values p) (pad_values t.pad) in
-    let n : length (pad_values p) ≡ 27 = tabulated (λ k. value_of (held_of p) (entries_of p) (element_at k)) 27 0 in
-    let a : length (es ++ replicate (27 - length es) unused_event) ≡ length es + (27 - length es) =
-    length-append es (replicate (27 - length es) unused_event)
-    ∙ ap (λ (k : ℕ). length es + k) (length-replicate (27 - length es) unused_event) in
-    let total : length es + (27 - length es) ≡ 27 = omega (arith, l, n) in
-    ap (λ (w : Events). length w.list) h ∙ a ∙ total
-
 told_is : (p : Pad) (t : Told) → TellsItself p t → told_events t.events ≡ changes 0 (pad_values p) (pad_values t.pad)
 told_is p t h =
     ap (λ (w : Events). told_events w) h ∙ told_back (changes 0 (pad_values p) (pad_values t.pad))
@@ -296,11 +284,6 @@ pub map_few : (p : Pad) (m : Mapping) (t : Told) → t ≡ change_map_of p m →
 map_few p m t e = tells_few p t (rw e (map_tells p m))
 
 -- ---- the loop over a pad's events
-pub refining_none : (leads : Which) (p q : Pad) (es : List Event) (events : Events) → events ≡ events_in []
-    → Refining leads p q es events 0
-refining_none leads p q es events e =
-    record { within = omega arith; out = []; are = e; few = omega arith; told = refl }
-
 module _ (leads : Which) (p q : Pad) (es : List Event) (events : Events) (i : ℕ) (d : Event)
     (h : Refining leads p q es events i) (lt : i < length es) where
   next : refined leads p q (drop i es)

@@ -1,14 +1,8 @@
 -- Each entry counts or is passed. Assumes nothing.
 use Rattle.std.proofs.Common.{arith, sym, ◌∙◌}
-use Rattle.pad.proofs.OwnLaws.{gathered_none, gathered_passed, gathered_taken, gathered_all}
+use Rattle.pad.proofs.OwnLaws.{gathered_passed, gathered_taken, gathered_all}
 use Rattle.pad.proofs.choice.own_entries.Goals as goal
 use Rattle.pad.proofs.choice.own_entries.Goals.{then-counts_for, else-counts_for}
-
-pub loop-j-init : goal.loop-j-init
-loop-j-init c = rw c.new-own.ensures (gathered_none c.args.el c.args.entries.now)
-
-pub push-requires : goal.push-requires
-push-requires c = omega (arith, c.loop-j.invariant.few, c.requires)
 
 pub loop-j-preserved : goal.loop-j-preserved
 loop-j-preserved c =

@@ -7,12 +7,9 @@ use mir.ValLaws.{to_z-of_z}
 use Rattle.line.specs.declared.ev.AxisOrBtn.{AxisOrBtn}
 use Rattle.pad.specs.Pads.{element_at}
 use Rattle.pad.specs.Inner.{one_event}
-use Rattle.pad.proofs.ListLaws.{none-listed, listed_same, listed_other, all_listed, events_many}
+use Rattle.pad.proofs.ListLaws.{listed_same, listed_other, all_listed, events_many}
 use Rattle.pad.proofs.telling.differences.Goals as goal
 use Rattle.pad.proofs.telling.differences.Goals.{then-before-k, else-before-k}
-
-pub loop-k-init : goal.loop-k-init
-loop-k-init c = none-listed c.args.before.now c.args.after.now _ c.none-events.ensures
 
 pub push-requires : goal.push-requires
 push-requires c = omega (arith, c.loop-k.invariant.few, events_many _ _ c.loop-k.invariant.are)

@@ -7,14 +7,10 @@ use mir.ValLaws.{to_z-of_z}
 use Rattle.pad.specs.declared.events.Event.{Event}
 use Rattle.pad.specs.States.{unused_event}
 use Rattle.pad.specs.PadGuarantee.{told_events}
-use Rattle.pad.proofs.TwoLaws.{joined_is, refining_none, refining_passed, refining_taken, refining_all}
+use Rattle.pad.proofs.TwoLaws.{joined_is, refining_passed, refining_taken, refining_all}
 use Rattle.pad.proofs.ListLaws.{events_many}
 use Rattle.pad.proofs.two.joined_events.Goals as goal
 use Rattle.pad.proofs.two.joined_events.Goals.{in-Some, in_default}
-
-pub loop-e-init : goal.loop-e-init
-loop-e-init c =
-    refining_none c.args.which c.args.own.now c.args.beside.now (told_events c.args.told) _ c.none-events.ensures
 
 pub push-requires : goal.push-requires
 push-requires c =
