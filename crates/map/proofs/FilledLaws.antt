@@ -1,6 +1,6 @@
 -- Laws of the filled slots: how they are gathered, slot after slot, and how many there are.
 -- Assumes nothing.
-use Rattle.std.proofs.Common.{ℕ, zero, suc, ◌+◌, ◌-◌, ◌<◌, ◌≤◌, ◌≡◌, Bool, true, false, cond, Option, Some, None, List, [], ◌∷◌, ◌++◌, length, get_or, eqb, ltb, refl, sym, ◌∙◌, append_assoc, append-nil, add-one, arith, lt-ltb, position, is_some}
+use Rattle.std.proofs.Common.{ℕ, zero, suc, ◌+◌, ◌-◌, ◌<◌, ◌≤◌, ◌≡◌, Bool, true, false, cond, Option, Some, None, List, [], ◌∷◌, ◌++◌, length, get_or, eqb, ltb, refl, sym, ◌∙◌, append_assoc, append-nil, length-append, add-one, arith, lt-ltb, position, is_some}
 use Rattle.std.specs.List.{position_or_len}
 use Rattle.std.proofs.lemmas.List.Recursion.{is_position_or_len}
 use Rattle.text.specs.Bytes.{pick, first_of}
@@ -9,14 +9,14 @@ use Rattle.line.specs.declared.ev.AxisOrBtn.{AxisOrBtn}
 use Rattle.line.specs.declared.mapping.Entry.{Entry}
 use Rattle.line.specs.Maps.{entry_of}
 use Rattle.line.specs.Tables.{as_button, as_axis}
-use Rattle.map.specs.declared.from_data.filled.Filled.{Filled}
+use Rattle.map.specs.declared.from_data.filled.Placed.{Placed}
 use Rattle.map.specs.declared.from_data.gather.Kind.{Kind}
 use Rattle.map.specs.declared.from_data.gather.Kind.TheVariants as Kd
 use Rattle.map.specs.declared.mapping_data.MappingData.{MappingData}
 use Rattle.map.specs.Slots.{button_slots, axis_slots, empty_slot, button_of, axis_of}
 use Rattle.map.specs.Build.{also, filled_from, filled_buttons, filled_axes, missing_of}
 use Rattle.map.specs.Lists.{place_of, in_list}
-use Rattle.map.specs.Inner.{held_in, placed_at, placed_in, element_of, filled_after}
+use Rattle.map.specs.Inner.{placed_at, placed_in, element_of, filled_after}
 
 -- ---- a code's first place
 place_turn : (t : Bool) (n : ℕ) → pick t 0 (suc n) ≡ cond t 0 (1 + n)
@@ -55,13 +55,10 @@ module _ (c : Code) (codes : List ℕ) where
 
 -- ---- slots of one kind, of which those before i are gathered
 module _ (codes : List ℕ) (kind : Kind) (slots : List (Option Code)) where
-  pub record Gathering (i : ℕ) (f : Filled) : Type 0 where
-    pub few : f.count ≤ i
-    pub are : held_in f ++ placed_in codes (filled_after kind slots i) ≡ placed_in codes (filled_after kind slots 0)
+  pub record Gathering (i : ℕ) (f : List Placed) : Type 0 where
+    pub few : length f ≤ i
+    pub are : f ++ placed_in codes (filled_after kind slots i) ≡ placed_in codes (filled_after kind slots 0)
     pub listed : missing_of (filled_after kind slots i) codes ≡ missing_of (filled_after kind slots 0) codes
-
-  pub gather_none : (f : Filled) → f.count ≡ 0 → held_in f ≡ [] → Gathering 0 f
-  gather_none f z e = record { few = omega arith; are = rw e; listed = refl }
 
   module _ (i : ℕ) (h : i < length slots) where
     after_next : filled_after kind slots i
@@ -71,7 +68,7 @@ module _ (codes : List ℕ) (kind : Kind) (slots : List (Option Code)) where
         let e : length slots - i ≡ suc (length slots - (i + 1)) = omega arith in
         rw (e, add-one)
 
-    module _ (f : Filled) (p : Gathering i f) where
+    module _ (f : List Placed) (p : Gathering i f) where
       pub gather_empty : get_or slots i empty_slot ≡ None → Gathering (i + 1) f
       gather_empty q =
           let n : filled_after kind slots i ≡ filled_after kind slots (i + 1) = after_next ∙ rw q in
@@ -82,14 +79,13 @@ module _ (codes : List ℕ) (kind : Kind) (slots : List (Option Code)) where
         one_more = after_next ∙ rw q
 
         pub gather_filled : (k : ℕ) → position (λ x. eqb x c.0) codes ≡ Some k → (x : Entry)
-            → x ≡ entry_of c (element_of kind i) → (g : Filled)
-            → held_in g ≡ held_in f ++ record { entry = x; place = k } ∷ [] → g.count ≡ f.count + 1 → Gathering (i + 1) g
+            → x ≡ entry_of c (element_of kind i) → Gathering (i + 1) (f ++ record { entry = x; place = k } ∷ [])
         unfolding missing_of
-        gather_filled k s x y g e m =
+        gather_filled k s x y =
             let at = found c codes k s in
             record {
-              few = omega (arith, p.few);
-              are = rw (e, y, sym at.0) (append_assoc (held_in f) (placed_at codes (entry_of c (element_of kind i)) ∷ [])
+              few = simp length-append (omega (arith, p.few));
+              are = rw (y, sym at.0) (append_assoc f (placed_at codes (entry_of c (element_of kind i)) ∷ [])
                   (placed_in codes (filled_after kind slots (i + 1))) ∙ (rw one_more at p.are));
               listed = rw at.1 at (rw one_more at p.listed);
             }
@@ -98,13 +94,13 @@ module _ (codes : List ℕ) (kind : Kind) (slots : List (Option Code)) where
         unfolding missing_of
         gather_missing s = sym p.listed ∙ rw (one_more, not_found c codes s)
 
-  pub gather_end : (i : ℕ) (f : Filled) → length slots ≤ i → Gathering i f
+  pub gather_end : (i : ℕ) (f : List Placed) → length slots ≤ i → Gathering i f
       → (missing_of (filled_after kind slots 0) codes ≡ None)
-      × (held_in f ≡ placed_in codes (filled_after kind slots 0))
+      × (f ≡ placed_in codes (filled_after kind slots 0))
   unfolding filled_from missing_of
   gather_end i f h p =
       let e : length slots - i ≡ 0 = omega arith in
-      (sym p.listed ∙ rw e, sym (append-nil (held_in f)) ∙ (rw e at p.are))
+      (sym p.listed ∙ rw e, sym (append-nil f) ∙ (rw e at p.are))
 
 -- ---- the slots of a mapping are those
 same_filled : (f g : ℕ → Option Code) (to : ℕ → AxisOrBtn) (m n k : ℕ) → k + n ≤ m → ((i : ℕ) → i < m → f i ≡ g i)

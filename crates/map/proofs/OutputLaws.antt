@@ -51,19 +51,10 @@ module _ (l : List ℕ) (at : ℕ) (xs ys zs : List ℕ) (h : Room l at ((xs ++ 
   two_fit : Room l at (xs ++ ys)
   two_fit = omega (arith, length-append (xs ++ ys) zs)
 
-  pub room_first : Room l at xs
-  room_first = omega (arith, two_fit, length-append xs ys)
-
   module _ (n : ℕ) (m : List ℕ) (p : Put l at xs n m) where
-    pub room_second : Room m n ys
-    room_second = put_room l at xs n m p ys two_fit
-
     module _ (r : ℕ) (k : List ℕ) (q : Put m n ys r k) where
       two_put : Put l at (xs ++ ys) r k
       two_put = put_then l at xs n m p ys two_fit r k q
-
-      pub room_third : Room k r zs
-      room_third = put_room l at (xs ++ ys) r k two_put zs h
 
       pub three_put : (s : ℕ) (o : List ℕ) → Put k r zs s o → Put l at ((xs ++ ys) ++ zs) s o
       three_put s o t = put_then l at (xs ++ ys) r k two_put zs h s o t
@@ -86,9 +77,6 @@ module _ (letter : ℕ) where
   -- the pairs of ss, of which the first i are put
   module _ (ss : List Placed) (l : List ℕ) (at : ℕ) (room : at + length (pairs_of letter ss) ≤ length l) (i n : ℕ)
       (m : List ℕ) (p : Put l at (pairs_of letter (take i ss)) n m) where
-    pub pairs_length_lem : length m ≡ length l
-    pairs_length_lem = put_length l at (pairs_of letter (take i ss)) n m p (omega (arith, pairs_part ss i))
-
     module _ (d : Placed) (h : i < length ss) where
       next_pair : pairs_of letter (take (i + 1) ss) ≡ pairs_of letter (take i ss) ++ pair_of letter (get_or ss i d)
       unfolding pairs_of

@@ -1,12 +1,11 @@
 -- Laws of entries that are put one after the other, as entries and as numbers.
 -- Assumes nothing.
-use Prim.Native.Nat.{ℕ, ◌+◌, ◌<◌, ◌≤◌}
+use Prim.Native.Nat.{ℕ, ◌+◌, ◌≤◌}
 use mathlib.Core.Path.{◌≡◌, refl, sym, ap, ◌∙◌}
 use mathlib.Core.List.{List, [], ◌∷◌, ◌++◌, map, map-append}
 use native.Mathlib.Omega.{arith}
-use native.Mathlib.Numerals.{add-one}
-use lib.ListN.{length, take, get_or, set, length-take, length-append, length-map}
-use lib.Seq.{take_all, take-suc, take-suc-set}
+use lib.ListN.{length, take, length-take, length-append, length-map}
+use lib.Seq.{take_all}
 use Rattle.std.proofs.lemmas.Slice.{take-put_mid}
 use borrow.Rule.Slice.PartMut.{put_mid}
 use Rattle.line.specs.declared.mapping.Entry.{Entry}
@@ -18,7 +17,7 @@ use Rattle.map.specs.declared.from_data.filled.Pairs.{Pairs}
 use Rattle.map.specs.declared.from_data.filled.Placed.{Placed}
 use Rattle.map.specs.declared.mapping_data.MappingData.{MappingData}
 use Rattle.map.specs.Build.{filled_buttons, filled_axes, name_start_of, built_view, built_map}
-use Rattle.map.specs.Inner.{held_in, placed_in, Gathered, put_map_of}
+use Rattle.map.specs.Inner.{placed_in, Gathered, put_map_of}
 
 -- as many as before and one for each at most
 pub puts_few : (es zs : List Entry) → length (puts_into es zs) ≤ length zs + length es
@@ -43,17 +42,6 @@ built_ascending d name = puts_ascending (filled_buttons d ++ filled_axes d) [] n
 abbrev pub Written : List Placed → ℕ → List ℕ → Type 0
 Written ss i ys = map entry_in (take i ys) ≡ map (λ s. s.entry) (take i ss)
 
-pub write_turn : (ss : List Placed) (i : ℕ) (ys : List ℕ) (d : Placed) (x : ℕ) → i < length ss → i < length ys
-    → entry_in x ≡ (get_or ss i d).entry → Written ss i ys → Written ss (i + 1) (set ys i x)
-write_turn ss i ys d x h k e p =
-    rw (add-one, take-suc-set ys i x k, take-suc ss i d h, map-append, map-append, p, e)
-
-pub write_end : (ss : List Placed) (i : ℕ) (ys : List ℕ) → length ss ≤ i → length ys ≡ length ss → Written ss i ys
-    → map entry_in ys ≡ map (λ s. s.entry) ss
-write_end ss i ys h k p =
-    sym (ap (λ (l : List ℕ). map entry_in l) (take_all i ys (omega arith)))
-    ∙ p ∙ ap (λ (l : List Placed). map (λ s. s.entry) l) (take_all i ss h)
-
 -- those of the buttons, and behind them those of the axes
 both_written : (xs ys zs : List ℕ) (n k m : ℕ) → length ys ≡ n → length zs ≡ m → n + m ≤ length xs
     → take (n + m) (put_mid n k (put_mid 0 n xs ys) zs) ≡ ys ++ zs
@@ -67,8 +55,8 @@ as_many ys fs h =
     sym (length-map ys entry_in) ∙ ap (λ (l : List Entry). length l) h ∙ length-map fs (λ s. s.entry)
 
 -- the map of those numbers is that of the pairs
-pub map_written : (p : Pairs) (fs ls : List Placed) (xs ys zs : List ℕ) (k len : ℕ) → fs ≡ held_in p.buttons
-    → ls ≡ held_in p.axes → length fs + length ls ≤ length xs → length xs ≤ codes_max
+pub map_written : (p : Pairs) (fs ls : List Placed) (xs ys zs : List ℕ) (k len : ℕ) → fs ≡ p.buttons.items
+    → ls ≡ p.axes.items → length fs + length ls ≤ length xs → length xs ≤ codes_max
     → map entry_in ys ≡ map (λ s. s.entry) fs → map entry_in zs ≡ map (λ s. s.entry) ls
     → to_map (puts_view (take (length fs + length ls) (put_mid (length fs) k (put_mid 0 (length fs) xs ys) zs)) name_start_of len)
     ≡ put_map_of p len
@@ -76,7 +64,7 @@ unfolding put_map_of puts_view
 map_written p fs ls xs ys zs k len b a h c s t =
     let e : length ys ≡ length fs = as_many ys fs s in
     let f : length zs ≡ length ls = as_many zs ls t in
-    let w : map entry_in (ys ++ zs) ≡ map (λ s. s.entry) (held_in p.buttons) ++ map (λ s. s.entry) (held_in p.axes) =
+    let w : map entry_in (ys ++ zs) ≡ map (λ s. s.entry) p.buttons.items ++ map (λ s. s.entry) p.axes.items =
     map-append entry_in ys zs ∙ rw (s, t, b, a) in
     let few : length (map entry_in (ys ++ zs)) ≤ codes_max = simp (length-map, length-append) (omega arith) in
     rw (both_written xs ys zs (length fs) k (length ls) e f h, take_all codes_max (map entry_in (ys ++ zs)) few, w)

@@ -1,6 +1,7 @@
 -- What the contracts of private functions say.
 -- No public contract rests on these: a reader may leave them out.
-use Rattle.std.specs.Prelude.{ℕ, zero, suc, ◌+◌, ◌-◌, ◌<◌, ◌≤◌, ◌≡◌, Bool, false, List, [], ◌∷◌, ◌++◌, map, leb, ltb, length, take, get_or, Option, Result, MatchResult, None, Ok, Err, ⊤}
+use Rattle.std.specs.Prelude.{ℕ, zero, suc, ◌+◌, ◌-◌, ◌<◌, ◌≤◌, ◌≡◌, Bool, false, List, [], ◌∷◌, ◌++◌, map, leb, ltb, length, get_or, Option, Result, MatchResult, None, Ok, Err, ⊤}
+use Rattle.arrayvec.specs.ArrayVec.{ArrayVec}
 use Rattle.text.specs.Bytes.{byte, pick}
 use Rattle.text.specs.Decimal.{decimal}
 use Rattle.text.specs.Uuid.{uuid_text}
@@ -13,7 +14,6 @@ use Rattle.line.specs.Reading.{list_max}
 use Rattle.line.specs.declared.ev.AxisOrBtn.{AxisOrBtn}
 use Rattle.line.specs.Tables.{ident_text, as_button, as_axis}
 use Rattle.map.specs.declared.error.MappingError.{MappingError}
-use Rattle.map.specs.declared.from_data.filled.Filled.{Filled}
 use Rattle.map.specs.declared.from_data.filled.Pairs.{Pairs}
 use Rattle.map.specs.declared.from_data.filled.Placed.{Placed}
 use Rattle.map.specs.declared.from_data.gather.Kind.{Kind}
@@ -25,9 +25,6 @@ use Rattle.map.specs.Build.{name_max, filled_from, filled_buttons, filled_axes, 
 use Rattle.map.specs.Default.{flagged_map, put_kept}
 
 -- ---- the filled slots that the program has gathered
-abbrev pub held_in : Filled → List Placed
-held_in f = take f.count f.slots
-
 -- an entry with the place of its code, and several
 abbrev pub placed_at : List ℕ → Entry → Placed
 placed_at codes e = record { entry = e; place = place_of e.code codes }
@@ -50,11 +47,11 @@ filled_after kind slots i =
     filled_from (λ k. get_or slots k empty_slot) (element_of kind) (length slots - i) i
 
 -- they are gathered, each with its place in the list, or the first code that is missing there is refused
-abbrev pub Gathers : List ℕ → Kind → List (Option Code) → Result Filled MappingError → Type 0
+abbrev pub Gathers : List ℕ → Kind → List (Option Code) → Result (ArrayVec Placed) MappingError → Type 0
 Gathers codes kind slots r =
     MatchResult r
     (λ f. (missing_of (filled_after kind slots 0) codes ≡ None)
-    × (held_in f ≡ placed_in codes (filled_after kind slots 0)))
+    × (f.items ≡ placed_in codes (filled_after kind slots 0)))
     (λ e. (rest : Result ⊤ MappingError) → when_missing (missing_of (filled_after kind slots 0) codes) rest ≡ Err e)
 
 -- a check hands back what P says where it passes, and the refusal else
@@ -63,8 +60,8 @@ Passes r checks P = MatchResult r (λ x. (checks ≡ Ok tt) × P x) (λ e. check
 
 -- the pairs are those of the slots
 pub record Gathered (d : MappingData) (buttons axes : List ℕ) (p : Pairs) : Type 0 where
-  pub first : held_in p.buttons ≡ placed_in buttons (filled_buttons d)
-  pub last : held_in p.axes ≡ placed_in axes (filled_axes d)
+  pub first : p.buttons.items ≡ placed_in buttons (filled_buttons d)
+  pub last : p.axes.items ≡ placed_in axes (filled_axes d)
 
 -- ---- the line in parts
 abbrev pub with_comma : List ℕ → List ℕ
@@ -98,7 +95,7 @@ head_text uuid name = with_comma (uuid_text uuid) ++ with_comma name
 
 abbrev pub line_text : Pairs → List ℕ → Uuid → List ℕ
 line_text p name uuid =
-    (head_text uuid name ++ pairs_of (byte "b") (held_in p.buttons)) ++ pairs_of (byte "a") (held_in p.axes)
+    (head_text uuid name ++ pairs_of (byte "b") p.buttons.items) ++ pairs_of (byte "a") p.axes.items
 
 -- a text fits from a place on
 abbrev pub Room : List ℕ → ℕ → List ℕ → Type 0
@@ -131,7 +128,7 @@ line_length d buttons axes name =
     name_start_of + length name + 1 + pairs_length buttons (filled_buttons d) + pairs_length axes (filled_axes d)
 
 abbrev pub line_len_of : Pairs → List ℕ → ℕ
-line_len_of p name = name_start_of + length name + 1 + lengths_of (held_in p.buttons) + lengths_of (held_in p.axes)
+line_len_of p name = name_start_of + length name + 1 + lengths_of p.buttons.items + lengths_of p.axes.items
 
 -- an output of `room` bytes is too short for n, unless it holds every line
 abbrev pub built_line_max : ℕ
@@ -144,7 +141,7 @@ short_of room n = pick (leb built_line_max room) false (ltb room n)
 unfoldable pub put_map_of : Pairs → ℕ → Mapping
 put_map_of p n =
     to_map (record {
-      list = puts_into (map (λ s. s.entry) (held_in p.buttons) ++ map (λ s. s.entry) (held_in p.axes)) [];
+      list = puts_into (map (λ s. s.entry) p.buttons.items ++ map (λ s. s.entry) p.axes.items) [];
       name_start_of = name_start_of;
       name_len_of = n;
       is_default = false;

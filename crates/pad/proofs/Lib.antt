@@ -9,6 +9,7 @@ pub mod NumberLaws
 pub mod OwnLaws
 pub mod EventLaws
 pub mod StateLaws
+pub mod PutLaws
 pub mod ListLaws
 pub mod PadLaws
 pub mod FitLaws

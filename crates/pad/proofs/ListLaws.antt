@@ -6,32 +6,22 @@ use mathlib.Core.Bool.{Bool, true, false}
 use mathlib.Core.List.{List, [], ◌∷◌, ◌++◌, map, append_assoc, append-nil}
 use native.Mathlib.Omega.{arith}
 use native.Mathlib.Numerals.{add-one}
-use lib.ListN.{length, take, drop, get_or, set, replicate, length-map, length-set, take-append-drop, get_or-map}
+use lib.ListN.{length, take, drop, get_or, set, replicate, length-map, length-append, get_or-map}
 use lib.ListN.{drop_of_length-le, length-replicate}
-use lib.Seq.{drop-cons, length-take-le, take-suc-set, take_all}
+use lib.Seq.{drop-cons, take-suc-set}
 use lib.IntN.{ℤ}
 use Rattle.line.specs.declared.mapping.Entry.{Entry}
 use Rattle.line.specs.Numbers.{entry_number}
 use Rattle.line.proofs.PlaceLaws.{copied_more}
 use Rattle.pad.specs.declared.events.Event.{Event}
+use Rattle.pad.specs.declared.events.Events.{Events}
 use Rattle.pad.specs.Pads.{element_at, sameℤ, changes, tabulate}
 use Rattle.pad.specs.States.{unused_event, events_in, entry_numbers}
-use Rattle.pad.specs.Inner.{one_event, Filled, Filling, Listed}
+use Rattle.pad.specs.Inner.{one_event, Filled, PushesEvent, Listed}
 use Rattle.pad.proofs.ReaderLaws.{same_value}
 use Rattle.pad.proofs.TouchLaws.{same_refl}
 
 -- ---- a place that is written
-drop-set : {A : Type 0} (l : List A) (k : ℕ) (x : A) → drop (suc k) (set l k x) ≡ drop (suc k) l
-drop-set [] k x = refl
-drop-set (y ∷ l) zero x = refl
-drop-set (y ∷ l) (suc k) x = drop-set l k x
-
-drop_more : {A : Type 0} (l : List A) (k : ℕ) → drop (suc k) l ≡ drop 1 (drop k l)
-drop_more [] zero = refl
-drop_more [] (suc k) = refl
-drop_more (y ∷ l) zero = refl
-drop_more (y ∷ l) (suc k) = drop_more l k
-
 map_snoc : {A B : Type 0} (f : A → B) (xs : List A) (x : A) → map f (xs ++ x ∷ []) ≡ map f xs ++ f x ∷ []
 map_snoc f [] x = refl
 map_snoc {A} {B} f (y ∷ xs) x = ap (λ (l : List B). f y ∷ l) (map_snoc f xs x)
@@ -53,38 +43,24 @@ filled_more f k x out h l e =
     ∙ ap (λ (vs : List ℤ). vs ++ x ∷ []) h
     ∙ ap (λ (v : ℤ). tabulate f k 0 ++ v ∷ []) (e ∙ ap f (sym q)) ∙ sym z
 
-pub all_filled : (f : ℕ → ℤ) (k : ℕ) (out : List ℤ) → length out ≡ 27 → k ≡ 27 → Filled f k out → out ≡ tabulate f 27 0
-all_filled f k out l e h =
-    sym (take_all 27 out (omega arith)) ∙ ap (λ (j : ℕ). take j out) (sym e) ∙ h ∙ ap (λ (j : ℕ). tabulate f j 0) e
-
--- ---- a list of events that is filled
-pub filling_none : Filling (replicate 27 unused_event) 0
-filling_none = record { long = refl; rest = refl }
-
-module _ (list : List Event) (count : ℕ) (v : Event) (h : Filling list count) (few : count < 27) where
-  pub filling_taken : take (count + 1) (set list count v) ≡ take count list ++ v ∷ []
-  filling_taken = rw (add-one count) (take-suc-set list count v (omega (arith, h.long)))
-
-  pub filling_more : Filling (set list count v) (count + 1)
-  filling_more =
-      let e : 27 - count ≡ suc (27 - (count + 1)) = omega arith in
-      let r : replicate (27 - count) unused_event ≡ unused_event ∷ replicate (27 - (count + 1)) unused_event =
-      ap (λ (j : ℕ). replicate j unused_event) e in
-      record {
-        long = length-set list count v ∙ h.long;
-        rest =
-            rw (add-one count) (drop-set list count v ∙ drop_more list count)
-            ∙ ap (λ (l : List Event). drop 1 l) (h.rest ∙ r);
-      }
-
-pub filling_shape : (list : List Event) (count : ℕ) → Filling list count → count ≤ 27
-    → record { count = count; list = list } ≡ events_in (take count list)
+-- ---- events, one after the other
+pub events_many : (es : List Event) (e : Events) → e ≡ events_in es → e.count ≡ length es
 unfolding events_in
-filling_shape list count h few =
-    let n : length (take count list) ≡ count = length-take-le count list (omega (arith, h.long)) in
-    ap (λ (l : List Event). record { count = count; list = l })
-    (sym (take-append-drop count list) ∙ ap (λ (l : List Event). take count list ++ l) h.rest)
-    ∙ ap (λ (j : ℕ). record { count = j; list = take count list ++ replicate (27 - j) unused_event }) (sym n)
+events_many es e h = ap (λ (y : Events). y.count) h
+
+-- an event in the place of the first unused one
+set_next : (es : List Event) (v : Event) (n : ℕ)
+    → set (es ++ replicate (suc n) unused_event) (length es) v ≡ (es ++ v ∷ []) ++ replicate n unused_event
+set_next [] v n = refl
+set_next (e ∷ es) v n = ap (λ (l : List Event). e ∷ l) (set_next es v n)
+
+pub event_pushed : (es : List Event) (v : Event) (old : Events) → old ≡ events_in es → length es < 27
+    → record { count = old.count + 1; list = set old.list old.count v } ≡ events_in (es ++ v ∷ [])
+unfolding events_in
+event_pushed es v old h few =
+    let n : length (es ++ v ∷ []) ≡ length es + 1 = length-append es (v ∷ []) in
+    let m : 27 - length es ≡ suc (27 - (length es + 1)) = omega arith in
+    rw (h, n, m, set_next es v (27 - (length es + 1)))
 
 -- ---- the events between values
 module _ (bs cs : List ℤ) (k : ℕ) (lb : length bs ≡ 27) (la : length cs ≡ 27) (lt : k < 27) (d : ℤ) where
@@ -117,35 +93,33 @@ module _ (bs cs : List ℤ) (k : ℕ) (lb : length bs ≡ 27) (la : length cs �
       by true e = absurd (d' (same_value (get_or bs k d) (get_or cs k d) e))
       by false e = rw (e, add-one)
 
-  pub listed_same : (list : List Event) (count : ℕ) → Listed bs cs list count k → get_or bs k d ≡ get_or cs k d
-      → Listed bs cs list count (k + 1)
-  listed_same list count h e =
+  pub listed_same : (events : Events) → Listed bs cs events k → get_or bs k d ≡ get_or cs k d
+      → Listed bs cs events (k + 1)
+  listed_same events h e =
       record {
-        within = omega arith;
+        es = h.es;
+        are = h.are;
         few = omega (arith, h.few);
-        fill = h.fill;
-        told = ap (λ (l : List Event). take count list ++ l) (sym (changes-same e)) ∙ h.told;
+        told = ap (λ (l : List Event). h.es ++ l) (sym (changes-same e)) ∙ h.told;
       }
 
-  pub listed_other : (list : List Event) (count : ℕ) (v : Event) → Listed bs cs list count k
+  pub listed_other : (events more : Events) (v : Event) (h : Listed bs cs events k)
       → (get_or bs k d ≡ get_or cs k d → ⊥) → v ≡ one_event (element_at k) (get_or cs k d)
-      → Listed bs cs (set list count v) (count + 1) (k + 1)
-  listed_other list count v h n ev =
-      let few : count < 27 = omega (arith, h.few) in
-      let more : List Event = changes (k + 1) (drop (k + 1) bs) (drop (k + 1) cs) in
+      → PushesEvent events v more → Listed bs cs more (k + 1)
+  listed_other events more v h n ev p =
+      let rest : List Event = changes (k + 1) (drop (k + 1) bs) (drop (k + 1) cs) in
       record {
-        within = omega arith;
-        few = omega (arith, h.few);
-        fill = filling_more list count v h.fill few;
+        es = h.es ++ v ∷ [];
+        are = p h.es h.are (omega (arith, h.few));
+        few = simp length-append (omega (arith, h.few));
         told =
-            ap (λ (l : List Event). l ++ more) (filling_taken list count v h.fill few)
-            ∙ append_assoc (take count list) (v ∷ []) more
-            ∙ ap (λ (w : Event). take count list ++ w ∷ more) ev
-            ∙ ap (λ (l : List Event). take count list ++ l) (sym (changes_other n)) ∙ h.told;
+            append_assoc h.es (v ∷ []) rest
+            ∙ ap (λ (w : Event). h.es ++ w ∷ rest) ev
+            ∙ ap (λ (l : List Event). h.es ++ l) (sym (changes_other n)) ∙ h.told;
       }
 
-pub none-listed : (bs cs : List ℤ) → Listed bs cs (replicate 27 unused_event) 0 0
-none-listed bs cs = record { within = omega arith; few = omega arith; fill = filling_none; told = refl }
+pub none-listed : (bs cs : List ℤ) (events : Events) → events ≡ events_in [] → Listed bs cs events 0
+none-listed bs cs events e = record { es = []; are = e; few = omega arith; told = refl }
 
 nothing_left : (xs ys : List ℤ) → length xs ≡ 27 → changes 27 (drop 27 xs) ys ≡ []
 unfolding changes
@@ -154,14 +128,14 @@ nothing_left xs ys l = ap (λ (z : List ℤ). changes 27 z ys) (none_after xs l)
     none_after : (xs : List ℤ) → length xs ≡ 27 → drop 27 xs ≡ []
     none_after xs l = let h : length xs ≤ 27 = omega arith in drop_of_length-le xs h
 
-pub all_listed : (bs cs : List ℤ) (list : List Event) (count k : ℕ) → length bs ≡ 27 → k ≡ 27
-    → Listed bs cs list count k → record { count = count; list = list } ≡ events_in (changes 0 bs cs)
-all_listed bs cs list count k lb e h =
+pub all_listed : (bs cs : List ℤ) (events : Events) (k : ℕ) → length bs ≡ 27 → k ≡ 27 → Listed bs cs events k
+    → events ≡ events_in (changes 0 bs cs)
+all_listed bs cs events k lb e h =
     let none : changes k (drop k bs) (drop k cs) ≡ [] =
     ap (λ (j : ℕ). changes j (drop j bs) (drop j cs)) e ∙ nothing_left bs (drop 27 cs) lb in
-    let all : take count list ≡ changes 0 bs cs =
-    sym (append-nil (take count list)) ∙ ap (λ (l : List Event). take count list ++ l) (sym none) ∙ h.told in
-    filling_shape list count h.fill (omega (arith, h.few, h.within)) ∙ ap (λ (l : List Event). events_in l) all
+    let all : h.es ≡ changes 0 bs cs =
+    sym (append-nil h.es) ∙ ap (λ (l : List Event). h.es ++ l) (sym none) ∙ h.told in
+    h.are ∙ ap (λ (l : List Event). events_in l) all
 
 -- ---- the numbers of entries
 abbrev zeros : ℕ → List ℕ

@@ -1,5 +1,5 @@
 -- Laws of held codes and entries as numbers, one after the other. Assumes nothing.
-use Rattle.std.proofs.Common.{ℕ, suc, ◌+◌, ◌/◌, ◌<◌, ◌≤◌, ◌≡◌, Bool, true, false, cond, Option, Some, None, List, [], ◌∷◌, map, length, drop, get_or, eqb, ltb, refl, sym, ◌∙◌, add-one, arith, position}
+use Rattle.std.proofs.Common.{ℕ, suc, ◌+◌, ◌/◌, ◌<◌, ◌≤◌, ◌≡◌, Bool, true, false, cond, Option, Some, None, List, [], ◌∷◌, map, length, drop, get_or, eqb, ltb, refl, sym, ◌∙◌, add-one, arith, position, unwrap_or}
 use borrow.Author.Tests.{ltb-true, ltb-false}
 use lib.ListN.{drop_of_length-le}
 use lib.Seq.{drop-cons}
@@ -54,6 +54,11 @@ module _ (c : ℕ) (ys : List ℕ) where
           → ◌≡◌ {A = Option ℕ} (cond t (Some (place_in c ys)) None) None → place_in c ys ≡ length ys
       by true p q = absurd cc
       by false p q = omega (arith, ltb-false (place_in c ys) (length ys) p, place_within c ys)
+
+  pub place_or : (o : Option ℕ) → o ≡ found_at
+      → (unwrap_or o (length ys) ≡ place_in c ys) × (unwrap_or o (length ys) ≤ length ys)
+  place_or None h = (sym (place_none (sym h)), omega arith)
+  place_or (Some i) h = let p = place_some i (sym h) in (sym p.0, omega (arith, p.1))
 
 -- ---- the first entry of a code
 code_in : (x : ℕ) → (entry_in x).code.0 ≡ x / code_unit

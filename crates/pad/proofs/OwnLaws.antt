@@ -9,7 +9,7 @@ use native.Mathlib.Omega.{arith}
 use native.Mathlib.Numerals.{add-one}
 use borrow.Author.Tests.{eq-eqb, ne_eqb, eqb-true, eqb-false}
 use lib.Dec.{eqb}
-use lib.ListN.{length, take, drop, get_or, drop_of_length-le}
+use lib.ListN.{length, take, drop, get_or, drop_of_length-le, length-append}
 use lib.Seq.{drop-cons, take-suc}
 use Rattle.text.specs.Bytes.{pick, both}
 use Rattle.line.specs.declared.ev.AxisOrBtn.{AxisOrBtn}
@@ -21,8 +21,7 @@ use Rattle.pad.specs.declared.events.Raw.{Raw}
 use Rattle.pad.specs.declared.events.Held.{Held}
 use Rattle.pad.specs.Pads.{given_by, gives, Chosen, prefer, choose}
 use Rattle.std.proofs.Common.{is_none, is_some, not}
-use Rattle.pad.specs.declared.own.Own.{Own}
-use Rattle.pad.specs.Inner.{place_in, unseen, counted, own_from, own_numbers}
+use Rattle.pad.specs.Inner.{place_in, unseen, counted, own_from}
 use Rattle.pad.proofs.NumberLaws.{found_at, place_some, place_none}
 
 -- ---- numbers that were seen
@@ -221,14 +220,11 @@ own_choose (h ∷ hs) xs el =
 
 -- ---- they are gathered one after the other, of which those before j are passed
 module _ (el : AxisOrBtn) (es : List ℕ) where
-  pub record Gathering (j : ℕ) (own : Own) : Type 0 where
-    pub few : own.count ≤ j
-    pub are : own_numbers own ++ own_from el (take j es) (drop j es) ≡ own_from el [] es
+  pub record Gathering (j : ℕ) (own : List ℕ) : Type 0 where
+    pub few : length own ≤ j
+    pub are : own ++ own_from el (take j es) (drop j es) ≡ own_from el [] es
 
-  pub gathered_none : (own : Own) → own_numbers own ≡ [] → own.count ≡ 0 → Gathering 0 own
-  gathered_none own e z = record { few = omega arith; are = rw e }
-
-  module _ (j : ℕ) (own : Own) (h : Gathering j own) (lt : j < length es) (d : ℕ) where
+  module _ (j : ℕ) (own : List ℕ) (h : Gathering j own) (lt : j < length es) (d : ℕ) where
     step : own_from el (take j es) (drop j es) ≡ own_from el (take j es) (get_or es j d ∷ drop (j + 1) es)
     step = rw (drop-cons es j d lt, add-one)
 
@@ -240,28 +236,26 @@ module _ (el : AxisOrBtn) (es : List ℕ) where
         record {
           few = omega (arith, h.few);
           are =
-              ap (λ (l : List ℕ). own_numbers own ++ l)
+              ap (λ (l : List ℕ). own ++ l)
               (sym (step ∙ own_passed el (take j es) (get_or es j d) (drop (j + 1) es) e ∙ more))
               ∙ h.are;
         }
 
-    pub gathered_taken : counted el (take j es) (get_or es j d) ≡ true → (new : Own)
-        → own_numbers new ≡ own_numbers own ++ get_or es j d ∷ [] → new.count ≡ own.count + 1 → Gathering (j + 1) new
-    gathered_taken e new n c =
-        let rest : List ℕ = own_from el (take (j + 1) es) (drop (j + 1) es) in
+    pub gathered_taken : counted el (take j es) (get_or es j d) ≡ true → Gathering (j + 1) (own ++ get_or es j d ∷ [])
+    gathered_taken e =
         record {
-          few = omega (arith, h.few);
+          few = simp length-append (omega (arith, h.few));
           are =
-              ap (λ (l : List ℕ). l ++ rest) n ∙ append_assoc (own_numbers own) (get_or es j d ∷ []) rest
-              ∙ ap (λ (l : List ℕ). own_numbers own ++ l)
+              append_assoc own (get_or es j d ∷ []) (own_from el (take (j + 1) es) (drop (j + 1) es))
+              ∙ ap (λ (l : List ℕ). own ++ l)
               (sym (step ∙ own_taken el (take j es) (get_or es j d) (drop (j + 1) es) e
               ∙ ap (λ (l : List ℕ). get_or es j d ∷ l) more))
               ∙ h.are;
         }
 
-  pub gathered_all : (j : ℕ) (own : Own) → Gathering j own → length es ≤ j → own_numbers own ≡ own_from el [] es
+  pub gathered_all : (j : ℕ) (own : List ℕ) → Gathering j own → length es ≤ j → own ≡ own_from el [] es
   unfolding own_from
   gathered_all j own h l =
       let none : own_from el (take j es) (drop j es) ≡ [] =
       ap (λ (ys : List ℕ). own_from el (take j es) ys) (drop_of_length-le es l) in
-      sym (append-nil (own_numbers own)) ∙ ap (λ (ys : List ℕ). own_numbers own ++ ys) (sym none) ∙ h.are
+      sym (append-nil own) ∙ ap (λ (ys : List ℕ). own ++ ys) (sym none) ∙ h.are

@@ -1,12 +1,12 @@
 -- What becomes of a pad's events when another one plays along. Assumes nothing.
 use Rattle.std.specs.Prelude.{Option, Some, None, Ok, Err}
-use Prim.Native.Nat.{ℕ, zero, suc, ◌+◌, ◌-◌, ◌<◌, ◌≤◌}
+use Prim.Native.Nat.{ℕ, zero, suc, ◌+◌, ◌<◌, ◌≤◌}
 use mathlib.Core.Path.{◌≡◌, refl, sym, ap, subst, ◌∙◌}
 use mathlib.Core.Bool.{Bool, true, false}
 use mathlib.Core.List.{List, [], ◌∷◌, ◌++◌, append_assoc, append-nil}
 use native.Mathlib.Omega.{arith}
 use native.Mathlib.Numerals.{add-one}
-use lib.ListN.{length, take, drop, get_or, set, replicate, drop_of_length-le, length-append, length-replicate}
+use lib.ListN.{length, drop, get_or, drop_of_length-le, length-append}
 use lib.Seq.{drop-cons}
 use lib.Dec.{leb}
 use lib.IntN.{ℤ}
@@ -21,7 +21,7 @@ use Rattle.pad.specs.declared.state.Pad.{Pad}
 use Rattle.pad.specs.declared.state.Told.{Told}
 use Rattle.pad.specs.Pads.{held_max, element_at, tabulate, value_of, sameℤ, changes}
 use Rattle.pad.specs.States.{held_of, entries_of, pad_values, pad_value, events_in, told_of, with_held, held_after_event}
-use Rattle.pad.specs.States.{unused_event, refused_of, raw_event_of, change_map_of}
+use Rattle.pad.specs.States.{refused_of, raw_event_of, change_map_of}
 use Rattle.pad.specs.PadGuarantee.{told_events}
 use Rattle.pad.specs.declared.telling.Change.{Change}
 use Rattle.pad.specs.declared.two.Pads.{Pads}
@@ -30,12 +30,11 @@ use Rattle.pad.specs.declared.two.Which.TheVariants as Wh
 use Rattle.pad.specs.Refusals.{too_many}
 use Rattle.pad.specs.TwoPads.{pads_value, pads_values, pad_of, with_pad, pads_told_of}
 use Rattle.pad.specs.Inner.{one_event, event_by, Before, pad_beside, joined_of, joint_event, joined_by, joined_event, caught}
-use Rattle.pad.specs.Inner.{refined, Refining, TellsItself, two}
+use Rattle.pad.specs.Inner.{refined, PushesEvent, Refining, TellsItself, two}
 use Rattle.pad.proofs.PlaceLaws.{place_element}
 use Rattle.pad.proofs.TouchLaws.{same_refl}
 use Rattle.pad.proofs.EventLaws.{value_there}
 use Rattle.pad.proofs.ReaderLaws.{same_value, tabulated}
-use Rattle.pad.proofs.ListLaws.{filling_none, filling_more, filling_taken, filling_shape}
 use Rattle.pad.proofs.PadLaws.{told_back}
 
 -- ---- what becomes of a change
@@ -195,18 +194,6 @@ tells_few p t h =
     let n : length (pad_values p) ≡ 27 = tabulated (λ k. value_of (held_of p) (entries_of p) (element_at k)) 27 0 in
     omega (arith, e, l, n)
 
-pub tells_long : (p : Pad) (t : Told) → TellsItself p t → length t.events.list ≡ 27
-unfolding events_in
-tells_long p t h =
-    let es : List Event = changes 0 (pad_values p) (pad_values t.pad) in
-    let l = changes_few 0 (pad_values p) (pad_values t.pad) in
-    let n : length (pad_values p) ≡ 27 = tabulated (λ k. value_of (held_of p) (entries_of p) (element_at k)) 27 0 in
-    let a : length (es ++ replicate (27 - length es) unused_event) ≡ length es + (27 - length es) =
-    length-append es (replicate (27 - length es) unused_event)
-    ∙ ap (λ (k : ℕ). length es + k) (length-replicate (27 - length es) unused_event) in
-    let total : length es + (27 - length es) ≡ 27 = omega (arith, l, n) in
-    ap (λ (w : Events). length w.list) h ∙ a ∙ total
-
 told_is : (p : Pad) (t : Told) → TellsItself p t → told_events t.events ≡ changes 0 (pad_values p) (pad_values t.pad)
 told_is p t h =
     ap (λ (w : Events). told_events w) h ∙ told_back (changes 0 (pad_values p) (pad_values t.pad))
@@ -297,52 +284,49 @@ pub map_few : (p : Pad) (m : Mapping) (t : Told) → t ≡ change_map_of p m →
 map_few p m t e = tells_few p t (rw e (map_tells p m))
 
 -- ---- the loop over a pad's events
-pub refining_none : (leads : Which) (p q : Pad) (es : List Event) → Refining leads p q es (replicate 27 unused_event) 0 0
-refining_none leads p q es = record { within = omega arith; few = omega arith; fill = filling_none; told = refl }
-
-module _ (leads : Which) (p q : Pad) (es list : List Event) (count i : ℕ) (d : Event)
-    (h : Refining leads p q es list count i) (lt : i < length es) where
+module _ (leads : Which) (p q : Pad) (es : List Event) (events : Events) (i : ℕ) (d : Event)
+    (h : Refining leads p q es events i) (lt : i < length es) where
   next : refined leads p q (drop i es)
       ≡ caught (joined_event leads p q (get_or es i d)) (refined leads p q (drop (i + 1) es))
   unfolding refined
   next = rw (add-one i) (ap (λ (l : List Event). refined leads p q l) (drop-cons es i d lt))
 
   pub refining_passed : (w : Option Event) → w ≡ joined_event leads p q (get_or es i d) → w ≡ None
-      → Refining leads p q es list count (i + 1)
+      → Refining leads p q es events (i + 1)
   refining_passed w e n =
       record {
         within = omega arith;
+        out = h.out;
+        are = h.are;
         few = omega (arith, h.few);
-        fill = h.fill;
         told =
-            ap (λ (l : List Event). take count list ++ l)
+            ap (λ (l : List Event). h.out ++ l)
             (sym (next ∙ ap (λ (v : Option Event). caught v (refined leads p q (drop (i + 1) es))) (sym e ∙ n)))
             ∙ h.told;
       }
 
-  pub refining_taken : (w : Option Event) (v : Event) → w ≡ joined_event leads p q (get_or es i d) → w ≡ Some v → count < 27
-      → Refining leads p q es (set list count v) (count + 1) (i + 1)
-  refining_taken w v e n room =
+  pub refining_taken : (w : Option Event) (v : Event) → w ≡ joined_event leads p q (get_or es i d) → w ≡ Some v
+      → length es ≤ 27 → (more : Events) → PushesEvent events v more → Refining leads p q es more (i + 1)
+  refining_taken w v e n room more push =
       let rest : List Event = refined leads p q (drop (i + 1) es) in
       record {
         within = omega arith;
-        few = omega (arith, h.few);
-        fill = filling_more list count v h.fill room;
+        out = h.out ++ v ∷ [];
+        are = push h.out h.are (omega (arith, h.few));
+        few = simp length-append (omega (arith, h.few));
         told =
-            ap (λ (l : List Event). l ++ rest) (filling_taken list count v h.fill room)
-            ∙ append_assoc (take count list) (v ∷ []) rest
-            ∙ ap (λ (l : List Event). take count list ++ l)
+            append_assoc h.out (v ∷ []) rest
+            ∙ ap (λ (l : List Event). h.out ++ l)
             (sym (next ∙ ap (λ (u : Option Event). caught u rest) (sym e ∙ n)))
             ∙ h.told;
       }
 
-pub refining_all : (leads : Which) (p q : Pad) (es list : List Event) (count i : ℕ) → Refining leads p q es list count i
-    → length es ≤ i → count ≤ 27
-    → record { count = count; list = list } ≡ events_in (refined leads p q es)
+pub refining_all : (leads : Which) (p q : Pad) (es : List Event) (events : Events) (i : ℕ)
+    → Refining leads p q es events i → length es ≤ i → events ≡ events_in (refined leads p q es)
 unfolding refined
-refining_all leads p q es list count i h l few =
-    filling_shape list count h.fill few
+refining_all leads p q es events i h l =
+    h.are
     ∙ ap (λ (l : List Event). events_in l)
-    (sym (append-nil (take count list))
-    ∙ ap (λ (l : List Event). take count list ++ refined leads p q l) (sym (drop_of_length-le es l))
+    (sym (append-nil h.out)
+    ∙ ap (λ (l : List Event). h.out ++ refined leads p q l) (sym (drop_of_length-le es l))
     ∙ h.told)

@@ -1,6 +1,6 @@
 -- Values counted from the least one: what private functions compute with. No public contract cites these.
 -- Assumes nothing.
-use Rattle.std.specs.Prelude.{ℕ, suc, ◌+◌, ◌-◌, ◌*◌, ◌/◌, ◌≤◌, ◌<◌, ◌≡◌, Bool, true, false, ◌&&◌, List, [], ◌∷◌, ◌++◌, map, eqb, ltb, length, take, drop, replicate, ℤ, pos, negsuc, ◌-ℤ◌, Option, Some, None, set, Result, Ok, MatchResult}
+use Rattle.std.specs.Prelude.{ℕ, suc, ◌+◌, ◌-◌, ◌*◌, ◌/◌, ◌≤◌, ◌<◌, ◌≡◌, Bool, true, false, ◌&&◌, List, [], ◌∷◌, ◌++◌, map, eqb, ltb, length, take, drop, ℤ, pos, negsuc, ◌-ℤ◌, Option, Some, None, set, Result, Ok, MatchResult}
 use Rattle.text.specs.Bytes.{pick}
 use Rattle.line.specs.declared.ev.AxisOrBtn.{AxisOrBtn}
 use Rattle.line.specs.declared.ev.AxisOrBtn.TheVariants as El
@@ -13,7 +13,6 @@ use Rattle.line.specs.Numbers.{code_unit, entry_in}
 use Rattle.pad.specs.declared.events.Held.{Held}
 use Rattle.pad.specs.declared.events.Event.{Event}
 use Rattle.pad.specs.declared.choice.Best.{Best}
-use Rattle.pad.specs.declared.own.Own.{Own}
 use Rattle.pad.specs.declared.state.Pad.{Pad}
 use Rattle.pad.specs.declared.state.Told.{Told}
 use Rattle.pad.specs.declared.two.Pads.{Pads}
@@ -24,7 +23,7 @@ use Rattle.pad.specs.declared.events.Raw.{Raw}
 use Rattle.pad.specs.declared.state.TooManyCodes.{TooManyCodes}
 use Rattle.pad.specs.declared.telling.Change.{Change}
 use Rattle.pad.specs.Pads.{held_max, put_held, Chosen, none, chosen, choose, tabulate, sameℤ, changes}
-use Rattle.pad.specs.States.{held_in, pad_values, pad_value, unused_event, events_in, refused_of, raw_event_of}
+use Rattle.pad.specs.States.{held_in, pad_values, pad_value, events_in, refused_of, raw_event_of}
 use Rattle.pad.specs.TwoPads.{farther}
 
 -- a value counted from the least one, and back
@@ -90,10 +89,6 @@ own_from el seen [] = []
 own_from el seen (x ∷ xs) =
     pick (counted el seen x) (x ∷ own_from el (seen ++ x ∷ []) xs) (own_from el (seen ++ x ∷ []) xs)
 
--- those that the program has gathered
-abbrev pub own_numbers : Own → List ℕ
-own_numbers o = take o.count o.list
-
 -- from hs to ks no element but el takes another value
 abbrev pub OnlyOf : List Held → List Held → List Entry → AxisOrBtn → Type 0
 OnlyOf hs ks es el = (other : AxisOrBtn) → same_element el other ≡ false → choose ks es other ≡ choose hs es other
@@ -120,17 +115,16 @@ abbrev pub Filled : (ℕ → ℤ) → ℕ → List ℤ → Type 0
 Filled f k out = take k out ≡ tabulate f k 0
 
 -- ---- events
--- events stand in list, count of them, and unused ones after them
-pub record Filling (list : List Event) (count : ℕ) : Type 0 where
-  pub long : length list ≡ 27
-  pub rest : drop count list ≡ replicate (27 - count) unused_event
+-- events and one more after them, where there is room
+abbrev pub PushesEvent : Events → Event → Events → Type 0
+PushesEvent old e new = (es : List Event) → old ≡ events_in es → length es < 27 → new ≡ events_in (es ++ e ∷ [])
 
 -- they are those of the first k places
-pub record Listed (bs cs : List ℤ) (list : List Event) (count k : ℕ) : Type 0 where
-  pub within : k ≤ 27
-  pub few : count ≤ k
-  pub fill : Filling list count
-  pub told : take count list ++ changes k (drop k bs) (drop k cs) ≡ changes 0 bs cs
+pub record Listed (bs cs : List ℤ) (events : Events) (k : ℕ) : Type 0 where
+  pub es : List Event
+  pub are : events ≡ events_in es
+  pub few : length es ≤ k
+  pub told : es ++ changes k (drop k bs) (drop k cs) ≡ changes 0 bs cs
 
 abbrev pub caught : Option Event → List Event → List Event
 caught (Some e) es = e ∷ es
@@ -189,12 +183,13 @@ unfoldable pub refined : Which → Pad → Pad → List Event → List Event
 refined leads p q [] = []
 refined leads p q (e ∷ es) = caught (joined_event leads p q e) (refined leads p q es)
 
--- the events of the first i stand in list, count of them, and unused ones after them
-pub record Refining (leads : Which) (p q : Pad) (es list : List Event) (count i : ℕ) : Type 0 where
+-- the events of the first i
+pub record Refining (leads : Which) (p q : Pad) (es : List Event) (events : Events) (i : ℕ) : Type 0 where
   pub within : i ≤ length es
-  pub few : count ≤ i
-  pub fill : Filling list count
-  pub told : take count list ++ refined leads p q (drop i es) ≡ refined leads p q es
+  pub out : List Event
+  pub are : events ≡ events_in out
+  pub few : length out ≤ i
+  pub told : out ++ refined leads p q (drop i es) ≡ refined leads p q es
 
 -- a pad's own answer: the events are those of its own values
 abbrev pub TellsItself : Pad → Told → Type 0

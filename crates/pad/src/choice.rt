@@ -4,14 +4,14 @@ ghost use Rattle.line.specs.Maps.{entry_at};
 ghost use Rattle.line.specs.Numbers.{code_unit, entry_in};
 ghost use Rattle.pad.specs.Pads.{gives, preferred, choose, value_of};
 ghost use Rattle.pad.specs.States.{held_in};
-ghost use Rattle.pad.specs.Inner.{chosen_by, own_numbers, counted, own_from, place_in};
+ghost use Rattle.pad.specs.Inner.{chosen_by, counted, own_from, place_in};
 
 use crate::events::Held;
 use crate::numbers::{CODE_UNIT, held_of};
-use crate::own::Own;
 use crate::value::entry_value;
+use arrayvec::ArrayVec;
 use line::ev::{AxisOrBtn, Code};
-use line::mapping::Entry;
+use line::mapping::{CODES_MAX, Entry};
 
 // A code and the value that it gives.
 #[derive(Clone, Copy)]
@@ -32,10 +32,7 @@ fn code_place(numbers: &[u64], code: Code) -> Option<usize>
 pub fn held_place(held: &[u64], code: Code) -> usize
     ensures { (result ≡ place_in code.0 held.now) × (result ≤ length held.now) }
 {
-    match code_place(held, code) {
-        Some(i) => i,
-        None => held.len(),
-    }
+    code_place(held, code).unwrap_or(held.len())
 }
 
 // The first entry of a code.
@@ -50,19 +47,14 @@ pub fn first_entry(entries: &[u64], code: Code) -> Option<Entry>
 fn given(entries: &[u64], h: Held, el: AxisOrBtn) -> Option<i16>
     ensures { result ≡ gives (map entry_in entries.now) h el }
 {
-    match first_entry(entries, h.code) {
-        Some(e) if e.element == el => entry_value(e, h.raw),
-        _ => None,
-    }
+    let e = first_entry(entries, h.code).filter(|e| e.element == el)?;
+    entry_value(e, h.raw)
 }
 
 // The farther from zero of the two; between equals that of the smaller code.
-fn prefer(first: Best, rest: Option<Best>) -> Best
-    ensures { chosen_by (Some result) ≡ preferred first.code first.value (chosen_by rest) }
+fn farther(first: Best, other: Best) -> Best
+    ensures { chosen_by (Some result) ≡ preferred first.code first.value (chosen_by (Some other)) }
 {
-    let Some(other) = rest else {
-        return first;
-    };
     let far = first.value.unsigned_abs();
     let beside = other.value.unsigned_abs();
     if beside < far {
@@ -76,6 +68,13 @@ fn prefer(first: Best, rest: Option<Best>) -> Best
     } else {
         other
     }
+}
+
+// The same where there is none to choose from beside the first.
+fn prefer(first: Best, rest: Option<Best>) -> Best
+    ensures { chosen_by (Some result) ≡ preferred first.code first.value (chosen_by rest) }
+{
+    rest.map_or(first, |other| farther(first, other))
 }
 
 // The code and the value that an element has. From the last code on, as the definition chooses.
@@ -102,11 +101,11 @@ fn counts_for(before: &[u64], x: u64, el: AxisOrBtn) -> bool
 }
 
 // The entries that count for an element: the others are passed over once, and not for each held code.
-fn own_entries(entries: &[u64], el: AxisOrBtn) -> Own
+fn own_entries(entries: &[u64], el: AxisOrBtn) -> ArrayVec<u64, CODES_MAX>
     requires { length entries.now ≤ 256 }
-    ensures { own_numbers result ≡ own_from el [] entries.now }
+    ensures { result.items ≡ own_from el [] entries.now }
 {
-    let mut own = Own::new();
+    let mut own = ArrayVec::new();
     for (j, x) in entries.iter().enumerate() {
         if counts_for(&entries[..j], *x, el) {
             own.push(*x);
@@ -121,8 +120,5 @@ pub fn element_value(held: &[u64], entries: &[u64], el: AxisOrBtn) -> i16
     ensures { result ≡ value_of (map held_in held.now) (map entry_in entries.now) el }
 {
     let own = own_entries(entries, el);
-    match best_of(held, own.numbers(), el) {
-        Some(best) => best.value,
-        None => 0,
-    }
+    best_of(held, own.as_slice(), el).map_or(0, |best| best.value)
 }

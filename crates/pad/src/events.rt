@@ -1,4 +1,8 @@
 // What a pad reports of a code, and what is told of an element.
+ghost use Rattle.std.specs.Prelude.{◌≡◌, ◌<◌, []};
+ghost use Rattle.pad.specs.States.{events_in};
+ghost use Rattle.pad.specs.Inner.{PushesEvent};
+
 use line::ev::{AxisOrBtn, Button, Code};
 
 // The elements that a pad has events for: buttons 1 to 19 and axes 1 to 8.
@@ -39,4 +43,25 @@ impl Event {
 pub struct Events {
     pub count: usize,
     pub list: [Event; ELEMENTS],
+}
+
+impl Events {
+    // No events.
+    pub(crate) fn none() -> Events
+        ensures { result ≡ events_in [] }
+    {
+        Events {
+            count: 0,
+            list: [Event::UNUSED; ELEMENTS],
+        }
+    }
+
+    // One event more.
+    pub(crate) fn push(&mut self, e: Event)
+        requires { self.old.count < 27 }
+        ensures { PushesEvent self.old e self.new }
+    {
+        self.list[self.count] = e;
+        self.count += 1;
+    }
 }

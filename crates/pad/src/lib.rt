@@ -4,7 +4,6 @@
 mod choice;
 pub mod events;
 mod numbers;
-mod own;
 mod put;
 pub mod state;
 mod telling;

@@ -5,10 +5,11 @@ ghost use Rattle.pad.specs.States.{new_pad, raw_event_of, change_map_of, pad_val
 ghost use Rattle.pad.specs.PadGuarantee.{ShortAll};
 ghost use Rattle.pad.specs.Refusals.{pad_outcome};
 ghost use Rattle.line.specs.Maps as specs;
+ghost use Rattle.line.specs.Refusals.{refusal};
 
 use crate::events::{Events, Raw};
 use crate::put::put_code;
-use crate::telling::{change_event, differences, events_of, no_events};
+use crate::telling::{change_event, differences, events_of};
 use crate::values::{all_values, value_of};
 use line::ev::{AxisOrBtn, Code};
 use line::mapping::{CODES_MAX, Mapping};
@@ -32,15 +33,20 @@ pub struct Pad {
 #[derive(Clone, Copy, PartialEq, Eq)]
 pub struct TooManyCodes;
 
-// The answer of a raw event or a change of map, with the refusal's number. A match and not map_err: the one refusal
-// holds nothing to map, and each line here is tried with a wrong number.
+impl TooManyCodes {
+    // Number of the refusal.
+    fn refusal(self) -> Refusal
+        ensures { result ≡ refusal 27 }
+    {
+        Refusal::plain(27)
+    }
+}
+
+// The answer of a raw event or a change of map, with the refusal's number.
 pub fn pad_outcome(answer: Result<(), TooManyCodes>) -> Result<(), Refusal>
     ensures { result ≡ pad_outcome answer }
 {
-    match answer {
-        Ok(()) => Ok(()),
-        Err(TooManyCodes) => Err(Refusal::plain(27)),
-    }
+    answer.map_err(TooManyCodes::refusal)
 }
 
 // What a call answers: the state after it, and the events.
@@ -79,7 +85,7 @@ impl Pad {
             Err(e) => Told {
                 answer: Err(e),
                 pad,
-                events: no_events(),
+                events: Events::none(),
             },
         }
     }

@@ -1,5 +1,5 @@
 // The events between two states of a pad.
-ghost use Rattle.std.specs.Prelude.{◌≡◌, [], ◌∷◌, ◌≤◌, ◌<◌};
+ghost use Rattle.std.specs.Prelude.{◌≡◌, [], ◌≤◌, ◌<◌};
 ghost use Rattle.pad.specs.Pads.{place_from, place_of, element_at, changes};
 ghost use Rattle.pad.specs.States.{events_in};
 ghost use Rattle.pad.specs.Inner.{caught, event_by};
@@ -55,31 +55,15 @@ pub fn element_at(k: usize) -> AxisOrBtn
     AxisOrBtn::Axis(Axis((k - 19) as u16 + 1))
 }
 
-// No events.
-pub fn no_events() -> Events
-    ensures { result ≡ events_in [] }
-{
-    let list = [Event::UNUSED; ELEMENTS];
-    Events { count: 0, list }
-}
-
-// One event.
-pub fn one_event(e: Event) -> Events
-    ensures { result ≡ events_in (e ∷ []) }
-{
-    let mut list = [Event::UNUSED; ELEMENTS];
-    list[0] = e;
-    Events { count: 1, list }
-}
-
 // The events of one that may be.
 pub fn events_of(event: Option<Event>) -> Events
     ensures { result ≡ events_in (caught event []) }
 {
-    match event {
-        Some(e) => one_event(e),
-        None => no_events(),
+    let mut events = Events::none();
+    if let Some(e) = event {
+        events.push(e);
     }
+    events
 }
 
 // The event of a change.
@@ -99,15 +83,13 @@ pub fn change_event(change: Option<Change>) -> Option<Event>
 pub fn differences(before: &[i16; ELEMENTS], after: &[i16; ELEMENTS]) -> Events
     ensures { result ≡ events_in (changes 0 before.now after.now) }
 {
-    let mut list = [Event::UNUSED; ELEMENTS];
-    let mut count: usize = 0;
+    let mut events = Events::none();
     for k in 0..ELEMENTS {
         let value = after[k];
         if before[k] != value {
             let element = element_at(k);
-            list[count] = Event { element, value };
-            count += 1;
+            events.push(Event { element, value });
         }
     }
-    Events { count, list }
+    events
 }

@@ -7,10 +7,10 @@ ghost use Rattle.pad.specs.PadGuarantee.{ShortAll, told_events};
 ghost use Rattle.pad.specs.TwoPads.{farther, pads_value, new_pads, pad_of, with_pad, pads_raw_event_of, pads_change_map_of};
 ghost use Rattle.pad.specs.Inner.{PutsCode, TellsFew, pad_beside, joined_of, joined_by, refined};
 
-use crate::events::{ELEMENTS, Event, Events, Raw};
+use crate::events::{Event, Events, Raw};
 use crate::put::put_code;
 use crate::state::{Pad, TooManyCodes};
-use crate::telling::{Change, change_event, events_of, no_events};
+use crate::telling::{Change, change_event, events_of};
 use crate::values::value_of;
 use line::ev::{AxisOrBtn, Code};
 use line::mapping::Mapping;
@@ -63,7 +63,7 @@ impl Pads {
             Err(e) => PadsTold {
                 answer: Err(e),
                 pads,
-                events: no_events(),
+                events: Events::none(),
             },
         }
     }
@@ -185,8 +185,7 @@ fn joined_events(which: Which, own: &Pad, beside: &Pad, told: Events) -> Events
     requires { TellsFew told }
     ensures { result ≡ events_in (refined which own.now beside.now (told_events told)) }
 {
-    let mut list = [Event::UNUSED; ELEMENTS];
-    let mut count: usize = 0;
+    let mut events = Events::none();
     for e in &told.list[..told.count] {
         let element = e.element;
         let before = value_of(own, element);
@@ -197,9 +196,8 @@ fn joined_events(which: Which, own: &Pad, beside: &Pad, told: Events) -> Events
             later,
         };
         if let Some(joint) = joined_change(which, Some(change), beside) {
-            list[count] = joint;
-            count += 1;
+            events.push(joint);
         }
     }
-    Events { count, list }
+    events
 }

@@ -1,7 +1,7 @@
 // What a build checks before its line is made: 10, 17, 12, 13, 14, 15, 14, 15, 16, in this order.
 ghost use Rattle.std.specs.Prelude.{◌≡◌};
 ghost use Rattle.map.specs.Build.{filled_axes, axis_checks, slot_checks, checks_of};
-ghost use Rattle.map.specs.Inner.{held_in, placed_in, Passes, Gathered};
+ghost use Rattle.map.specs.Inner.{placed_in, Passes, Gathered};
 
 use crate::error::MappingError;
 use crate::from_data::NAME_MAX;
@@ -16,7 +16,7 @@ use text::utf8::valid_up_to;
 // The axes' slots: 14, 15, 16.
 fn axes_checked(slots: &MappingData, axes: &[u32]) -> Result<Filled, MappingError>
     ensures { Passes result (axis_checks slots.now axes.now)
-        (λ f. held_in f ≡ placed_in axes.now (filled_axes slots.now)) }
+        (λ f. f.items ≡ placed_in axes.now (filled_axes slots.now)) }
 {
     if slots.axis(Axis::Unknown).is_some() {
         return Err(MappingError::UnknownElement);

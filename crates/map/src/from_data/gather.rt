@@ -6,6 +6,7 @@ ghost use Rattle.map.specs.Inner.{element_of, letter_of, Gathers};
 use crate::error::MappingError;
 use crate::from_data::filled::{Filled, Placed};
 use crate::lists::find_code;
+use arrayvec::ArrayVec;
 use line::ev::{Axis, AxisOrBtn, Button, Code};
 use line::mapping::Entry;
 
@@ -43,7 +44,7 @@ pub fn gather(slots: &[Option<Code>], kind: Kind, list: &[u32]) -> Result<Filled
     requires { length slots.now ≤ button_slots }
     ensures { Gathers list.now kind slots.now result }
 {
-    let mut filled = Filled::new();
+    let mut filled = ArrayVec::new();
     for (i, slot) in slots.iter().enumerate() {
         if let Some(code) = *slot {
             let Some(place) = find_code(list, code) else {

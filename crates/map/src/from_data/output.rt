@@ -4,7 +4,7 @@ ghost use Rattle.text.specs.Decimal.{decimal};
 ghost use Rattle.text.specs.Uuid.{uuid_text};
 ghost use Rattle.text.specs.Inner.{Put};
 ghost use Rattle.map.specs.Build.{name_max};
-ghost use Rattle.map.specs.Inner.{held_in, letter_of, with_comma, value_text, pair_of, pairs_of, head_text, line_text};
+ghost use Rattle.map.specs.Inner.{letter_of, with_comma, value_text, pair_of, pairs_of, head_text, line_text};
 ghost use Rattle.map.specs.Inner.{Room, length_of, lengths_of, line_len_of, short_of};
 
 use crate::from_data::filled::{Filled, Pairs, Placed};
@@ -25,11 +25,11 @@ fn pair_len(slot: Placed) -> usize
 }
 
 fn pairs_len(filled: &Filled) -> usize
-    ensures is { result ≡ lengths_of (held_in filled.now) }
+    ensures is { result ≡ lengths_of filled.now.items }
     ensures short { result ≤ 720 }
 {
     let mut len: usize = 0;
-    for slot in filled.slots() {
+    for slot in filled.as_slice() {
         len += pair_len(*slot);
     }
     len
@@ -131,8 +131,8 @@ pub fn put_line(out: &mut [u8], pairs: &Pairs, name: &[u8], uuid: Uuid) -> usize
     ensures { Put out.old 0 (line_text pairs.now name.now uuid) result out.new }
 {
     let first = put_head(out, uuid, name);
-    let buttons = pairs.buttons.slots();
+    let buttons = pairs.buttons.as_slice();
     let last = put_pairs(out, first, Kind::Button, buttons);
-    let axes = pairs.axes.slots();
+    let axes = pairs.axes.as_slice();
     put_pairs(out, last, Kind::Axis, axes)
 }

@@ -24,8 +24,8 @@ fn put_numbers(xs: &mut [u64], slots: &[Placed])
 pub fn built_map(pairs: &Pairs, name_len: usize) -> Mapping
     ensures { result ≡ put_map_of pairs.now name_len }
 {
-    let first = pairs.buttons.slots();
-    let last = pairs.axes.slots();
+    let first = pairs.buttons.as_slice();
+    let last = pairs.axes.as_slice();
     let n = first.len();
     let count = n + last.len();
     let mut xs = [0u64; BUTTONS + BUTTONS];

@@ -1,6 +1,6 @@
 -- The number at a place of the table is that of its code; outside there is none. Assumes nothing.
 use Prim.Native.Nat.{ℕ, ◌+◌, ◌-◌, ◌≤◌, ◌<◌}
-use mathlib.Core.Path.{◌≡◌, sym, ap, ◌∙◌}
+use mathlib.Core.Path.{◌≡◌, ap, ◌∙◌}
 use native.Mathlib.Omega.{arith}
 use mir.Val.{Fits}
 use mir.Syntax.{w16}
@@ -8,7 +8,7 @@ use lib.ListN.{get_or}
 use Rattle.line.specs.declared.ev.Button.{Button}
 use Rattle.line.specs.Elements.{button_last}
 use Rattle.map.specs.Keys.{key_first, key_count, key_number, keys}
-use Rattle.map.proofs.KeyLaws.{key_rule, no_other, key_below, key_above}
+use Rattle.map.proofs.KeyLaws.{key_rule, no_other}
 use Rattle.map.proofs.keys.key_button.Goals as goal
 
 abbrev numbered : ℕ → Button
@@ -23,22 +23,8 @@ placed k h l =
 fitting : (i : ℕ) → i < key_count → Fits w16 (get_or keys i 0)
 fitting i h = let small : get_or keys i 0 ≤ button_last = no_other i h in omega arith
 
-pub returns-then-code-lt-KEY_FIRST : goal.returns-then-code-lt-KEY_FIRST
-returns-then-code-lt-KEY_FIRST c =
-    ap (λ (n : ℕ). numbered n) (sym (key_below c.args.code.0 c.if-code-lt-KEY_FIRST.true))
-
-pub overflow_cast-result : goal.overflow_cast-result
-unfolding keys
-overflow_cast-result c = fitting (c.args.code.0 - key_first) c.if-i-lt-KEYS.true
-
 pub returns-then-i-lt-KEYS : goal.returns-then-i-lt-KEYS
 unfolding keys
 returns-then-i-lt-KEYS c =
     ap (λ (n : ℕ). numbered n)
     (placed c.args.code.0 c.if-code-lt-KEY_FIRST.false c.if-i-lt-KEYS.true)
-
-pub returns : goal.returns
-returns c =
-    let k = c.args.code.0 in
-    let over : key_first + key_count ≤ k = omega arith in
-    ap (λ (n : ℕ). numbered n) (sym (key_above k over))

@@ -38,8 +38,3 @@ loop-i-preserved c =
       none_more c.args.held.now i k (map entry_in c.args.entries.now) c.args.el c.held_of-h.result l one
           c.held_of-h.ensures _ c.loop-i.invariant.1 (sym c.given.ensures ∙ c.in_default.is),
     )
-
-pub returns : goal.returns
-returns c =
-    let z : c.loop-i.i ≡ 0 = omega arith in
-    rw z at c.loop-i.invariant.1

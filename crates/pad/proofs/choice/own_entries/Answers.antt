@@ -1,29 +1,22 @@
 -- Each entry counts or is passed. Assumes nothing.
 use Rattle.std.proofs.Common.{arith, sym, ◌∙◌}
-use Rattle.pad.proofs.OwnLaws.{gathered_none, gathered_passed, gathered_taken, gathered_all}
+use Rattle.pad.proofs.OwnLaws.{gathered_passed, gathered_taken, gathered_all}
 use Rattle.pad.proofs.choice.own_entries.Goals as goal
 use Rattle.pad.proofs.choice.own_entries.Goals.{then-counts_for, else-counts_for}
-
-pub loop-j-init : goal.loop-j-init
-loop-j-init c =
-    gathered_none c.args.el c.args.entries.now c.new-own.result c.new-own.ensures.none c.new-own.ensures.count
-
-pub push-requires : goal.push-requires
-push-requires c = omega (arith, c.loop-j.invariant.few, c.requires)
 
 pub loop-j-preserved : goal.loop-j-preserved
 loop-j-preserved c =
     let a = c.args in
     elim c.if-counts_for.branch [
       | then-counts_for w ↦
-          rw w.own-is
-          (gathered_taken a.el a.entries.now c.loop-j.j c.loop-j.own c.loop-j.invariant (omega arith) _
-          (sym c.counts_for.ensures ∙ w.if-counts_for.true) w.push.new.self w.push.ensures.more w.push.ensures.count)
+          rw (w.own-is, w.push.ensures.items)
+          (gathered_taken a.el a.entries.now c.loop-j.j c.loop-j.own.items c.loop-j.invariant (omega arith) _
+          (sym c.counts_for.ensures ∙ w.if-counts_for.true))
       | else-counts_for w ↦
           rw w.own-is
-          (gathered_passed a.el a.entries.now c.loop-j.j c.loop-j.own c.loop-j.invariant (omega arith) _
+          (gathered_passed a.el a.entries.now c.loop-j.j c.loop-j.own.items c.loop-j.invariant (omega arith) _
           (sym c.counts_for.ensures ∙ w.if-counts_for.false))
     ]
 
 pub returns : goal.returns
-returns c = gathered_all c.args.el c.args.entries.now c.loop-j.j c.loop-j.own c.loop-j.invariant (omega arith)
+returns c = gathered_all c.args.el c.args.entries.now c.loop-j.j c.loop-j.own.items c.loop-j.invariant (omega arith)

@@ -7,12 +7,12 @@ use mir.ValLaws.{to_z-of_z}
 use Rattle.line.specs.declared.ev.AxisOrBtn.{AxisOrBtn}
 use Rattle.pad.specs.Pads.{element_at}
 use Rattle.pad.specs.Inner.{one_event}
-use Rattle.pad.proofs.ListLaws.{none-listed, listed_same, listed_other, all_listed}
+use Rattle.pad.proofs.ListLaws.{listed_same, listed_other, all_listed, events_many}
 use Rattle.pad.proofs.telling.differences.Goals as goal
 use Rattle.pad.proofs.telling.differences.Goals.{then-before-k, else-before-k}
 
-pub loop-k-init : goal.loop-k-init
-loop-k-init c = none-listed c.args.before.now c.args.after.now
+pub push-requires : goal.push-requires
+push-requires c = omega (arith, c.loop-k.invariant.few, events_many _ _ c.loop-k.invariant.are)
 
 pub loop-k-preserved : goal.loop-k-preserved
 loop-k-preserved c =
@@ -23,19 +23,18 @@ loop-k-preserved c =
     let fb : SFits w16 b = search rules in
     elim c.if-before-k.branch [
       | then-before-k w ↦
-          rw (w.list-is, w.count-is)
+          rw w.events-is
           (listed_other c.args.before.now c.args.after.now k (omega arith) (omega arith) (omega arith) (pos 0)
-          c.loop-k.list c.loop-k.count _ c.loop-k.invariant (λ q. w.if-before-k.true (ap (of_z w16) q))
+          _ _ _ c.loop-k.invariant (λ q. w.if-before-k.true (ap (of_z w16) q))
           (ap (λ (el : AxisOrBtn). one_event el (to_z w16 (of_z w16 b))) w.element_at-element.ensures
-          ∙ ap (λ (z : ℤ). one_event (element_at k) z) (to_z-of_z w16 b fb)))
+          ∙ ap (λ (z : ℤ). one_event (element_at k) z) (to_z-of_z w16 b fb)) w.push.ensures)
       | else-before-k w ↦
-          rw (w.list-is, w.count-is)
+          rw w.events-is
           (listed_same c.args.before.now c.args.after.now k (omega arith) (omega arith) (omega arith) (pos 0)
-          c.loop-k.list c.loop-k.count c.loop-k.invariant
+          _ c.loop-k.invariant
           (sym (to_z-of_z w16 a fa) ∙ ap (to_z w16) w.if-before-k.false ∙ to_z-of_z w16 b fb))
     ]
 
 pub returns : goal.returns
 returns c =
-    all_listed c.args.before.now c.args.after.now c.loop-k.list c.loop-k.count c.loop-k.k (omega arith) (omega arith)
-    c.loop-k.invariant
+    all_listed c.args.before.now c.args.after.now _ c.loop-k.k (omega arith) (omega arith) c.loop-k.invariant

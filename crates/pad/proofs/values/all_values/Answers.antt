@@ -7,7 +7,7 @@ use mir.ValLaws.{to_z-of_z}
 use Rattle.line.specs.declared.ev.AxisOrBtn.{AxisOrBtn}
 use Rattle.pad.specs.Pads.{element_at, value_of, tabulate}
 use Rattle.pad.specs.States.{held_of, entries_of}
-use Rattle.pad.proofs.ListLaws.{filled_more, all_filled}
+use Rattle.pad.proofs.ListLaws.{filled_more}
 use Rattle.pad.proofs.StateLaws.{value_parts}
 use Rattle.pad.proofs.values.all_values.Goals as goal
 
@@ -26,8 +26,3 @@ loop-k-preserved c =
       length-set c.loop-k.values c.loop-k.k _ ∙ c.loop-k.invariant.0,
       filled_more f c.loop-k.k _ c.loop-k.values c.loop-k.invariant.1 (omega (arith, c.loop-k.invariant.0)) e,
     )
-
-pub returns : goal.returns
-returns c =
-    all_filled (λ (j : ℕ). value_of (held_of c.args.pad.now) (entries_of c.args.pad.now) (element_at j)) c.loop-k.k
-    c.loop-k.values c.loop-k.invariant.0 (omega arith) c.loop-k.invariant.1

@@ -20,10 +20,10 @@ loop-i-preserved c =
           (gather_empty a.list.now a.kind a.slots.now c.loop-i.i (omega arith) _ c.loop-i.invariant
           w.in_default.is)
       | in-Some+in-Some-find_code w ↦
-          rw w.filled-is
+          rw (w.filled-is, w.push.ensures.items)
           (gather_filled a.list.now a.kind a.slots.now c.loop-i.i (omega arith) _ c.loop-i.invariant w.in-Some.code
           w.in-Some.is w.in-Some-find_code.place (sym w.find_code.ensures ∙ w.in-Some-find_code.is) w.new-entry.result
-          (rw w.element.ensures at w.new-entry.ensures) w.push.new.self w.push.ensures.more w.push.ensures.count)
+          (rw w.element.ensures at w.new-entry.ensures))
     ]
 
 pub returns : goal.returns

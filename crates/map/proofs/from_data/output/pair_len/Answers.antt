@@ -7,10 +7,6 @@ use lib.ListN.{length}
 use Rattle.map.proofs.LengthLaws.{ident_short, place_short}
 use Rattle.map.proofs.from_data.output.pair_len.Goals as goal
 
-pub overflow_add-result : goal.overflow_add-result
-overflow_add-result c =
-    omega (arith, ap (λ (x : List ℕ). length x) c.ident_of.ensures.0, ident_short c.args.slot.entry.element)
-
 pub overflow_add-result-2 : goal.overflow_add-result-2
 overflow_add-result-2 c =
     omega (
@@ -30,9 +26,6 @@ overflow_add-result-3 c =
       c.index_len.ensures,
       place_short c.args.slot.place (omega arith),
     )
-
-pub returns-clause-is : goal.returns-clause-is
-returns-clause-is c = rw (c.ident_of.ensures.0, c.index_len.ensures)
 
 pub returns-clause-short : goal.returns-clause-short
 returns-clause-short c =

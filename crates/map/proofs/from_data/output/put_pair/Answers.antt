@@ -3,30 +3,8 @@ use mathlib.Core.List.{[], ◌∷◌}
 use Rattle.text.specs.Bytes.{byte}
 use Rattle.line.specs.Tables.{ident_text}
 use Rattle.map.specs.Inner.{letter_of, value_text}
-use Rattle.map.proofs.OutputLaws.{room_first, room_second, room_third, three_put}
+use Rattle.map.proofs.OutputLaws.{three_put}
 use Rattle.map.proofs.from_data.output.put_pair.Goals as goal
-
-pub put_bytes-colon-requires : goal.put_bytes-colon-requires
-put_bytes-colon-requires c =
-    let a = c.args in
-    let i = ident_text a.slot.entry.element in
-    let v = value_text (letter_of a.kind) a.slot.place in
-    rw c.ident_of.ensures.0 (room_first a.out.now a.at i v (byte "," ∷ []) c.requires)
-
-pub put_value-comma-requires : goal.put_value-comma-requires
-put_value-comma-requires c =
-    let a = c.args in
-    let i = ident_text a.slot.entry.element in
-    let v = value_text (letter_of a.kind) a.slot.place in
-    room_second a.out.now a.at i v (byte "," ∷ []) c.requires _ _ (rw c.ident_of.ensures.0 at c.put_bytes-colon.ensures)
-
-pub put_bytes-requires : goal.put_bytes-requires
-put_bytes-requires c =
-    let a = c.args in
-    let i = ident_text a.slot.entry.element in
-    let v = value_text (letter_of a.kind) a.slot.place in
-    let w = c.put_value-comma.ensures in
-    room_third a.out.now a.at i v (byte "," ∷ []) c.requires _ _ (rw c.ident_of.ensures.0 at c.put_bytes-colon.ensures) _ _ w
 
 pub returns : goal.returns
 returns c =

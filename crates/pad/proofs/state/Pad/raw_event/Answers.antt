@@ -6,4 +6,4 @@ use Rattle.pad.proofs.state.Pad.raw_event.Goals as goal
 pub returns-in-Err : goal.returns-in-Err
 unfolding refused_of
 returns-in-Err c =
-    (rw (c.in-Err.ensures.told.1, c.no_events.ensures) (sym c.in-Err.ensures.told.0), c.put_code.ensures.within)
+    (rw (c.in-Err.ensures.told.1, c.none.ensures) (sym c.in-Err.ensures.told.0), c.put_code.ensures.within)

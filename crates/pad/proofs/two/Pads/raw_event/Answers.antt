@@ -27,6 +27,6 @@ returns-in-Err c =
     let t = c.in-Err.ensures.told in (
       rw (same_after c.args.which c.args.self c.put.new.self c.put.ensures.there t.1)
           (raw_away c.args.which c.args.self (pad_of c.args.which c.args.self) _ refl refl c.args.code c.args.raw c.in-Err.e
-          c.no_events.result t.0 c.no_events.ensures),
+          c.none.result t.0 c.none.ensures),
       c.put.ensures.within,
     )
