@@ -1,4 +1,7 @@
 // The rows of a table: a line's key, where it starts, and its length.
+//
+// Where a call asks that a number is below `ROWS`, a type for such a number would be made anew at each call and taken
+// apart in it: it is a loop's number, a count, or a link less one.
 use crate::parties::Key;
 use text::uuid::Uuid;
 
