@@ -11,9 +11,6 @@ loop-k-init c =
     let args = c.args in
     add_first args.rows.now args.count c.requires.addable args.uses.now c.requires.uses_value
 
-pub bounds-rows-k : goal.bounds-rows-k
-bounds-rows-k c = omega (arith, c.loop-k-test.true, c.requires.addable.most)
-
 pub overflow_add-uses : goal.overflow_add-uses
 overflow_add-uses c =
     let loop = c.loop-k in

@@ -34,14 +34,6 @@ returns-then-len-eq0 c =
           seek.result seek.ensures.sought seek.ensures.upper_bound before.result before.ensures c.if-len-eq0.true;
     }
 
-pub overflow_sub-start : goal.overflow_sub-start
-overflow_sub-start c =
-    let seek-before = c.seek_before-r in
-    omega (
-      arith,
-      some-before _ seek-before.result c.len_before-len.result c.len_before-len.ensures c.if-len-eq0.false,
-    )
-
 pub returns : goal.returns
 returns c =
     let args = c.args in
