@@ -7,17 +7,6 @@ use Rattle.store.proofs.ChainLaws.{seek_turn}
 use Rattle.store.proofs.HeldLaws.{same_eq}
 use Rattle.store.proofs.chains.seek.Goals as goal
 
-pub loop-c-init : goal.loop-c-init
-loop-c-init c =
-    (record { passed = λ j l m e. omega arith; kin = c.requires.kin; within = c.requires.k_lt_rows_max.1 }, λ l. l)
-
-pub returns-then-left-eq0 : goal.returns-then-left-eq0
-returns-then-left-eq0 c =
-    record {
-      seeks = record { clear = λ l. absurd (omega arith); hit = λ p l. absurd (omega arith) };
-      upper_bound = λ l. let loop = c.loop-c in let left : loop.c ≤ loop.left = loop.invariant.1 l in omega arith;
-    }
-
 pub returns-then-eq : goal.returns-then-eq
 unfolding same_key
 returns-then-eq c =
@@ -51,10 +40,3 @@ loop-c-preserved c =
     c.from-c.result pre.linked loop.invariant.0 (omega arith) (sym c.eq.ensures ∙ c.if-eq.false)
     c.from-c.ensures in
     (on.0, λ l. let left : loop.c ≤ loop.left = loop.invariant.1 l in omega (arith, on.1))
-
-pub returns : goal.returns
-returns c =
-    let loop = c.loop-c in record {
-      seeks = record { clear = λ l j a b e. loop.invariant.0.passed j (omega arith) b e; hit = λ p l. absurd (omega arith) };
-      upper_bound = λ l. omega arith;
-    }

@@ -3,7 +3,7 @@ use native.Mathlib.Omega.{arith}
 use Prim.Native.Nat.{◌<◌}
 use borrow.Author.Rules.{rules}
 use Rattle.store.specs.Rows.{key_in}
-use Rattle.store.proofs.UseLaws.{add_first, add_most, add_next, add_end}
+use Rattle.store.proofs.UseLaws.{add_first, add_most, add_next}
 use Rattle.store.proofs.claims.add_uses.Goals as goal
 
 pub loop-k-init : goal.loop-k-init
@@ -29,10 +29,3 @@ loop-k-preserved c =
     let byte : (key_in args.rows.now loop.k).owner < 256 = search rules in
     add_next args.rows.now args.count c.requires.addable loop.uses loop.k loop.invariant
     c.loop-k-test.true _ refl byte _ refl
-
-pub returns : goal.returns
-returns c =
-    let args = c.args in
-    let loop = c.loop-k in
-    add_end args.rows.now args.count c.requires.addable loop.uses loop.k loop.invariant
-    c.loop-k-test.false

@@ -1,7 +1,6 @@
 -- The key is the last of the numbers, and its chain tells the one before: `spot_line`.
 use mathlib.Core.Path.{refl, ◌∙◌}
-use native.Mathlib.Omega.{arith}
-use Rattle.store.proofs.LookLaws.{some-before, spot_none, spot_line, put_agree, put_ready, put_new}
+use Rattle.store.proofs.LookLaws.{spot_none, spot_line, put_agree, put_ready, put_new}
 use Rattle.store.proofs.look.part_of.Goals as goal
 
 pub seek_before-r-requires : goal.seek_before-r-requires

@@ -1,19 +1,10 @@
 use native.Mathlib.Omega.{arith}
-use Rattle.store.proofs.ClosingLaws.{close_first, close_skip, close_most, close_within}
+use Rattle.store.proofs.ClosingLaws.{close_skip, close_within}
 use Rattle.store.proofs.ClosingLaws.{close_later, close_ends, close_off, close_end}
-use Rattle.store.proofs.ClosingLaws.{part_long, close_long}
-use Rattle.store.proofs.ClosingLaws.{close_fits, close_size, close_turn}
+use Rattle.store.proofs.ClosingLaws.{close_long}
+use Rattle.store.proofs.ClosingLaws.{close_fits, close_turn}
 use Rattle.store.proofs.SettleLaws.{fits_text, fits_source, stands_ahead}
 use Rattle.store.proofs.settle.close_up.Goals as goal
-
-pub loop-k-init : goal.loop-k-init
-loop-k-init c =
-    let args = c.args in
-    let pre = c.requires in
-    close_first args.part.now args.text.now args.lines.now _ args.kept args.was args.count (pre)
-
-pub bounds-rows-k : goal.bounds-rows-k
-bounds-rows-k c = close_most c.loop-k.invariant (omega arith)
 
 pub loop-k-preserved-then-len-eq0 : goal.loop-k-preserved-then-len-eq0
 loop-k-preserved-then-len-eq0 c =
@@ -41,15 +32,6 @@ put_text-requires c =
       len_in_bounds_2 = fits_source run (omega arith) some;
       off_le_start = stands_ahead run (omega arith) some;
     }
-
-pub overflow_add-at : goal.overflow_add-at
-overflow_add-at c =
-    let loop = c.loop-k in
-    omega (
-      arith,
-      part_long loop.invariant,
-      close_size loop.invariant (omega arith) c.if-len-eq0.false _ c.record_size-at.ensures,
-    )
 
 pub loop-k-preserved : goal.loop-k-preserved
 loop-k-preserved c =

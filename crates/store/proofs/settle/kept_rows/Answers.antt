@@ -2,19 +2,11 @@ use mathlib.Core.Path.{◌≡◌, subst}
 use Prim.Native.Nat.{ℕ}
 use native.Mathlib.Omega.{arith}
 use Rattle.store.specs.Table.{Keeps}
-use Rattle.store.proofs.ClosingLaws.{keep-first, kept_most, keep_end, keep_fits, keep-turn}
+use Rattle.store.proofs.ClosingLaws.{keep-first, keep_end, keep_fits, keep-turn}
 use Rattle.store.proofs.settle.kept_rows.Goals as goal
 
 pub loop-k-init : goal.loop-k-init
 loop-k-init c = keep-first _ c.args.old c.requires
-
-pub bounds-rows-k : goal.bounds-rows-k
-bounds-rows-k c = kept_most _ _ _ _ _ c.loop-k.invariant (omega arith)
-
-pub returns-then-len-eq0 : goal.returns-then-len-eq0
-returns-then-len-eq0 c =
-    let loop = c.loop-k in
-    keep_end _ _ _ _ _ loop.invariant
 
 pub overflow_add-at : goal.overflow_add-at
 overflow_add-at c =

@@ -16,11 +16,3 @@ link-requires c =
           (λ e. omega arith))))
           args.self.now.heads args.self.now.next pre.chained;
     }
-
-pub returns : goal.returns
-returns c =
-    record {
-      rows_after = c.link.ensures.rows_kept;
-      sought = (c.link.ensures.sought, c.link.ensures.upper_bound);
-      chained_2 = c.link.ensures.chained_2;
-    }
