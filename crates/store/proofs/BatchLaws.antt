@@ -14,6 +14,7 @@ use Rattle.text.proofs.BytesLaws.{first_le}
 use Rattle.text.proofs.LentLaws.{tail_length}
 use Rattle.text.specs.Bytes.{first_of}
 use Rattle.text.specs.declared.uuid.Spelled.{Spelled}
+use Rattle.store.specs.declared.rows.Row.{Row}
 use Rattle.store.specs.declared.claims.Dues.{Dues}
 use Rattle.store.specs.declared.table.Fill.{Fill}
 use Rattle.store.specs.declared.batch.Walked.{Walked}
@@ -43,7 +44,7 @@ use Rattle.store.specs.declared.calls.StoreError.{StoreError}
 use Rattle.store.specs.declared.table.Full.{Full}
 
 -- the exits of `reach_row`
-module _ (d : Dues) (i t s : List ℕ) (a : List ℕ) (heads next : List ℕ) (f : Fill) (own at len : ℕ)
+module _ (d : Dues) (i t s : List ℕ) (a : List Row) (heads next : List ℕ) (f : Fill) (own at len : ℕ)
     (inside : at + len ≤ length s) where
   abbrev l : List ℕ
   l = take len (drop at s)
@@ -70,7 +71,7 @@ module _ (d : Dues) (i t s : List ℕ) (a : List ℕ) (heads next : List ℕ) (f
             shape = record { some = wanted-some l u e; most = omega (arith, part_long) };
           }
 
-      module _ (a' : List ℕ) (heads' next' : List ℕ) (z : Result Fill Full)
+      module _ (a' : List Row) (heads' next' : List ℕ) (z : Result Fill Full)
           (y : FilesRow d i t a heads next f (key_by own u.id) at len a' heads' next' z) where
         reached : (g : List ℕ) (hs : List Held) (r : Result ⊤ Full) → room_for (behind g i t own) (under own u.id l) hs ≡ r
             → reach (behind g i t own) hs l
@@ -134,7 +135,7 @@ runs_line by s at end l e line el hs c =
     (λ ks. insert_lines by ks (suc c) (lines_of (drop (at + (end + 1)) s)))) (sym el)
 
 -- the loop of `take_lines`: the lines before `at` are filed, and the rest has the whole's answer
-pub record Took (g i t s : List ℕ) (a : List ℕ) (heads next : List ℕ) (own from old : ℕ) (f : Fill) (at count : ℕ)
+pub record Took (g i t s : List ℕ) (a : List Row) (heads next : List ℕ) (own from old : ℕ) (f : Fill) (at count : ℕ)
     (hs : List Held) : Type 0 where
   pub ks : List Held
   pub others : not_of own ks ≡ not_of own hs
@@ -143,15 +144,15 @@ pub record Took (g i t s : List ℕ) (a : List ℕ) (heads next : List ℕ) (own
   pub run : (c : ℕ) → insert_lines (behind g i t own) hs c (lines_of (drop from s))
       ≡ insert_lines (behind g i t own) ks (c + count) (lines_of (drop at s))
 
-pub record Taking (d : Dues) (i t s : List ℕ) (a₀ : List ℕ) (heads₀ next₀ : List ℕ) (own from : ℕ) (f₀ : Fill)
-    (a : List ℕ) (heads next : List ℕ) (f : Fill) (at count : ℕ) : Type 0 where
+pub record Taking (d : Dues) (i t s : List ℕ) (a₀ : List Row) (heads₀ next₀ : List ℕ) (own from : ℕ) (f₀ : Fill)
+    (a : List Row) (heads next : List ℕ) (f : Fill) (at count : ℕ) : Type 0 where
   pub within : at ≤ length s + 1
   pub counted : from + count ≤ at
   pub still : at ≡ from → f.count ≡ f₀.count
   pub took : (g : List ℕ) (old : ℕ) (hs : List Held) → Owed g own hs d → InRows i t s a₀ heads₀ next₀ old f₀ hs
       → Took g i t s a heads next own from old f at count hs
 
-module _ (d : Dues) (i t s : List ℕ) (a₀ : List ℕ) (heads₀ next₀ : List ℕ) (own from : ℕ) (f₀ : Fill) where
+module _ (d : Dues) (i t s : List ℕ) (a₀ : List Row) (heads₀ next₀ : List ℕ) (own from : ℕ) (f₀ : Fill) where
   pub take-first : from ≤ length s + 1 → Taking d i t s a₀ heads₀ next₀ own from f₀ a₀ heads₀ next₀ f₀ from 0
   take-first l = record {
     within = l;
@@ -167,7 +168,7 @@ module _ (d : Dues) (i t s : List ℕ) (a₀ : List ℕ) (heads₀ next₀ : Lis
     };
   }
 
-  module _ (a : List ℕ) (heads next : List ℕ) (f : Fill) (at count : ℕ)
+  module _ (a : List Row) (heads next : List ℕ) (f : Fill) (at count : ℕ)
       (w : Taking d i t s a₀ heads₀ next₀ own from f₀ a heads next f at count) where
     pub taken : SomeRows d own i t s a₀ heads₀ next₀ f₀ → SomeRows d own i t s a heads next f
     taken (g, (old, (hs, (o, p)))) =
@@ -191,7 +192,7 @@ module _ (d : Dues) (i t s : List ℕ) (a₀ : List ℕ) (heads₀ next₀ : Lis
 
     -- one line on
     module _ (l : at < length s) (end : ℕ) (e : end ≡ first_of lf (drop at s)) (line : List ℕ)
-        (el : line ≡ first_line (drop at s)) (r : Result Fill StoreError) (a' : List ℕ) (heads' next' : List ℕ)
+        (el : line ≡ first_line (drop at s)) (r : Result Fill StoreError) (a' : List Row) (heads' next' : List ℕ)
         (y : ReachesRow d i t s a heads next f own line a' heads' next' r) where
       module _ (g : List ℕ) (old : ℕ) (hs : List Held) (o : Owed g own hs d)
           (x : Took g i t s a heads next own from old f at count hs) where
@@ -267,14 +268,14 @@ takes_held : {by : Caller} {from : ℕ} {s : List ℕ} {hs : List Held} {r : Wal
 takes_held (onward ks o run g p) = (ks, p)
 takes_held (halted ks e o run g p) = (ks, p)
 
-module _ (d : Dues) (g i t s : List ℕ) (a : List ℕ) (heads next : List ℕ) (f : Fill) (own : ℕ)
+module _ (d : Dues) (g i t s : List ℕ) (a : List Row) (heads next : List ℕ) (f : Fill) (own : ℕ)
     (loaded : Loads i a heads next f) (owed : (hs : List Held) → decode i t ≡ some hs → Owed g own hs d) where
   pub loads_held : known (decode i t) ≡ true → SomeRows d own i t s a heads next f
   loads_held k =
       let q : (hs : List Held) × (decode i t ≡ some hs) = lines_of_lem (decode i t) k in
       (g, (f.count, (q.0, (owed q.0 q.1, loaded t s q.0 q.1))))
 
-  module _ (from : ℕ) (b : List ℕ) (r : Walked)
+  module _ (from : ℕ) (b : List Row) (r : Walked)
       (takes : TakesLines d i t s a heads next own from f b r) where
     abbrev By : (List Held → Type 0) → List Held → Type 0
     By P hs = Takes (behind g i t own) s from hs r P

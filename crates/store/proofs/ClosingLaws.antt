@@ -15,6 +15,7 @@ use borrow.Rule.Slice.PartMut.{put_mid, mid_of}
 use Rattle.text.specs.Bytes.{pick, written}
 use Rattle.text.proofs.BytesLaws.{written-length}
 use Rattle.text.proofs.LentLaws.{tail_part, tail_back, tail_length}
+use Rattle.store.specs.declared.rows.Row.{Row}
 use Rattle.store.specs.declared.settle.Kept.{Kept}
 use Rattle.store.specs.declared.table.Fill.{Fill}
 use Rattle.store.specs.Decode.{decode}
@@ -36,14 +37,14 @@ use Rattle.store.proofs.SettleLaws.{settled_text}
 
 -- ---- `kept_rows`
 
-pub record Keeping (a : List ℕ) (old at off k : ℕ) : Type 0 where
+pub record Keeping (a : List Row) (old at off k : ℕ) : Type 0 where
   pub given : Keepable a old
   pub rows : k ≤ old
   pub whole : Whole a k
   pub takes : (i t s : List ℕ) (c : ℕ) (hs : List Held) → Tabled i t s a old c hs
       → Takes_up (living (line_at t s a old) k) at off
 
-pub keep-first : (a : List ℕ) (old : ℕ) → Keepable a old → Keeping a old 0 0 0
+pub keep-first : (a : List Row) (old : ℕ) → Keepable a old → Keeping a old 0 0 0
 keep-first a old g = record {
   given = g;
   rows = omega arith;
@@ -51,7 +52,7 @@ keep-first a old g = record {
   takes = λ i t s c hs T. (unfold living in (sym (sizes-none 0)), unfold living in (sym texts-none));
 }
 
-module _ (a : List ℕ) (old at off k : ℕ) (w : Keeping a old at off k) where
+module _ (a : List Row) (old at off k : ℕ) (w : Keeping a old at off k) where
   pub kept_most : k < old → k < rows_max
   kept_most l = omega (arith, w.given.tabled.olds, w.given.tabled.most)
 
@@ -108,13 +109,13 @@ written_behind f p at v =
     (sym (drop-append-add f p (at + length v)) ∙ ap (λ (m : ℕ). drop m (f ++ p))
     (sym (add_assoc (length f) at (length v))))
 
-pub record Closing (part t s : List ℕ) (a : List ℕ) (kept : Kept) (was : Fill) (c : ℕ) (part' t' : List ℕ)
+pub record Closing (part t s : List ℕ) (a : List Row) (kept : Kept) (was : Fill) (c : ℕ) (part' t' : List ℕ)
     (at off k : ℕ) : Type 0 where
   pub given : Closes part t s a kept was c
   pub run : Settling (behind_kept t s a kept was part) t s a was.count c (behind_kept t s a kept was part') t'
       (kept.at + at) off k
 
-module _ (part t s : List ℕ) (a : List ℕ) (kept : Kept) (was : Fill) (c : ℕ) where
+module _ (part t s : List ℕ) (a : List Row) (kept : Kept) (was : Fill) (c : ℕ) where
   abbrev F : List ℕ
   F = records 0 (living (line_at t s a was.count) kept.rows)
 
@@ -139,7 +140,7 @@ module _ (part t s : List ℕ) (a : List ℕ) (kept : Kept) (was : Fill) (c : �
         };
       }
 
-module _ {part t s : List ℕ} {a : List ℕ} {kept : Kept} {was : Fill} {c : ℕ} {part' t' : List ℕ} {at off k : ℕ}
+module _ {part t s : List ℕ} {a : List Row} {kept : Kept} {was : Fill} {c : ℕ} {part' t' : List ℕ} {at off k : ℕ}
     (w : Closing part t s a kept was c part' t' at off k) where
   abbrev G : List ℕ
   G = records 0 (living (line_at t s a was.count) kept.rows)
@@ -239,7 +240,7 @@ module _ {part t s : List ℕ} {a : List ℕ} {kept : Kept} {was : Fill} {c : �
 
 -- ---- `settle`
 
-module _ (i t s : List ℕ) (a : List ℕ) (was : Fill) (c : ℕ) (b : Bytes i) (x : Extends i t was) where
+module _ (i t s : List ℕ) (a : List Row) (was : Fill) (c : ℕ) (b : Bytes i) (x : Extends i t was) where
   -- the store holds those lines, and others behind them
   module _ (fs bs : List Held) (d : decode i t ≡ some (fs ++ bs)) where
     l : Laid i t (fs ++ bs)

@@ -14,6 +14,7 @@ use lib.Seq.{length-take-le}
 use borrow.Author.Count.{below_more}
 use borrow.Author.Tests.{ne_eqb, le-ltb}
 use Rattle.text.specs.Bytes.{pick}
+use Rattle.store.specs.declared.rows.Row.{Row}
 use Rattle.store.specs.declared.table.Fill.{Fill}
 use Rattle.store.specs.declared.claims.Dues.{Dues}
 use Rattle.store.specs.Book.{room_for}
@@ -22,7 +23,7 @@ use Rattle.store.specs.Held.{Key, Held, file}
 use Rattle.store.specs.Inner.{Sized, sizes, behind}
 use Rattle.store.specs.Keys.{rows_max, Chained, Sought}
 use Rattle.store.specs.Layout.{record_bytes, texts}
-use Rattle.store.specs.Rows.{Row, row_in, key_in, start_in, len_in, row_put}
+use Rattle.store.specs.Rows.{row_in, key_in, start_in, len_in, row_put}
 use Rattle.store.specs.Table.{living, source_of, line_at, Tabled, InRows, len_before, Begins, struck_before}
 use Rattle.store.specs.Table.{Ends, Files', Filed, fits, full}
 use Rattle.store.specs.Shares.{larger}
@@ -36,11 +37,10 @@ use Rattle.store.proofs.TableLaws.{chained_agree, living-same, living_most, give
 use Rattle.store.specs.declared.table.Full.TheVariants as R
 use Rattle.store.specs.declared.table.Full.{Full}
 
-module _ (g : List ℕ) (d : Dues) (i t s a heads next : List ℕ) (old : ℕ) (f : Fill) (u : Key) (start len : ℕ)
+module _ (g : List ℕ) (d : Dues) (i t s : List ℕ) (a : List Row) (heads next : List ℕ) (old : ℕ) (f : Fill) (u : Key) (start len : ℕ)
     (hs : List Held) (w : Files' g d i t s a heads next old f u start len hs) (cl : f.count < rows_max)
-    (byte : u.owner < 256)
   where
-    abbrev a' : List ℕ
+    abbrev a' : List Row
     a' = row_put a f.count u start len
 
     abbrev K' : ℕ → Key
@@ -52,12 +52,12 @@ module _ (g : List ℕ) (d : Dues) (i t s a heads next : List ℕ) (old : ℕ) (
     abbrev x : InRows i t s a heads next old f hs
     x = w.in_rows
 
-    module _ (had : ℕ) (b : List ℕ) where
+    module _ (had : ℕ) (b : List Row) where
       abbrev S'' : ℕ → List Held
       S'' k = line_at t s b old k
 
       -- filed: one number more
-      module _ (y : Struck x u start len cl byte had b) where
+      module _ (y : Struck x u start len cl had b) where
         new_line : S'' f.count ≡ record { key = u; line = take len (drop start s) } ∷ []
         unfolding line_at
         new_line =
@@ -130,10 +130,10 @@ module _ (g : List ℕ) (d : Dues) (i t s a heads next : List ℕ) (old : ℕ) (
                   (λ k b c z.
                   let n : len_in a j ≡ 0
                   = x.older j k c b
-                  (sym (key_before x u start len cl byte j (omega arith)) ∙ z ∙ key_before x u start len cl byte k b) in
+                  (sym (key_before x u start len cl j (omega arith)) ∙ z ∙ key_before x u start len cl k b) in
                   ⊎_elim (λ g. g) (λ g. ap (λ (r : Row). r.len) g ∙ n) (y.either j (omega arith)))
-                  (λ c z. y.once j c (sym (key_before x u start len cl byte j c) ∙ z
-                  ∙ key_new x u start len cl byte)) k v l o
+                  (λ c z. y.once j c (sym (key_before x u start len cl j c) ∙ z
+                  ∙ key_new x u start len cl)) k v l o
 
               pub rows_more : (heads' next' : List ℕ) → Chained K' heads' next' (f.count + 1)
                   → InRows i t s b heads' next' old
@@ -188,17 +188,17 @@ module _ (g : List ℕ) (d : Dues) (i t s a heads next : List ℕ) (old : ℕ) (
                       (y.either k l)
 
     -- the exits of `file_row`: b is the table with the new row
-    module _ (b : List ℕ) (eb : b ≡ row_put a f.count u start len) (r : ℕ)
+    module _ (b : List Row) (eb : b ≡ row_put a f.count u start len) (r : ℕ)
         (so : Sought (key_in b) f.count r) (rl : r ≤ f.count) (had : ℕ)
         (eh : had ≡ len_before b r) where
       so' : Sought K' f.count r
-      so' = subst (λ (v : List ℕ). Sought (key_in v) f.count r) eb so
+      so' = subst (λ (v : List Row). Sought (key_in v) f.count r) eb so
 
-      goes_out : (d : List ℕ) → d ≡ struck_before b r → Struck x u start len cl byte had d
-      goes_out d el = struck x u start len cl byte had d
-          (subst (λ (v : ℕ). Before x u start len cl byte v d) (sym (eh ∙ ap (λ (v : List ℕ). len_before v r) eb))
-          (subst (λ (v : List ℕ). Before x u start len cl byte (len_before a' r) v)
-          (sym (el ∙ ap (λ (v : List ℕ). struck_before v r) eb)) (before x u start len cl byte r so' rl)))
+      goes_out : (d : List Row) → d ≡ struck_before b r → Struck x u start len cl had d
+      goes_out d el = struck x u start len cl had d
+          (subst (λ (v : ℕ). Before x u start len cl v d) (sym (eh ∙ ap (λ (v : List Row). len_before v r) eb))
+          (subst (λ (v : List Row). Before x u start len cl (len_before a' r) v)
+          (sym (el ∙ ap (λ (v : List Row). struck_before v r) eb)) (before x u start len cl r so' rl)))
 
       pub had_less : had ≤ f.used
       had_less = used_had had _ (goes_out _ refl)
@@ -213,8 +213,8 @@ module _ (g : List ℕ) (d : Dues) (i t s a heads next : List ℕ) (old : ℕ) (
         no_room : (v : Full) → room_for (behind g i t u.owner) h' hs ≡ Err v
             → Filed g i t s b heads' next' old f h' hs (Err v)
         no_room v ev =
-            full v ev refl (subst (λ (v : List ℕ). Tabled i t s v old f.count hs) (sym eb)
-            (tabled_more x u start len cl byte))
+            full v ev refl (subst (λ (v : List Row). Tabled i t s v old f.count hs) (sym eb)
+            (tabled_more x u start len cl))
 
         pub files_index : length i < e
             → Filed g i t s b heads' next' old f (record { key = u; line = take len (drop start s) }) hs (Err R.Index)
@@ -227,11 +227,11 @@ module _ (g : List ℕ) (d : Dues) (i t s a heads next : List ℕ) (old : ℕ) (
           files_text l = no_room R.Text (full_text had _ (goes_out _ refl) e ee p all ev l)
 
           pub files_fit : all ≤ length t → Chained (key_in b) heads' next' (f.count + 1)
-              → (c : List ℕ) → c ≡ struck_before b r
+              → (c : List Row) → c ≡ struck_before b r
               → Filed g i t s c heads' next' old f (record { key = u; line = take len (drop start s) }) hs
               (Ok (record { count = f.count + 1; end = e; used = f.used - had + len }))
           files_fit q ch c el =
-              let y : Struck x u start len cl byte had c = goes_out c el in
+              let y : Struck x u start len cl had c = goes_out c el in
               fits _ (has_room had c y e ee p all ev q) refl
               (rows_more had c y e ee p all ev q heads' next'
-              (subst (λ (v : List ℕ). Chained (key_in v) heads' next' (f.count + 1)) eb ch))
+              (subst (λ (v : List Row). Chained (key_in v) heads' next' (f.count + 1)) eb ch))

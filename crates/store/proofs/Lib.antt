@@ -24,7 +24,6 @@ pub mod LivingLaws
 pub mod UseLaws
 pub mod SettleLaws
 pub mod ClosingLaws
-pub mod ReadLaws
 pub mod ClearLaws
 pub mod LineLaws
 pub mod OtherLaws

@@ -12,6 +12,7 @@ use lib.ListN.{length, drop, length-append, length-drop}
 use lib.Seq.{length-take-le}
 use borrow.Author.Tests.{eq-eqb, ne_eqb}
 use Rattle.text.specs.Bytes.{pick}
+use Rattle.store.specs.declared.rows.Row.{Row}
 use Rattle.store.specs.Held.{Held}
 use Rattle.store.specs.Inner.{sizes, Sized}
 use Rattle.store.specs.Rows.{key_in, start_in, len_in}
@@ -49,18 +50,18 @@ living-texts S k c l =
     let r : (bs : List Held) × (living S c ≡ living S k ++ bs) = living_front S k (c - k) c (omega arith) in
     omega (arith, ap (λ (x : List Held). length (texts x)) r.1, texts_sum (living S k) r.0)
 
-pub gives_none : (t s : List ℕ) (a : List ℕ) (old k : ℕ) → len_in a k ≡ 0 → line_at t s a old k ≡ []
+pub gives_none : (t s : List ℕ) (a : List Row) (old k : ℕ) → len_in a k ≡ 0 → line_at t s a old k ≡ []
 unfolding line_at
 gives_none t s a old k e = ap (λ (b : Bool). pick b [] (held_at t s a old k ∷ [])) (eq-eqb _ _ e)
 
-pub gives-some : (t s : List ℕ) (a : List ℕ) (old k : ℕ) → (len_in a k ≡ 0 → ⊥)
+pub gives-some : (t s : List ℕ) (a : List Row) (old k : ℕ) → (len_in a k ≡ 0 → ⊥)
     → line_at t s a old k ≡ held_at t s a old k ∷ []
 unfolding line_at
 gives-some t s a old k n = ap (λ (b : Bool). pick b [] (held_at t s a old k ∷ [])) (ne_eqb _ _ n)
 
 -- ---- one number more
 
-module _ {i t s : List ℕ} {a : List ℕ} {old c : ℕ} {hs : List Held} (T : Tabled i t s a old c hs) (k : ℕ) where
+module _ {i t s : List ℕ} {a : List Row} {old c : ℕ} {hs : List Held} (T : Tabled i t s a old c hs) (k : ℕ) where
   abbrev S : ℕ → List Held
   S = line_at t s a old
 

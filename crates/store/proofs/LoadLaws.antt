@@ -12,6 +12,7 @@ use lib.Seq.{take_at, drop_at}
 use borrow.Author.Count.{below_more}
 use borrow.Author.Tests.{lt-ltb}
 use Rattle.text.specs.Bytes.{pick}
+use Rattle.store.specs.declared.rows.Row.{Row}
 use Rattle.store.specs.declared.records.Head.{Head}
 use Rattle.store.specs.declared.table.Fill.{Fill}
 use Rattle.store.specs.Decode.{head_at}
@@ -19,7 +20,7 @@ use Rattle.store.specs.Held.{Key, Held, distinct, index_max}
 use Rattle.store.specs.Layout.{Bytes}
 use Rattle.store.specs.Inner.{Lies, size_of, sizes}
 use Rattle.store.specs.Keys.{rows_max, Chained}
-use Rattle.store.specs.Rows.{Row, row_in, key_in, start_in, len_in, row_put, Long}
+use Rattle.store.specs.Rows.{row_in, key_in, start_in, len_in, row_put, Long}
 use Rattle.store.specs.Layout.{Shapes, texts}
 use Rattle.store.specs.Table.{living, line_at, Extends, InRows, Loads}
 use Rattle.store.proofs.DecodeLaws.{Laid, laid, good}
@@ -34,7 +35,7 @@ use Rattle.store.proofs.TableLaws.{living-same, gives_other, gives_new}
 use Rattle.store.proofs.WriteLaws.{put_long, row_same, row_other}
 
 -- the first n lines are written down, and the rest of the lines lies from `at` on
-pub record Loaded (i : List ℕ) (at : ℕ) (a : List ℕ) (n u : ℕ) (hs : List Held) : Type 0 where
+pub record Loaded (i : List ℕ) (at : ℕ) (a : List Row) (n u : ℕ) (hs : List Held) : Type 0 where
   pub rest : Rest i at
   pub front : List Held
   pub is : hs ≡ front ++ rest.hs
@@ -46,7 +47,7 @@ pub record Loaded (i : List ℕ) (at : ℕ) (a : List ℕ) (n u : ℕ) (hs : Lis
   pub ahead : (t s z : List ℕ) (old : ℕ) → n ≤ old → t ≡ texts hs ++ z → (k : ℕ) → k < n
       → length (texts (living (line_at t s a old) k)) ≤ start_in a k
 
-pub record Loading (i : List ℕ) (at : ℕ) (a : List ℕ) (heads next : List ℕ) (n used : ℕ) : Type 0 where
+pub record Loading (i : List ℕ) (at : ℕ) (a : List Row) (heads next : List ℕ) (n used : ℕ) : Type 0 where
   pub many : 16 * n ≤ at
   pub small : length i ≤ index_max
   pub long : Long a
@@ -54,10 +55,10 @@ pub record Loading (i : List ℕ) (at : ℕ) (a : List ℕ) (heads next : List �
   pub listing : Listing i at a n
   pub loaded : (hs : List Held) → Lies 0 hs i → Loaded i at a n used hs
 
-pub loads_extend : (i t : List ℕ) (a : List ℕ) (heads next : List ℕ) (f : Fill) → Loads i a heads next f → Extends i t f
+pub loads_extend : (i t : List ℕ) (a : List Row) (heads next : List ℕ) (f : Fill) → Loads i a heads next f → Extends i t f
 loads_extend i t a heads next f w hs d = ((w t [] hs d).end, (w t [] hs d).used)
 
-pub load-first : (i : List ℕ) (a : List ℕ) (heads next : List ℕ) → length i ≤ index_max → Long a
+pub load-first : (i : List ℕ) (a : List Row) (heads next : List ℕ) → length i ≤ index_max → Long a
     → Chained (key_in a) heads next 0 → Loading i 0 a heads next 0 0
 load-first i a heads next m l c = record {
   many = omega arith;
@@ -78,7 +79,7 @@ load-first i a heads next m l c = record {
   };
 }
 
-module _ (i : List ℕ) (at : ℕ) (a : List ℕ) (heads next : List ℕ) (n used : ℕ) (w : Loading i at a heads next n used)
+module _ (i : List ℕ) (at : ℕ) (a : List Row) (heads next : List ℕ) (n used : ℕ) (w : Loading i at a heads next n used)
   where
     pub load_less : n < rows_max
     load_less = omega (arith, w.many, w.small, w.listing.within)
@@ -133,8 +134,8 @@ module _ (i : List ℕ) (at : ℕ) (a : List ℕ) (heads next : List ℕ) (n use
               }
 
       -- one line more
-      module _ (m : head.size ≡ 0 → ⊥) (b : List ℕ) (eb : b ≡ row_put a n head.key head.off head.len)
-          (byte : head.key.owner < 256) (heads' next' : List ℕ) (ch : Chained (key_in b) heads' next' (n + 1)) where
+      module _ (m : head.size ≡ 0 → ⊥) (b : List Row) (eb : b ≡ row_put a n head.key head.off head.len)
+          (heads' next' : List ℕ) (ch : Chained (key_in b) heads' next' (n + 1)) where
         step : (hs : List Held) (x : Loaded i at a n used hs) → Onward i at head e x.rest
             → Loaded i (at + head.size) (row_put a n head.key head.off head.len) (n + 1) (head.off + head.len)
             hs
@@ -191,7 +192,7 @@ module _ (i : List ℕ) (at : ℕ) (a : List ℕ) (heads next : List ℕ) (n use
                   ));
             }
           where
-            a' : List ℕ
+            a' : List Row
             a' = row_put a n head.key head.off head.len
 
             other : (k : ℕ) → k < n → row_in (row_put a n head.key head.off head.len) k ≡ row_in a k
@@ -199,7 +200,7 @@ module _ (i : List ℕ) (at : ℕ) (a : List ℕ) (heads next : List ℕ) (n use
 
             new : row_in (row_put a n head.key head.off head.len) n
                 ≡ record { key = head.key; start = head.off; len = head.len }
-            new = row_same a n head.key head.off head.len w.long load_less byte
+            new = row_same a n head.key head.off head.len w.long load_less
 
             front' : List Held
             front' = x.front ++ (h ∷ [])
@@ -245,7 +246,7 @@ module _ (i : List ℕ) (at : ℕ) (a : List ℕ) (heads next : List ℕ) (n use
             here : (t s z : List ℕ) (old : ℕ) → n < old → t ≡ texts hs ++ z
                 → line_at t s (row_put a n head.key head.off head.len) old n ≡ h ∷ []
             here t s z old p et =
-                gives_new t s a old n head.key head.off head.len w.long load_less byte
+                gives_new t s a old n head.key head.off head.len w.long load_less
                 (omega (arith, len_is, some))
                 ∙ ap (λ (c : Bool). record { key = head.key; line = take head.len (drop head.off (pick c t s)) }
                 ∷ [])
@@ -254,7 +255,7 @@ module _ (i : List ℕ) (at : ℕ) (a : List ℕ) (heads next : List ℕ) (n use
                 (ap₂ (λ (c d : ℕ). take c (drop d t)) len_is off_is ∙ line_is t z et)
 
         pub load-turn : Loading i (at + head.size) b heads' next' (n + 1) (head.off + head.len)
-        load-turn = subst (λ (v : List ℕ). Loading i (at + head.size) v heads' next' (n + 1) (head.off + head.len))
+        load-turn = subst (λ (v : List Row). Loading i (at + head.size) v heads' next' (n + 1) (head.off + head.len))
             (sym eb)
             (record {
               many = omega (
@@ -265,7 +266,7 @@ module _ (i : List ℕ) (at : ℕ) (a : List ℕ) (heads next : List ℕ) (n use
               );
               small = w.small;
               long = put_long a n head.key head.off head.len w.long;
-              chained = subst (λ (v : List ℕ). Chained (key_in v) heads' next' (n + 1)) eb ch;
-              listing = list_turn i at a n w.listing head e m load_less byte;
+              chained = subst (λ (v : List Row). Chained (key_in v) heads' next' (n + 1)) eb ch;
+              listing = list_turn i at a n w.listing head e m load_less;
               loaded = λ hs l. step hs (w.loaded hs l) (onward i at head e (w.loaded hs l).rest);
             })

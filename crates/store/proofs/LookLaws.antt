@@ -13,6 +13,7 @@ use lib.Dec.{eqb, ltb}
 use lib.ListN.{length, take, drop}
 use borrow.Author.Tests.{eq-eqb, ne_eqb, eqb-true, eqb-false, ltb-true, ltb-false, lt-ltb}
 use Rattle.text.specs.Bytes.{pick}
+use Rattle.store.specs.declared.rows.Row.{Row}
 use Rattle.store.specs.declared.table.Fill.{Fill}
 use Rattle.store.specs.declared.look.Part.{Part}
 use Rattle.store.specs.Decode.{decode, content}
@@ -20,7 +21,7 @@ use Rattle.store.specs.Shares.{Content}
 use Rattle.store.specs.Held.{Key, Held, same_key, find}
 use Rattle.store.specs.Inner.{known}
 use Rattle.store.specs.Keys.{rows_max, Sought}
-use Rattle.store.specs.Rows.{Row, row_in, key_in, start_in, len_in, row_put, Long}
+use Rattle.store.specs.Rows.{row_in, key_in, start_in, len_in, row_put, Long}
 use Rattle.store.specs.Table.{living, held_at, line_at, InRows, Loads, len_before}
 use Rattle.store.specs.Sights.{Ready, Agree, Spot, nowhere, there, Sees}
 use Rattle.store.specs.Store.{Looked, nothing, unsound, looked_in, looked_at, look_by, says_of, line_of}
@@ -40,7 +41,7 @@ look_unsound k i t e = go (content i t) e
     go (some c) q = let z : ◌≡◌ {A = ℕ} 0 1 = cc in absurd (omega arith)
 
 -- the lines of a sound store are in their chains
-pub look_ready : (i t : List ℕ) (hs : List Held) → decode i t ≡ some hs → (a heads next : List ℕ) (f : Fill)
+pub look_ready : (i t : List ℕ) (hs : List Held) → decode i t ≡ some hs → (a : List Row) (heads next : List ℕ) (f : Fill)
     → Loads i a heads next f → Ready a heads next f.count
 look_ready i t hs e a heads next f loads =
     let x = loads t [] hs e in
@@ -87,7 +88,7 @@ module _ (u : Key) where
 
 -- ---- the key of number n, sought among the lines of the numbers before it
 
-pub some-before : (a : List ℕ) (r len : ℕ) → len ≡ len_before a r → (len ≡ 0 → ⊥) → 0 < r
+pub some-before : (a : List Row) (r len : ℕ) → len ≡ len_before a r → (len ≡ 0 → ⊥) → 0 < r
 some-before a r len el z = go (eqb r 0) refl
   where
     go : (c : Bool) → eqb r 0 ≡ c → 0 < r
@@ -95,7 +96,7 @@ some-before a r len el z = go (eqb r 0) refl
     go false q = let y : r ≡ 0 → ⊥ = eqb-false r 0 q in omega arith
 
 -- a has the rows of the lines hs, and b has them too, and the key behind them
-module _ (k : Key) (i t a b heads next : List ℕ) (f : Fill) (hs : List Held)
+module _ (k : Key) (i t : List ℕ) (a b : List Row) (heads next : List ℕ) (f : Fill) (hs : List Held)
     (x : InRows i t [] a heads next f.count f hs)
     (agree : Agree a b f.count) (new : key_in b f.count ≡ k)
     (r : ℕ) (so : Sought (key_in b) f.count r) (rl : r ≤ f.count) (len : ℕ) (el : len ≡ len_before b r) where
@@ -186,10 +187,10 @@ module _ (k : Key) (i t a b heads next : List ℕ) (f : Fill) (hs : List Held)
 
 -- ---- a key written down under number n
 
-module _ (a heads next : List ℕ) (n : ℕ) (k : Key) (l : n < rows_max) (p : Ready a heads next n) (b : List ℕ)
-    (eb : b ≡ row_put a n k 0 0) (byte : k.owner < 256) where
+module _ (a : List Row) (heads next : List ℕ) (n : ℕ) (k : Key) (l : n < rows_max) (p : Ready a heads next n) (b : List Row)
+    (eb : b ≡ row_put a n k 0 0) where
   pub put_agree : Agree a b n
-  put_agree j m = sym (ap (λ (v : List ℕ). row_in v j) eb ∙ row_other a n k 0 0 j (λ z. omega arith))
+  put_agree j m = sym (ap (λ (v : List Row). row_in v j) eb ∙ row_other a n k 0 0 j (λ z. omega arith))
 
   pub put_ready : Ready b heads next n
   put_ready = record {
@@ -199,7 +200,7 @@ module _ (a heads next : List ℕ) (n : ℕ) (k : Key) (l : n < rows_max) (p : R
   }
 
   pub put_new : key_in b n ≡ k
-  put_new = ap (λ (v : List ℕ). key_in v n) eb ∙ ap (λ (v : Row). v.key) (row_same a n k 0 0 p.long l byte)
+  put_new = ap (λ (v : List Row). key_in v n) eb ∙ ap (λ (v : Row). v.key) (row_same a n k 0 0 p.long l)
 
 -- ---- what a look-up says
 

@@ -7,12 +7,13 @@ use Prim.Native.Nat.{ℕ, zero, suc, ◌+◌, ◌≤◌, ◌<◌}
 use native.Mathlib.Omega.{arith}
 use lib.ListN.{length, drop}
 use borrow.Author.Count.{below_more}
+use Rattle.store.specs.declared.rows.Row.{Row}
 use Rattle.store.specs.declared.records.Head.{Head}
 use Rattle.store.specs.Decode.{head_at}
 use Rattle.store.specs.Held.{Key, Held, same_key, holds, distinct}
 use Rattle.store.specs.Inner.{Lies, Once}
 use Rattle.store.specs.Keys.{rows_max, key_of, Lists, AllApart, Twice, Tells}
-use Rattle.store.specs.Rows.{Row, key_in, row_put, Long}
+use Rattle.store.specs.Rows.{key_in, row_put, Long}
 use Rattle.store.proofs.BoolLaws.{and_both, and_false_left, and_false_right, or_false}
 use Rattle.store.proofs.HeldLaws.{same_refl, same_eq}
 use Rattle.store.proofs.RowLaws.{Rest, first, Onward, ended, stands, onward, size_not, next_within}
@@ -85,12 +86,12 @@ pub record Lists' (i : List ℕ) (at : ℕ) (K : ℕ → Key) (n : ℕ) (hs : Li
   pub done : (k : ℕ) → k < n → K k ≡ key_of hs k
   pub behind : (k : ℕ) → key_of hs (n + k) ≡ key_of rest.hs k
 
-pub record Listing (i : List ℕ) (at : ℕ) (a : List ℕ) (n : ℕ) : Type 0 where
+pub record Listing (i : List ℕ) (at : ℕ) (a : List Row) (n : ℕ) : Type 0 where
   pub within : at ≤ length i
   pub long : Long a
   pub lists : (off : ℕ) (hs : List Held) → Lies off hs i → Lists' i at (key_in a) n hs
 
-pub list_first : (i a : List ℕ) → Long a → Listing i 0 a 0
+pub list_first : (i : List ℕ) (a : List Row) → Long a → Listing i 0 a 0
 list_first i a p = record {
   within = omega arith;
   long = p;
@@ -102,7 +103,7 @@ list_first i a p = record {
   };
 }
 
-module _ (i : List ℕ) (at : ℕ) (a : List ℕ) (n : ℕ) (w : Listing i at a n) (head : Head)
+module _ (i : List ℕ) (at : ℕ) (a : List Row) (n : ℕ) (w : Listing i at a n) (head : Head)
     (e : head ≡ head_at (drop at i)) where
   pub list_end : head.size ≡ 0 → Lists i (key_in a) n
   list_end z off hs l = go (w.lists off hs l) (onward i at head e (w.lists off hs l).rest)
@@ -116,9 +117,9 @@ module _ (i : List ℕ) (at : ℕ) (a : List ℕ) (n : ℕ) (w : Listing i at a 
   abbrev K' : ℕ → Key
   K' k = key_in (row_put a n head.key head.off head.len) k
 
-  pub list_turn : (head.size ≡ 0 → ⊥) → n < rows_max → head.key.owner < 256
+  pub list_turn : (head.size ≡ 0 → ⊥) → n < rows_max
       → Listing i (at + head.size) (row_put a n head.key head.off head.len) (n + 1)
-  list_turn z m byte = record {
+  list_turn z m = record {
     within = next_within i at head e w.within;
     long = put_long a n head.key head.off head.len w.long;
     lists = λ off hs l. go hs (w.lists off hs l) (onward i at head e (w.lists off hs l).rest);
@@ -128,7 +129,7 @@ module _ (i : List ℕ) (at : ℕ) (a : List ℕ) (n : ℕ) (w : Listing i at a 
       old k l = ap (λ (r : Row). r.key) (row_other a n head.key head.off head.len k (λ q. omega arith))
 
       new : K' n ≡ head.key
-      new = ap (λ (r : Row). r.key) (row_same a n head.key head.off head.len w.long m byte)
+      new = ap (λ (r : Row). r.key) (row_same a n head.key head.off head.len w.long m)
 
       go : (hs : List Held) (x : Lists' i at (key_in a) n hs) → Onward i at head e x.rest
           → Lists' i (at + head.size) (key_in (row_put a n head.key head.off head.len)) (n + 1) hs

@@ -9,6 +9,7 @@ use Prim.Native.Nat.{ℕ, ◌≤◌}
 use native.Mathlib.Omega.{arith}
 use lib.ListN.{length, take, drop}
 use lib.Seq.{take-length}
+use Rattle.store.specs.declared.rows.Row.{Row}
 use Rattle.store.specs.declared.claims.Dues.{Dues}
 use Rattle.store.specs.declared.table.Fill.{Fill}
 use Rattle.store.specs.Book.{room_for, by_room}
@@ -23,7 +24,7 @@ use Rattle.store.proofs.DecodeLaws.{laid, lines_of_lem, index_kept, text_kept}
 use Rattle.store.specs.declared.table.Full.TheVariants as R
 use Rattle.store.specs.declared.table.Full.{Full}
 
-module _ (d : Dues) (i t s : List ℕ) (a : List ℕ) (heads next : List ℕ) (f : Fill) (loads : Loads i a heads next f)
+module _ (d : Dues) (i t s : List ℕ) (a : List Row) (heads next : List ℕ) (f : Fill) (loads : Loads i a heads next f)
     (k : Key) (some_byte : 1 ≤ length s) (most : length s ≤ line_max) where
   whole : take (length s) (drop 0 s) ≡ s
   whole = take-length s
@@ -45,7 +46,7 @@ module _ (d : Dues) (i t s : List ℕ) (a : List ℕ) (heads next : List ℕ) (f
       let q : (hs : List Held) × (decode i t ≡ some hs) = lines_of_lem (decode i t) e in
       (g, s, (f.count, (q.0, ready g q.0 q.1 (o q.0 q.1))))
 
-  module _ (b : List ℕ) (heads' next' : List ℕ) (r : Result Fill Full)
+  module _ (b : List Row) (heads' next' : List ℕ) (r : Result Fill Full)
       (w : FilesRow d i t a heads next f k 0 (length s) b heads' next' r) where
     abbrev h : Held
     h = record { key = k; line = s }

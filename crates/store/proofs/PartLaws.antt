@@ -10,6 +10,7 @@ use lib.ListN.{length, take, drop, length-append, length-drop}
 use lib.Seq.{take_at}
 use borrow.Rule.Slice.PartMut.{mid_of}
 use Rattle.text.proofs.LentLaws.{tail_part}
+use Rattle.store.specs.declared.rows.Row.{Row}
 use Rattle.store.specs.declared.claims.Dues.{Dues}
 use Rattle.store.specs.declared.soundness.Stock.{Stock}
 use Rattle.store.specs.Book.{caller}
@@ -78,7 +79,7 @@ module _ (i t g : List ℕ) (p : ℕ) (f : Fronts i g p) (b : Bytes i) where
 
 -- ---- what `take_stock` says of a sound store
 
-module _ (i t g : List ℕ) (a : List ℕ) (heads next : List ℕ) (r : Stock) (w : Stocks i t g a heads next r) (b : Bytes i)
+module _ (i t g : List ℕ) (a : List Row) (heads next : List ℕ) (r : Stock) (w : Stocks i t g a heads next r) (b : Bytes i)
   where
     pub stock_sound : known (content i t) ≡ true
     stock_sound = w.is

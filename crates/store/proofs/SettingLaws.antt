@@ -14,6 +14,7 @@ use borrow.Author.Tests.{lt-ltb, le-ltb, ltb-false}
 use borrow.Rule.Slice.PartMut.{put_mid, mid_of}
 use Rattle.text.proofs.LentLaws.{tail_part, tail_back}
 use Rattle.text.specs.Bytes.{pick}
+use Rattle.store.specs.declared.rows.Row.{Row}
 use Rattle.store.specs.Fronts.{Changes, Changed}
 use Rattle.store.specs.Held.{Held}
 use Rattle.store.specs.Inner.{sizes}
@@ -34,7 +35,7 @@ larger_share u b = go (ltb u b) refl
     go true e = omega arith
     go false e = ltb-false u b e
 
-module _ (a : List ℕ) (n : ℕ) (g : List ℕ) (m i end : ℕ) where
+module _ (a : List Row) (n : ℕ) (g : List ℕ) (m i end : ℕ) where
   weighed : (r : Result ⊤ Full) (x y : Bool)
       → ((hs : List Held) → UsedBy a n hs → ltb m (claims g hs) ≡ x) → ltb i end ≡ y
       → r ≡ pick x (Err R.Text) (pick y (Err R.Index) (Ok tt)) → Weighed a n g m i end r

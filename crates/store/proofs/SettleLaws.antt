@@ -12,6 +12,7 @@ use borrow.Author.Tests.{ltb-true}
 use borrow.Rule.Slice.PartMut.{put_mid, mid_of}
 use Rattle.text.specs.Bytes.{pick, written, write_buffer}
 use Rattle.text.proofs.BytesLaws.{buffer_fits, written-length}
+use Rattle.store.specs.declared.rows.Row.{Row}
 use Rattle.store.specs.Held.{Held}
 use Rattle.store.specs.Inner.{sizes, Sized}
 use Rattle.store.specs.Layout.{record_bytes, records, texts, padded, encode_records, encode_text}
@@ -101,7 +102,7 @@ rest_more l l' l'' at to v e q f g =
 
 -- ---- the lines of the first k numbers are written out; index and text behind them are as they were
 
-pub record Settling (i t s : List ℕ) (a : List ℕ) (old c : ℕ) (i' t' : List ℕ) (at off k : ℕ) : Type 0 where
+pub record Settling (i t s : List ℕ) (a : List Row) (old c : ℕ) (i' t' : List ℕ) (at off k : ℕ) : Type 0 where
   pub hs : List Held
   pub tabled : Tabled i t s a old c hs
   pub most : k ≤ c
@@ -114,7 +115,7 @@ pub record Settling (i t s : List ℕ) (a : List ℕ) (old c : ℕ) (i' t' : Lis
   pub index_long : length i' ≡ length i
   pub text_long : length t' ≡ length t
 
-module _ {i t s : List ℕ} {a : List ℕ} {old c : ℕ} {i' t' : List ℕ} {at off k : ℕ}
+module _ {i t s : List ℕ} {a : List Row} {old c : ℕ} {i' t' : List ℕ} {at off k : ℕ}
     (w : Settling i t s a old c i' t' at off k) where
   abbrev S : ℕ → List Held
   S = line_at t s a old
@@ -249,7 +250,7 @@ zeroed l p r at end q z w b f g e y =
       length-take-le at p w,
     ))
 
-module _ {i t s : List ℕ} {a : List ℕ} {old c : ℕ} {i' t' : List ℕ} {at off k : ℕ}
+module _ {i t s : List ℕ} {a : List Row} {old c : ℕ} {i' t' : List ℕ} {at off k : ℕ}
     (w : Settling i t s a old c i' t' at off k) (l : c ≤ k) (hs : List Held) (T : Tabled i t s a old c hs) where
   all : living (line_at t s a old) k ≡ hs
   all = let e : k ≡ c = omega (arith, w.most) in ap (living (line_at t s a old)) e ∙ sym T.is

@@ -12,6 +12,7 @@ use lib.ListN.{length, get_or, set, drop, length-set, length-drop}
 use lib.Seq.{get_or-set_same, get_or-set_other, set_out}
 use borrow.Author.Tests.{ltb-true, ltb-false, eqb-true, eqb-false}
 use Rattle.text.specs.Bytes.{pick}
+use Rattle.store.specs.declared.rows.Row.{Row}
 use Rattle.store.specs.declared.soundness.Stock.{Stock}
 use Rattle.store.specs.Book.{record_sizes, by_room, setting, over_text, over_index, book_share}
 use Rattle.store.specs.Claims.{Addable}
@@ -39,7 +40,7 @@ use Rattle.store.specs.declared.table.Full.{Full}
 
 -- ---- the store, its shares and lines written down
 
-pub record Stocked (i t g a : List ℕ) (r : Stock) : Type 0 where
+pub record Stocked (i t g : List ℕ) (a : List Row) (r : Stock) : Type 0 where
   pub all : Content
   pub is : content i t ≡ some all
   pub shares : g ≡ all.shares
@@ -52,7 +53,7 @@ pub record Stocked (i t g a : List ℕ) (r : Stock) : Type 0 where
   pub index_most : length i ≤ index_max
   pub text_most : length t ≤ text_max
 
-pub stocked : (i t g a heads next : List ℕ) (r : Stock) → Bytes i → Stocks i t g a heads next r
+pub stocked : (i t g : List ℕ) (a : List Row) (heads next : List ℕ) (r : Stock) → Bytes i → Stocks i t g a heads next r
     → Stocked i t g a r
 stocked i t g a heads next r b s =
     let p = s.front in
@@ -165,7 +166,7 @@ module _ (i t : List ℕ) (y : Bytes i) (c : Content) (e : content i t ≡ some 
           text_kept
 
 -- a setting of a store that is written down
-module _ (i t g a : List ℕ) (r : Stock) (w : Stocked i t g a r) (o b : ℕ) (lo : o < owners) where
+module _ (i t g : List ℕ) (a : List Row) (r : Stock) (w : Stocked i t g a r) (o b : ℕ) (lo : o < owners) where
   has : o < length g
   has = omega (arith, lo, w.given.each)
 

@@ -12,13 +12,14 @@ use lib.ListN.{length, drop, length-drop}
 use lib.Seq.{length-take-le}
 use borrow.Author.Tests.{eqb-true, eqb-false, eq-eqb, ltb-true, ltb-false}
 use Rattle.text.specs.Bytes.{pick}
+use Rattle.store.specs.declared.rows.Row.{Row}
 use Rattle.store.specs.declared.table.Fill.{Fill}
 use Rattle.store.specs.Decode.{decode}
 use Rattle.store.specs.Held.{Key, Held, same_key, strike}
 use Rattle.store.specs.Inner.{Sized, size_of, sizes}
 use Rattle.store.specs.Keys.{rows_max, Sought}
 use Rattle.store.specs.Layout.{record_bytes, texts}
-use Rattle.store.specs.Rows.{Row, row_in, key_in, start_in, len_in, row_put, len_put, Long}
+use Rattle.store.specs.Rows.{row_in, key_in, start_in, len_in, row_put, len_put, Long}
 use Rattle.store.specs.Table.{living, source_of, held_at, line_at, Tabled, InRows, len_before, Begins, struck_before}
 use Rattle.store.proofs.HeldLaws.{same_refl, same_eq}
 use Rattle.store.proofs.LivingLaws.{gives_none}
@@ -45,10 +46,10 @@ unfolding strike
 strike_gone u h true e = refl
 strike_gone u h false e = ap (λ (c : Bool). pick c [] (h ∷ [])) e
 
-module _ {i t s a heads next : List ℕ} {old : ℕ} {f : Fill} {hs : List Held} (x : InRows i t s a heads next old f hs)
-    (u : Key) (start len : ℕ) (cl : f.count < rows_max) (byte : u.owner < 256)
+module _ {i t s : List ℕ} {a : List Row} {heads next : List ℕ} {old : ℕ} {f : Fill} {hs : List Held} (x : InRows i t s a heads next old f hs)
+    (u : Key) (start len : ℕ) (cl : f.count < rows_max)
   where
-    abbrev a' : List ℕ
+    abbrev a' : List Row
     a' = row_put a f.count u start len
 
     abbrev K : ℕ → Key
@@ -64,7 +65,7 @@ module _ {i t s a heads next : List ℕ} {old : ℕ} {f : Fill} {hs : List Held}
     row_before k l = row_other a f.count u start len k (λ z. omega arith)
 
     pub row_new : row_in (row_put a f.count u start len) f.count ≡ record { key = u; start = start; len = len }
-    row_new = row_same a f.count u start len x.tabled.long cl byte
+    row_new = row_same a f.count u start len x.tabled.long cl
 
     pub key_before : (k : ℕ) → k < f.count → key_in (row_put a f.count u start len) k ≡ key_in a k
     key_before k l = ap (λ (r : Row). r.key) (row_before k l)
@@ -106,7 +107,7 @@ module _ {i t s a heads next : List ℕ} {old : ℕ} {f : Fill} {hs : List Held}
     }
 
     -- the row before with the same key, if there is one: what its length was, and the rows without it
-    pub data Before (had : ℕ) (b : List ℕ) : Type 0 where
+    pub data Before (had : ℕ) (b : List Row) : Type 0 where
       none : ((k : ℕ) → k < f.count → key_in a k ≡ u → ⊥) → had ≡ 0 → b ≡ row_put a f.count u start len
           → Before had b
       one : (j : ℕ) → j < f.count → key_in a j ≡ u → ((k : ℕ) → j < k → k < f.count → key_in a k ≡ u → ⊥)
@@ -193,7 +194,7 @@ module _ {i t s a heads next : List ℕ} {old : ℕ} {f : Fill} {hs : List Held}
     sizes_sum xs ys = sizes-append xs ys 0 ∙ ap (λ (v : ℕ). sizes 0 xs + v) (sizes-move ys _ 0)
 
     -- the key struck out
-    module _ (had : ℕ) (b : List ℕ) where
+    module _ (had : ℕ) (b : List Row) where
       abbrev S'' : ℕ → List Held
       S'' k = line_at t s b old k
 
@@ -210,7 +211,7 @@ module _ {i t s a heads next : List ℕ} {old : ℕ} {f : Fill} {hs : List Held}
 
       pub struck : Before had b → Struck
       struck (none g eh el) =
-          let same : (k : ℕ) → row_in b k ≡ row_in a' k = λ k. ap (λ (v : List ℕ). row_in v k) el in
+          let same : (k : ℕ) → row_in b k ≡ row_in a' k = λ k. ap (λ (v : List Row). row_in v k) el in
           let is : strike u hs ≡ hs
           = ap (strike u) x.tabled.is ∙ strike-living u S f.count
           ∙ living-same _ S f.count (λ k l. stays k (g k l)) ∙ sym x.tabled.is in
@@ -255,10 +256,10 @@ module _ {i t s a heads next : List ℕ} {old : ℕ} {f : Fill} {hs : List Held}
       }
         where
           other : (k : ℕ) → (k ≡ j → ⊥) → row_in b k ≡ row_in a' k
-          other k e = ap (λ (v : List ℕ). row_in v k) el ∙ len_other a' j 0 k e
+          other k e = ap (λ (v : List Row). row_in v k) el ∙ len_other a' j 0 k e
 
           gone : row_in b j ≡ record { key = key_in a' j; start = start_in a' j; len = 0 }
-          gone = ap (λ (v : List ℕ). row_in v j) el
+          gone = ap (λ (v : List Row). row_in v j) el
               ∙ len_same a' j 0 (put_long a f.count u start len x.tabled.long) (omega arith)
 
           nothing : S'' j ≡ []

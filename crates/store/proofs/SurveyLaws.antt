@@ -10,6 +10,7 @@ use native.Mathlib.Omega.{arith}
 use lib.ListN.{length, drop, length-drop}
 use borrow.Author.Tests.{le-leb, lt-leb}
 use Rattle.text.specs.Bytes.{pick}
+use Rattle.store.specs.declared.rows.Row.{Row}
 use Rattle.store.specs.declared.chains.Verdict.{Verdict}
 use Rattle.store.specs.declared.chains.Verdict.TheVariants as Vd
 use Rattle.store.specs.declared.records.Head.{Head}
@@ -23,7 +24,7 @@ use Rattle.store.specs.Fronts.{Fronts}
 use Rattle.store.specs.Shares.{Content}
 use Rattle.store.specs.Inner.{known}
 use Rattle.store.specs.Keys.{rows_max, Says, told_of, Chained, Sought}
-use Rattle.store.specs.Rows.{Row, key_in, row_put, Long}
+use Rattle.store.specs.Rows.{key_in, row_put, Long}
 use Rattle.store.specs.Table.{Loads, Surveys, OnceSurveyed, OnceStocked}
 use Rattle.store.proofs.BoolLaws.{true-false}
 use Rattle.store.proofs.ChainLaws.{says-turn, says_agree}
@@ -37,12 +38,12 @@ use Rattle.store.proofs.ShareLaws.{content_parts}
 use Rattle.store.proofs.WriteLaws.{row_other}
 
 -- n records lie before `at`, and their lines before `used`
-pub record Surveying (i t : List ℕ) (at : ℕ) (a : List ℕ) (heads next : List ℕ) (n used : ℕ) (v : Verdict) : Type 0 where
+pub record Surveying (i t : List ℕ) (at : ℕ) (a : List Row) (heads next : List ℕ) (n used : ℕ) (v : Verdict) : Type 0 where
   pub walks : Walking i t (known (walk (suc (length i)) 0 i t)) at used
   pub loading : Loading i at a heads next n used
   pub says : Says (key_in a) n v
 
-pub survey_first : (i t : List ℕ) (a : List ℕ) (heads next : List ℕ) → length i ≤ index_max → Long a
+pub survey_first : (i t : List ℕ) (a : List Row) (heads next : List ℕ) → length i ≤ index_max → Long a
     → Chained (key_in a) heads next 0 → Surveying i t 0 a heads next 0 0 Vd.Apart
 survey_first i t a heads next m l c = record {
   walks = walking i t;
@@ -50,7 +51,7 @@ survey_first i t a heads next m l c = record {
   says = λ x y p q e. omega arith;
 }
 
-module _ (i t : List ℕ) (at : ℕ) (a : List ℕ) (heads next : List ℕ) (n used : ℕ) (v : Verdict)
+module _ (i t : List ℕ) (at : ℕ) (a : List Row) (heads next : List ℕ) (n used : ℕ) (v : Verdict)
     (w : Surveying i t at a heads next n used v) where
   pub survey_less : n < rows_max
   survey_less = load_less i at a heads next n used w.loading
@@ -85,24 +86,24 @@ module _ (i t : List ℕ) (at : ℕ) (a : List ℕ) (heads next : List ℕ) (n u
     pub survey_on : b ≡ true → Walking i t (known (walk (suc (length i)) 0 i t)) (at + head.size) (used + head.len)
     survey_on q = walking_turn i t _ at used w.walks head e some_size b fit q
 
-    pub survey_turn : b ≡ true → (c : List ℕ) → c ≡ row_put a n head.key head.off head.len
-        → head.key.owner < 256 → (heads' next' : List ℕ) → Chained (key_in c) heads' next' (n + 1)
+    pub survey_turn : b ≡ true → (c : List Row) → c ≡ row_put a n head.key head.off head.len
+        → (heads' next' : List ℕ) → Chained (key_in c) heads' next' (n + 1)
         → (r : ℕ) → Sought (key_in c) n r → (u : Verdict) → u ≡ told_of v n r
         → Surveying i t (at + head.size) c heads' next' (n + 1) (used + head.len) u
-    survey_turn q c ec byte heads' next' ch r so u eu =
+    survey_turn q c ec heads' next' ch r so u eu =
         let fits : Fits used head (length t - used) = fits_of used head (length t - used) (sym fit ∙ q) in
         record {
           walks = survey_on q;
           loading = subst (λ (x : ℕ). Loading i (at + head.size) c heads' next' (n + 1) (x + head.len))
               fits.offset
-              (load-turn i at a heads next n used w.loading head e some_size c ec byte heads' next' ch);
+              (load-turn i at a heads next n used w.loading head e some_size c ec heads' next' ch);
           says = subst (λ (x : Verdict). Says (key_in c) (n + 1) x) (sym eu)
               (says-turn (key_in c) n r v
               (says_agree (key_in a) (key_in c) n v same w.says) so);
         }
       where
         same : (k : ℕ) → k < n → key_in a k ≡ key_in c k
-        same k l = sym (ap (λ (x : List ℕ). key_in x k) ec
+        same k l = sym (ap (λ (x : List Row). key_in x k) ec
             ∙ ap (λ (x : Row). x.key) (row_other a n head.key head.off head.len k (λ z. omega arith)))
 
 -- ---- `take_stock`
@@ -137,7 +138,7 @@ module _ (i t : List ℕ) where
     pub stock_part : known (decode q t) ≡ known (content i t)
     stock_part = ap (λ (r : List ℕ). known (decode r t)) (e ∙ f.rest) ∙ sym (known_rest l)
 
-    pub stock_loads : (a heads next : List ℕ) (n : Fill) → Loads q a heads next n → Loads (drop p i) a heads next n
+    pub stock_loads : (a : List Row) (heads next : List ℕ) (n : Fill) → Loads q a heads next n → Loads (drop p i) a heads next n
     stock_loads a heads next n x = subst (λ (r : List ℕ). Loads r a heads next n) e x
 
 -- what a sound store holds
@@ -162,16 +163,16 @@ sound_holds i t g p f e = go (content i t) refl e
         }
 
 -- a walk over whole records tells what it saw
-pub survey_some : (i t a heads next : List ℕ) (o : Optional Surveyed) → OnceSurveyed i t a heads next o
+pub survey_some : (i t : List ℕ) (a : List Row) (heads next : List ℕ) (o : Optional Surveyed) → OnceSurveyed i t a heads next o
     → known (walk (suc (length i)) 0 i t) ≡ true → IsSome o
 survey_some i t a heads next None w e = absurd (true-false (sym e ∙ w))
 survey_some i t a heads next (Some r) w e = refl
 
-pub survey_of : (i t a heads next : List ℕ) (o : Optional Surveyed) → OnceSurveyed i t a heads next o
+pub survey_of : (i t : List ℕ) (a : List Row) (heads next : List ℕ) (o : Optional Surveyed) → OnceSurveyed i t a heads next o
     → (r : Surveyed) → o ≡ Some r → Surveys i t a heads next r
 survey_of i t a heads next o w r e = subst (OnceSurveyed i t a heads next) e w
 
-pub stocked_is : (i t g a heads next : List ℕ) (o : Optional Stock) → OnceStocked i t g a heads next o
+pub stocked_is : (i t g : List ℕ) (a : List Row) (heads next : List ℕ) (o : Optional Stock) → OnceStocked i t g a heads next o
     → is_some o ≡ known (content i t)
 stocked_is i t g a heads next None w = sym w
 stocked_is i t g a heads next (Some r) w = sym w.is

@@ -11,10 +11,11 @@ use lib.Dec.{eqb}
 use lib.ListN.{length, get_or, take, drop}
 use borrow.Author.Tests.{ne_eqb}
 use Rattle.text.specs.Bytes.{pick}
+use Rattle.store.specs.declared.rows.Row.{Row}
 use Rattle.store.specs.Held.{Key, Held, same_key, strike}
 use Rattle.store.specs.Keys.{rows_max, bucket, Last, Chained}
 use Rattle.store.specs.Layout.{texts}
-use Rattle.store.specs.Rows.{Row, row_in, row_put, Long}
+use Rattle.store.specs.Rows.{row_in, row_put, Long}
 use Rattle.store.specs.Table.{living, source_of, line_at}
 use Rattle.store.proofs.RowLaws.{texts_sum}
 use Rattle.store.proofs.WriteLaws.{row_same, row_other}
@@ -118,19 +119,19 @@ living_most S S' (suc n) g =
 abbrev given_by : List ℕ → Row → List Held
 given_by src r = pick (eqb r.len 0) [] (record { key = r.key; line = take r.len (drop r.start src) } ∷ [])
 
-pub gives_same : (t s a b : List ℕ) (old k : ℕ) → row_in b k ≡ row_in a k → line_at t s b old k ≡ line_at t s a old k
+pub gives_same : (t s : List ℕ) (a b : List Row) (old k : ℕ) → row_in b k ≡ row_in a k → line_at t s b old k ≡ line_at t s a old k
 unfolding line_at
 gives_same t s a b old k e = ap (λ (r : Row). given_by (source_of t s old k) r) e
 
-module _ (t s a : List ℕ) (old n : ℕ) (u : Key) (start len : ℕ) where
+module _ (t s : List ℕ) (a : List Row) (old n : ℕ) (u : Key) (start len : ℕ) where
   pub gives_other : (k : ℕ) → (k ≡ n → ⊥) → line_at t s (row_put a n u start len) old k ≡ line_at t s a old k
   gives_other k e = gives_same t s a (row_put a n u start len) old k (row_other a n u start len k e)
 
-  pub gives_new : Long a → n < rows_max → u.owner < 256 → 1 ≤ len
+  pub gives_new : Long a → n < rows_max → 1 ≤ len
       → line_at t s (row_put a n u start len) old n
       ≡ record { key = u; line = take len (drop start (source_of t s old n)) } ∷ []
   unfolding line_at
-  gives_new l m b p =
-      ap (λ (r : Row). given_by (source_of t s old n) r) (row_same a n u start len l m b)
+  gives_new l m p =
+      ap (λ (r : Row). given_by (source_of t s old n) r) (row_same a n u start len l m)
       ∙ ap (λ (x : Bool). pick x [] (record { key = u; line = take len (drop start (source_of t s old n)) } ∷ []))
       (ne_eqb len 0 (λ z. omega arith))

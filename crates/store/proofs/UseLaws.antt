@@ -6,7 +6,7 @@ use mathlib.Core.Option.{some}
 use mathlib.Core.List.{List, [], ◌∷◌, ◌++◌}
 use mathlib.Core.Path.{◌≡◌, refl, sym, ap, ap₂, ◌∙◌, subst}
 use Prim.Native.Nat.{ℕ, zero, suc, ◌+◌, ◌-◌, ◌*◌, ◌≤◌, ◌<◌}
-use native.Mathlib.Nat.{zero-add, add-zero, add_assoc, mod-lt}
+use native.Mathlib.Nat.{zero-add, add-zero, add_assoc}
 use native.Mathlib.Numerals.{add-one}
 use native.Mathlib.Omega.{arith}
 use lib.Dec.{eqb, ltb}
@@ -15,13 +15,14 @@ use lib.Seq.{get_or-set_same, get_or-set_other, drop-cons, drop-length}
 use borrow.Author.Count.{below_more}
 use borrow.Author.Tests.{eqb-true, eqb-false, eq-eqb, ne_eqb, ltb-true, ltb-false}
 use Rattle.text.specs.Bytes.{pick}
+use Rattle.store.specs.declared.rows.Row.{Row}
 use Rattle.store.specs.declared.claims.Dues.{Dues}
 use Rattle.store.specs.declared.table.Fill.{Fill}
 use Rattle.store.specs.Held.{Held, text_max}
 use Rattle.store.specs.Decode.{decode}
 use Rattle.store.specs.Inner.{lengths, known}
 use Rattle.store.specs.Layout.{Given, Bytes, Shapes, texts}
-use Rattle.store.specs.Rows.{row_width, row_in, key_in, len_in}
+use Rattle.store.specs.Rows.{key_in, len_in}
 use Rattle.store.specs.Shares.{owners, no_shares, use_of, larger, claims_from, claims}
 use Rattle.store.specs.Claims.{not_of, OwnersBelow, Owed, Uses, row_lengths, row_use, Addable, Adds, Sums, Covers}
 use Rattle.store.specs.Claims.{DuesFrom}
@@ -53,7 +54,7 @@ pick_same : (b : Bool) (x : ℕ) → x ≡ 0 → pick b x 0 ≡ 0
 pick_same true x e = e
 pick_same false x e = refl
 
-module _ {i t s : List ℕ} {a : List ℕ} {old c : ℕ} {hs : List Held} (T : Tabled i t s a old c hs) where
+module _ {i t s : List ℕ} {a : List Row} {old c : ℕ} {hs : List Held} (T : Tabled i t s a old c hs) where
   abbrev S : ℕ → List Held
   S = line_at t s a old
 
@@ -114,7 +115,7 @@ module _ {i t s : List ℕ} {a : List ℕ} {old c : ℕ} {hs : List Held} (T : T
 
 -- ---- the loop of `add_uses`
 
-pub row_use_most : (q : ℕ) (a : List ℕ) (n : ℕ) → row_use q a n ≤ row_lengths a n
+pub row_use_most : (q : ℕ) (a : List Row) (n : ℕ) → row_use q a n ≤ row_lengths a n
 unfolding row_use row_lengths
 row_use_most q a zero = omega arith
 row_use_most q a (suc n) = go (eqb (key_in a n).owner q) (row_use_most q a n)
@@ -123,7 +124,7 @@ row_use_most q a (suc n) = go (eqb (key_in a n).owner q) (row_use_most q a n)
     go true l = omega arith
     go false l = omega arith
 
-row_more : (a : List ℕ) (k d n : ℕ) → n ≡ k + suc d → row_lengths a k + len_in a k ≤ row_lengths a n
+row_more : (a : List Row) (k d n : ℕ) → n ≡ k + suc d → row_lengths a k + len_in a k ≤ row_lengths a n
 unfolding row_lengths
 row_more a k d zero e = absurd (omega arith)
 row_more a k zero (suc n) e =
@@ -132,11 +133,11 @@ row_more a k zero (suc n) e =
 row_more a k (suc d) (suc n) e = omega (arith, row_more a k d n (omega arith))
 
 -- the first k rows are added up
-pub record Adding (a : List ℕ) (n : ℕ) (u : List ℕ) (k : ℕ) : Type 0 where
+pub record Adding (a : List Row) (n : ℕ) (u : List ℕ) (k : ℕ) : Type 0 where
   pub within : k ≤ n
   pub adds : Adds a k u
 
-module _ (a : List ℕ) (n : ℕ) (w : Addable a n) where
+module _ (a : List Row) (n : ℕ) (w : Addable a n) where
   pub add_first : (u : List ℕ) → u ≡ no_shares → Adding a n u 0
   unfolding row_use
   add_first u e = record {
@@ -198,7 +199,7 @@ module _ (a : List ℕ) (n : ℕ) (w : Addable a n) where
       go o false e = omega (arith, get_or-eq_default u 0 {n = o} (omega (arith, x.0, ltb-false o owners e)))
 
 -- those uses are the lines'
-pub adds_uses : (a : List ℕ) (n : ℕ) (u : List ℕ) (hs : List Held) → Adds a n u
+pub adds_uses : (a : List Row) (n : ℕ) (u : List ℕ) (hs : List Held) → Adds a n u
     → ((q : ℕ) → q < owners → row_use q a n ≡ use_of q hs) → Uses u hs
 adds_uses a n u hs x f = (x.0, λ o l. x.1 o l ∙ f o l)
 
@@ -282,7 +283,7 @@ module _ (g : List ℕ) (o : ℕ) (hs : List Held) (gg : Given g) (b : OwnersBel
           ∙ omega (arith, p, claims_swap o g hs ks (omega (arith, gg.each)) e)
 
 -- by rows, their uses u, the sum r of all claims and the claim x of the owner
-pub dues_owed : (a g : List ℕ) (f : Fill) (o : ℕ) (u : List ℕ) (r x : ℕ) → Given g
+pub dues_owed : (a : List Row) (g : List ℕ) (f : Fill) (o : ℕ) (u : List ℕ) (r x : ℕ) → Given g
     → Addable a f.count × (row_lengths a f.count ≤ f.used) → Adds a f.count u → Sums u g r → Covers u g r
     → x ≡ larger (get_or u o 0) (get_or g o 0) → o < owners
     → DuesFrom a f g o (record { others = r - x; theirs = f.used - get_or u o 0; share = get_or g o 0 })
@@ -319,18 +320,13 @@ owed_on g o hs ks d e w = record {
   share_most = w.share_most;
 }
 
--- the owner of a row is a byte
-pub owner_byte : (a : List ℕ) (k : ℕ) → (key_in a k).owner < owners
-unfolding row_in
-owner_byte a k = mod-lt (get_or a (row_width * k + 4) 0) (omega arith)
-
 -- ---- the rows of a sound store
 
 owners_of : (hs : List Held) → Shapes hs → OwnersBelow hs
 owners_of [] w = tt
 owners_of (h ∷ hs) w = (w.0.key.owner, owners_of hs w.1)
 
-module _ (i t : List ℕ) (a : List ℕ) (heads next : List ℕ) (f : Fill) (loaded : Loads i a heads next f) where
+module _ (i t : List ℕ) (a : List Row) (heads next : List ℕ) (f : Fill) (loaded : Loads i a heads next f) where
   pub loads_addable : known (decode i t) ≡ true → Addable a f.count × (row_lengths a f.count ≤ f.used)
   loads_addable k =
       let q : (hs : List Held) × (decode i t ≡ some hs) = lines_of_lem (decode i t) k in

@@ -2,6 +2,7 @@
 -- No public contract rests on these: a reader may leave them out.
 use Rattle.std.specs.Prelude.{◌≡◌, List, [], ◌∷◌, ℕ, zero, suc, ◌+◌, ◌-◌, ◌*◌, ◌≤◌, ◌<◌, eqb, length, get_or}
 use Rattle.text.specs.Bytes.{pick}
+use Rattle.store.specs.declared.rows.Row.{Row}
 use Rattle.store.specs.declared.claims.Dues.{Dues}
 use Rattle.store.specs.Held.{Held, text_max}
 use Rattle.store.specs.Shares.{owners, use_of, larger, claims}
@@ -36,19 +37,19 @@ abbrev pub Uses : List ℕ → List Held → Type 0
 Uses u hs = (length u ≡ owners) × ((o : ℕ) → o < owners → get_or u o 0 ≡ use_of o hs)
 
 -- the lengths of the first n rows, added up, and those of one owner's
-unfoldable pub row_lengths : List ℕ → ℕ → ℕ
+unfoldable pub row_lengths : List Row → ℕ → ℕ
 row_lengths a zero = 0
 row_lengths a (suc n) = row_lengths a n + len_in a n
 
-unfoldable pub row_use : ℕ → List ℕ → ℕ → ℕ
+unfoldable pub row_use : ℕ → List Row → ℕ → ℕ
 row_use o a zero = 0
 row_use o a (suc n) = row_use o a n + pick (eqb (key_in a n).owner o) (len_in a n) 0
 
-pub record Addable (a : List ℕ) (n : ℕ) : Type 0 where
+pub record Addable (a : List Row) (n : ℕ) : Type 0 where
   pub most : n ≤ rows_max
   pub fit : row_lengths a n ≤ text_max
 
-abbrev pub Adds : List ℕ → ℕ → List ℕ → Type 0
+abbrev pub Adds : List Row → ℕ → List ℕ → Type 0
 Adds a n u = (length u ≡ owners) × ((o : ℕ) → o < owners → get_or u o 0 ≡ row_use o a n)
 
 -- `claims_of`: of lines that are used so
@@ -60,7 +61,7 @@ pub record Covers (u g : List ℕ) (r : ℕ) : Type 0 where
   pub most : r ≤ owners * 65535
 
 -- `dues_of`: of rows that give the lines hs
-abbrev pub DuesFrom : List ℕ → Fill → List ℕ → ℕ → Dues → Type 0
+abbrev pub DuesFrom : List Row → Fill → List ℕ → ℕ → Dues → Type 0
 DuesFrom a f g o d =
     (hs : List Held) → f.used ≡ lengths hs → ((q : ℕ) → q < owners → row_use q a f.count ≡ use_of q hs)
     → OwnersBelow hs → Owed g o hs d

@@ -2,6 +2,7 @@
 -- No public contract rests on these: a reader may leave them out.
 use Rattle.std.specs.Prelude.{◌≡◌, List, ℕ, ◌+◌, ◌≤◌, ◌<◌, ltb, length, get_or, set, Result, Ok, Err, ⊤}
 use Rattle.text.specs.Bytes.{pick}
+use Rattle.store.specs.declared.rows.Row.{Row}
 use Rattle.store.specs.Held.{Held}
 use Rattle.store.specs.Shares.{owners, share_sizes, use_of, claims}
 use Rattle.store.specs.Layout.{Given, encode_index}
@@ -11,15 +12,15 @@ use Rattle.store.specs.declared.table.Full.TheVariants as R
 use Rattle.store.specs.declared.table.Full.{Full}
 
 -- the first n rows are those of the lines hs, as far as uses tell
-abbrev pub UsedBy : List ℕ → ℕ → List Held → Type 0
+abbrev pub UsedBy : List Row → ℕ → List Held → Type 0
 UsedBy a n hs = (q : ℕ) → q < owners → row_use q a n ≡ use_of q hs
 
 -- `claims_with`: of rows that give the lines hs
-abbrev pub ClaimsWith : List ℕ → ℕ → List ℕ → ℕ → Type 0
+abbrev pub ClaimsWith : List Row → ℕ → List ℕ → ℕ → Type 0
 ClaimsWith a n g r = (hs : List Held) → UsedBy a n hs → r ≡ claims g hs
 
 -- `share_room`: some party's share among g is that many bytes
-pub record Weighs (a : List ℕ) (n : ℕ) (g : List ℕ) (bytes m : ℕ) : Type 0 where
+pub record Weighs (a : List Row) (n : ℕ) (g : List ℕ) (bytes m : ℕ) : Type 0 where
   pub addable : Addable a n
   pub given : bytes ≤ m → Given g
   pub owner : ℕ
@@ -27,7 +28,7 @@ pub record Weighs (a : List ℕ) (n : ℕ) (g : List ℕ) (bytes m : ℕ) : Type
   pub is : get_or g owner 0 ≡ bytes
 
 -- 26, then 21: m bytes of text, i of the index, of which `end` are then in use
-abbrev pub Weighed : List ℕ → ℕ → List ℕ → ℕ → ℕ → ℕ → Result ⊤ Full → Type 0
+abbrev pub Weighed : List Row → ℕ → List ℕ → ℕ → ℕ → ℕ → Result ⊤ Full → Type 0
 Weighed a n g m i end r =
     (hs : List Held) → UsedBy a n hs
     → r ≡ pick (ltb m (claims g hs)) (Err R.Text) (pick (ltb i end) (Err R.Index) (Ok tt))

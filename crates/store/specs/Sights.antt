@@ -2,6 +2,7 @@
 -- No public contract rests on these: a reader may leave them out.
 use Rattle.std.specs.Prelude.{◌≡◌, Bool, true, false, Option as Optional, Some, None, Result, Ok, Err, List, [], ℕ, ◌+◌, ◌≤◌, ◌<◌, length, take, drop}
 use Rattle.std.proofs.Math.Option.{Option, none, some}
+use Rattle.store.specs.declared.rows.Row.{Row}
 use Rattle.store.specs.declared.table.Fill.{Fill}
 use Rattle.store.specs.declared.look.Part.{Part}
 use Rattle.store.specs.declared.near.Nearness.{Nearness}
@@ -14,11 +15,11 @@ use Rattle.store.specs.Table.{InRows}
 use Rattle.store.specs.Near.{Nearby, near_in, plain_key, near_says, near_line}
 
 -- the first n rows are the same
-abbrev pub Agree : List ℕ → List ℕ → ℕ → Type 0
+abbrev pub Agree : List Row → List Row → ℕ → Type 0
 Agree a b n = (k : ℕ) → k < n → row_in a k ≡ row_in b k
 
 -- the first n numbers are in their chains, and there is room for one more
-pub record Ready (a heads next : List ℕ) (n : ℕ) : Type 0 where
+pub record Ready (a : List Row) (heads next : List ℕ) (n : ℕ) : Type 0 where
   pub long : Long a
   pub chained : Chained (key_in a) heads next n
 
@@ -28,9 +29,9 @@ pub data Spot (t : List ℕ) (o : Option (List ℕ)) (r : Optional Part) : Type 
   there : (q : Part) → o ≡ some (take q.len (drop q.start t)) → r ≡ Some q → q.start + q.len ≤ length t → Spot t o r
 
 -- `part_of`: where the line of a key lies, if the first rows are those of the lines hs
-abbrev pub Spots : List ℕ → List ℕ → List ℕ → Fill → Key → Optional Part → Type 0
+abbrev pub Spots : List Row → List ℕ → List ℕ → Fill → Key → Optional Part → Type 0
 Spots a heads next f k r =
-    (i t b : List ℕ) (hs : List Held) → Agree b a f.count → InRows i t [] b heads next f.count f hs
+    (i t : List ℕ) (b : List Row) (hs : List Held) → Agree b a f.count → InRows i t [] b heads next f.count f hs
     → Spot t (find k hs) r
 
 -- where a line lies, as a look-up tells it: within the text, and the line there; an empty one where none is told
@@ -74,7 +75,7 @@ pub record NearSees (t : List ℕ) (x : Nearby) (r : Result (Optional (Nearness 
   pub line : line_there t (near_part r) ≡ near_line x
 
 -- `try_both`
-abbrev pub Tries : List ℕ → List ℕ → List ℕ → Fill → Key → Optional (Nearness × Part) → Type 0
+abbrev pub Tries : List Row → List ℕ → List ℕ → Fill → Key → Optional (Nearness × Part) → Type 0
 Tries a heads next f k r =
     (i t : List ℕ) (hs : List Held) → InRows i t [] a heads next f.count f hs
     → NearSees t (near_in (find k hs) (find (plain_key k) hs)) (Ok r)

@@ -4,6 +4,7 @@
 use Rattle.std.specs.Prelude.{Option as Optional, MatchOption, false, ◌≡◌, true, List, [], ◌∷◌, ◌++◌, ℕ, zero, suc, ◌+◌, ◌-◌, ◌≤◌, ◌<◌, eqb, ltb, length, take, drop, replicate, Result, Ok, Err, ⊤}
 use Rattle.std.proofs.Math.Option.{Option, some}
 use Rattle.text.specs.Bytes.{pick}
+use Rattle.store.specs.declared.rows.Row.{Row}
 use Rattle.store.specs.declared.table.Fill.{Fill}
 use Rattle.store.specs.declared.claims.Dues.{Dues}
 use Rattle.store.specs.declared.settle.Kept.{Kept}
@@ -34,17 +35,17 @@ abbrev pub source_of : List ℕ → List ℕ → ℕ → ℕ → List ℕ
 source_of t s old k = pick (ltb k old) t s
 
 -- the line of number k, and what it gives
-abbrev pub held_at : List ℕ → List ℕ → List ℕ → ℕ → ℕ → Held
+abbrev pub held_at : List ℕ → List ℕ → List Row → ℕ → ℕ → Held
 held_at t s a old k = record {
   key = key_in a k;
   line = take (len_in a k) (drop (start_in a k) (source_of t s old k));
 }
 
-unfoldable pub line_at : List ℕ → List ℕ → List ℕ → ℕ → ℕ → List Held
+unfoldable pub line_at : List ℕ → List ℕ → List Row → ℕ → ℕ → List Held
 line_at t s a old k = pick (eqb (len_in a k) 0) [] (held_at t s a old k ∷ [])
 
 -- none of the first k numbers is struck out
-abbrev pub Whole : List ℕ → ℕ → Type 0
+abbrev pub Whole : List Row → ℕ → Type 0
 Whole a k = (j : ℕ) → j < k → len_in a j ≡ 0 → ⊥
 
 -- a store holds those lines, and others behind them
@@ -53,7 +54,7 @@ Begins o fs = (bs : List Held) × (o ≡ some (fs ++ bs))
 
 -- the first c numbers give the lines hs, for an index i and a text t; each old line starts behind the old lines before
 -- it that are still held, and before the first one that is struck out they stand as in the store
-pub record Tabled (i t s : List ℕ) (a : List ℕ) (old c : ℕ) (hs : List Held) : Type 0 where
+pub record Tabled (i t s : List ℕ) (a : List Row) (old c : ℕ) (hs : List Held) : Type 0 where
   pub is : hs ≡ living (line_at t s a old) c
   pub inside : (k : ℕ) → k < c → start_in a k + len_in a k ≤ length (source_of t s old k)
   pub ahead : (k : ℕ) → k < old → length (texts (living (line_at t s a old) k)) ≤ start_in a k
@@ -64,7 +65,7 @@ pub record Tabled (i t s : List ℕ) (a : List ℕ) (old c : ℕ) (hs : List Hel
   pub good : Fitted (length i) (length t) hs
 
 -- `kept_rows`: the numbers before the first one that is struck out, and how much the lines of those take
-pub record Keepable (a : List ℕ) (old : ℕ) : Type 0 where
+pub record Keepable (a : List Row) (old : ℕ) : Type 0 where
   pub i : List ℕ
   pub t : List ℕ
   pub s : List ℕ
@@ -77,7 +78,7 @@ pub record Keepable (a : List ℕ) (old : ℕ) : Type 0 where
 abbrev pub Takes_up : List Held → ℕ → ℕ → Type 0
 Takes_up hs end used = (end ≡ sizes 0 hs) × (used ≡ length (texts hs))
 
-pub record Keeps (a : List ℕ) (old : ℕ) (r : Kept) : Type 0 where
+pub record Keeps (a : List Row) (old : ℕ) (r : Kept) : Type 0 where
   pub rows : r.rows ≤ old
   pub whole : Whole a r.rows
   pub takes : (i t s : List ℕ) (c : ℕ) (hs : List Held) → Tabled i t s a old c hs
@@ -88,14 +89,14 @@ abbrev pub Extends : List ℕ → List ℕ → Fill → Type 0
 Extends i t f = (hs : List Held) → decode i t ≡ some hs → Takes_up hs f.end f.used
 
 -- the lines of the numbers that are kept, and the index with a part of it behind their records
-abbrev pub kept_lines : List ℕ → List ℕ → List ℕ → Kept → Fill → List Held
+abbrev pub kept_lines : List ℕ → List ℕ → List Row → Kept → Fill → List Held
 kept_lines t s a kept was = living (line_at t s a was.count) kept.rows
 
-abbrev pub behind_kept : List ℕ → List ℕ → List ℕ → Kept → Fill → List ℕ → List ℕ
+abbrev pub behind_kept : List ℕ → List ℕ → List Row → Kept → Fill → List ℕ → List ℕ
 behind_kept t s a kept was part = records 0 (kept_lines t s a kept was) ++ part
 
 -- `close_up`: the part of the index behind the records that are kept, and the store that it is of
-pub record Lent (part t s : List ℕ) (a : List ℕ) (kept : Kept) (was : Fill) (c : ℕ) (hs : List Held) : Type 0 where
+pub record Lent (part t s : List ℕ) (a : List Row) (kept : Kept) (was : Fill) (c : ℕ) (hs : List Held) : Type 0 where
   pub tabled : Tabled (behind_kept t s a kept was part) t s a was.count c hs
   pub rows : kept.rows ≤ c
   pub takes : Takes_up (kept_lines t s a kept was) kept.at kept.off
@@ -107,26 +108,26 @@ pub record Lent (part t s : List ℕ) (a : List ℕ) (kept : Kept) (was : Fill) 
   pub text_within : was.used ≤ length t
   pub text_free : drop was.used t ≡ replicate (length t - was.used) 0
 
-abbrev pub Closes : List ℕ → List ℕ → List ℕ → List ℕ → Kept → Fill → ℕ → Type 0
+abbrev pub Closes : List ℕ → List ℕ → List ℕ → List Row → Kept → Fill → ℕ → Type 0
 Closes part t s a kept was c = (hs : List Held) × Lent part t s a kept was c hs
 
-abbrev pub Closed : List ℕ → List ℕ → List ℕ → List ℕ → Kept → Fill → ℕ → List ℕ → List ℕ → Type 0
+abbrev pub Closed : List ℕ → List ℕ → List ℕ → List Row → Kept → Fill → ℕ → List ℕ → List ℕ → Type 0
 Closed part t s a kept was c part' t' =
     (hs : List Held) → Lent part t s a kept was c hs
     → (behind_kept t s a kept was part' ≡ encode_records (length (behind_kept t s a kept was part)) hs)
     × (t' ≡ encode_text (length t) hs)
 
 -- `settle`: the lines that are still held, written out
-abbrev pub Settles : List ℕ → List ℕ → List ℕ → List ℕ → Fill → ℕ → Type 0
+abbrev pub Settles : List ℕ → List ℕ → List ℕ → List Row → Fill → ℕ → Type 0
 Settles i t s a was c = (hs : List Held) × Tabled i t s a was.count c hs
 
-abbrev pub Settled : List ℕ → List ℕ → List ℕ → List ℕ → Fill → ℕ → List ℕ → List ℕ → Type 0
+abbrev pub Settled : List ℕ → List ℕ → List ℕ → List Row → Fill → ℕ → List ℕ → List ℕ → Type 0
 Settled i t s a was c i' t' =
     (hs : List Held) → Tabled i t s a was.count c hs
     → (i' ≡ encode_records (length i) hs) × (t' ≡ encode_text (length t) hs)
 
 -- such numbers, in chains by their keys; of two with one key the first is struck out; and how much is in use
-pub record InRows (i t s : List ℕ) (a : List ℕ) (heads next : List ℕ) (old : ℕ) (f : Fill) (hs : List Held)
+pub record InRows (i t s : List ℕ) (a : List Row) (heads next : List ℕ) (old : ℕ) (f : Fill) (hs : List Held)
     : Type 0 where
   pub tabled : Tabled i t s a old f.count hs
   pub older : (j k : ℕ) → j < k → k < f.count → key_in a j ≡ key_in a k
@@ -137,13 +138,13 @@ pub record InRows (i t s : List ℕ) (a : List ℕ) (heads next : List ℕ) (old
   pub limits : (length i ≤ index_max) × (length t ≤ text_max)
 
 -- the lines of a sound store are written down, all of them old
-abbrev pub Loads : List ℕ → List ℕ → List ℕ → List ℕ → Fill → Type 0
+abbrev pub Loads : List ℕ → List Row → List ℕ → List ℕ → Fill → Type 0
 Loads i a heads next f =
     (t s : List ℕ) (hs : List Held) → decode i t ≡ some hs
     → InRows i t s a heads next f.count f hs
 
 -- `survey`: the store is sound but for keys that stand twice; what is told of those
-pub record Surveys (i t : List ℕ) (a : List ℕ) (heads next : List ℕ) (r : Surveyed) : Type 0 where
+pub record Surveys (i t : List ℕ) (a : List Row) (heads next : List ℕ) (r : Surveyed) : Type 0 where
   pub is : known (walk (suc (length i)) 0 i t) ≡ true
   pub most : r.fill.count < rows_max
   pub says : Says (key_in a) r.fill.count r.verdict
@@ -151,25 +152,25 @@ pub record Surveys (i t : List ℕ) (a : List ℕ) (heads next : List ℕ) (r : 
   pub lists : Lists i (key_in a) r.fill.count
   pub loads : Loads i a heads next r.fill
 
-abbrev pub OnceSurveyed : List ℕ → List ℕ → List ℕ → List ℕ → List ℕ → Optional Surveyed → Type 0
+abbrev pub OnceSurveyed : List ℕ → List ℕ → List Row → List ℕ → List ℕ → Optional Surveyed → Type 0
 OnceSurveyed i t a heads next r =
     MatchOption r (known (walk (suc (length i)) 0 i t) ≡ false) (Surveys i t a heads next)
 
 -- `take_stock`: the store is sound
-pub record Stocks (i t g : List ℕ) (a : List ℕ) (heads next : List ℕ) (r : Stock) : Type 0 where
+pub record Stocks (i t g : List ℕ) (a : List Row) (heads next : List ℕ) (r : Stock) : Type 0 where
   pub is : known (content i t) ≡ true
   pub front : Fronts i g r.front
   pub most : length i ≤ index_max
   pub loads : Loads (drop r.front i) a heads next r.fill × (r.fill.count < rows_max)
 
-abbrev pub OnceStocked : List ℕ → List ℕ → List ℕ → List ℕ → List ℕ → List ℕ → Optional Stock → Type 0
+abbrev pub OnceStocked : List ℕ → List ℕ → List ℕ → List Row → List ℕ → List ℕ → Optional Stock → Type 0
 OnceStocked i t g a heads next r = MatchOption r (known (content i t) ≡ false) (Stocks i t g a heads next)
 
 -- `len_before`, `strike_before`: of the number before r; none where r is 0
-abbrev pub len_before : List ℕ → ℕ → ℕ
+abbrev pub len_before : List Row → ℕ → ℕ
 len_before a r = pick (eqb r 0) 0 (len_in a (r - 1))
 
-abbrev pub struck_before : List ℕ → ℕ → List ℕ
+abbrev pub struck_before : List Row → ℕ → List Row
 struck_before a r = pick (eqb r 0) a (len_put a (r - 1) 0)
 
 -- `end_with`: where the records end with one more of that key, if none of that key is struck out for it
@@ -182,26 +183,26 @@ pub record Short (l : List ℕ) : Type 0 where
   pub most : length l ≤ line_max
 
 -- `file_row`: a line of those that are inserted, for lines that are so written down
-pub record Files' (g : List ℕ) (d : Dues) (i t s : List ℕ) (a : List ℕ) (heads next : List ℕ) (old : ℕ) (f : Fill)
+pub record Files' (g : List ℕ) (d : Dues) (i t s : List ℕ) (a : List Row) (heads next : List ℕ) (old : ℕ) (f : Fill)
     (u : Key) (start len : ℕ) (hs : List Held) : Type 0 where
   pub owed : Owed g u.owner hs d
   pub in_rows : InRows i t s a heads next old f hs
   pub inside : start + len ≤ length s
   pub shape : Short (take len (drop start s))
 
-abbrev pub Fileable : Dues → List ℕ → List ℕ → List ℕ → List ℕ → List ℕ → Fill → Key → ℕ → ℕ → Type 0
+abbrev pub Fileable : Dues → List ℕ → List ℕ → List Row → List ℕ → List ℕ → Fill → Key → ℕ → ℕ → Type 0
 Fileable d i t a heads next f u start len =
     (g s : List ℕ) × ((old : ℕ) × ((hs : List Held) × Files' g d i t s a heads next old f u start len hs))
 
 -- it is filed, or there is no room and the lines are as before
-pub data Filed (g i t s : List ℕ) (a : List ℕ) (heads next : List ℕ) (old : ℕ) (f : Fill) (h : Held)
+pub data Filed (g i t s : List ℕ) (a : List Row) (heads next : List ℕ) (old : ℕ) (f : Fill) (h : Held)
     (hs : List Held) (r : Result Fill Full) : Type 0 where
   fits : (f' : Fill) → room_for (behind g i t h.key.owner) h hs ≡ Ok tt → r ≡ Ok f'
       → InRows i t s a heads next old f' (file h hs) → Filed g i t s a heads next old f h hs r
   full : (e : Full) → room_for (behind g i t h.key.owner) h hs ≡ Err e → r ≡ Err e
       → Tabled i t s a old f.count hs → Filed g i t s a heads next old f h hs r
 
-abbrev pub FilesRow : Dues → List ℕ → List ℕ → List ℕ → List ℕ → List ℕ → Fill → Key → ℕ → ℕ → List ℕ → List ℕ
+abbrev pub FilesRow : Dues → List ℕ → List ℕ → List Row → List ℕ → List ℕ → Fill → Key → ℕ → ℕ → List Row → List ℕ
     → List ℕ → Result Fill Full → Type 0
 FilesRow d i t a heads next f u start len a' heads' next' r =
     (g s : List ℕ) (old : ℕ) (hs : List Held) → Files' g d i t s a heads next old f u start len hs
@@ -222,19 +223,19 @@ FilesLine d i t h r i' t' =
     → (r ≡ room_for (behind g i t h.key.owner) h hs)
     × Encoded (length i) (length t) i' t' (by_room r hs hs (file h hs))
 
-abbrev pub SomeRows : Dues → ℕ → List ℕ → List ℕ → List ℕ → List ℕ → List ℕ → List ℕ → Fill → Type 0
+abbrev pub SomeRows : Dues → ℕ → List ℕ → List ℕ → List ℕ → List Row → List ℕ → List ℕ → Fill → Type 0
 SomeRows d o i t s a heads next f =
     (g : List ℕ) × ((old : ℕ) × ((hs : List Held) × (Owed g o hs d × InRows i t s a heads next old f hs)))
 
 -- `reach_row`: what one line of an insert does
-pub data Comes (g i t s : List ℕ) (a : List ℕ) (heads next : List ℕ) (old o : ℕ) (l : List ℕ) (hs : List Held)
+pub data Comes (g i t s : List ℕ) (a : List Row) (heads next : List ℕ) (old o : ℕ) (l : List ℕ) (hs : List Held)
     (f : Fill) (r : Result Fill StoreError) : Type 0 where
   goes : (f' : Fill) (ks : List Held) → reach (behind g i t o) hs l ≡ after ks → r ≡ Ok f'
       → InRows i t s a heads next old f' ks → Comes g i t s a heads next old o l hs f r
   stops : (e : StoreError) → reach (behind g i t o) hs l ≡ stopped (Err e) → r ≡ Err e
       → Tabled i t s a old f.count hs → Comes g i t s a heads next old o l hs f r
 
-abbrev pub ReachesRow : Dues → List ℕ → List ℕ → List ℕ → List ℕ → List ℕ → List ℕ → Fill → ℕ → List ℕ → List ℕ
+abbrev pub ReachesRow : Dues → List ℕ → List ℕ → List ℕ → List Row → List ℕ → List ℕ → Fill → ℕ → List ℕ → List Row
     → List ℕ → List ℕ → Result Fill StoreError → Type 0
 ReachesRow d i t s a heads next f o l a' heads' next' r =
     (g : List ℕ) (old : ℕ) (hs : List Held) → Owed g o hs d → InRows i t s a heads next old f hs
@@ -258,7 +259,7 @@ pub record Went (s : List ℕ) (from f : ℕ) (r : Walked) : Type 0 where
   pub counted : from + r.count ≤ r.at
   pub moved : f < rows_max → from < length s → r.answer ≡ Ok tt → from < r.at
 
-abbrev pub TakesLines : Dues → List ℕ → List ℕ → List ℕ → List ℕ → List ℕ → List ℕ → ℕ → ℕ → Fill → List ℕ → Walked
+abbrev pub TakesLines : Dues → List ℕ → List ℕ → List ℕ → List Row → List ℕ → List ℕ → ℕ → ℕ → Fill → List Row → Walked
     → Type 0
 TakesLines d i t s a heads next o from f a' r =
     (g : List ℕ) (old : ℕ) (hs : List Held) → Owed g o hs d → InRows i t s a heads next old f hs

@@ -6,7 +6,7 @@ ghost use Rattle.store.specs.Keys.{seek_says, told_of, Tells};
 ghost use Rattle.store.specs.Rows.{key_in, Long};
 
 use crate::parties::Key;
-use crate::rows::{CELLS, ROWS, key_at, same_at};
+use crate::rows::{ROWS, Row};
 
 // The most steps in a chain where an order can be had instead.
 const CHAIN_MAX: usize = 16;
@@ -31,7 +31,7 @@ fn bucket_of(key: Key) -> usize
 // Seeks the key of number k in the chain that starts before `from`: one more than the number that has it, 0 where none
 // has it, and k + 1 where the chain has more than `most` steps. So a found number is told as `heads` and `next` hold
 // it, in which 0 ends a chain.
-fn seek(rows: &[u64; CELLS], next: &[u16; ROWS], from: usize, k: usize, most: usize) -> usize
+fn seek(rows: &[Row; ROWS], next: &[u16; ROWS], from: usize, k: usize, most: usize) -> usize
     requires k_lt_rows_max { (k < rows_max) × (from ≤ k) }
     requires linked { Linked (key_in rows.now) next.now k }
     requires kin { Kin (key_in rows.now) k from }
@@ -45,7 +45,7 @@ fn seek(rows: &[u64; CELLS], next: &[u16; ROWS], from: usize, k: usize, most: us
         if left == 0 {
             return k + 1;
         }
-        if same_at(rows, c - 1, k) {
+        if rows[c - 1].key == rows[k].key {
             return c;
         }
         c = usize::from(next[c - 1]);
@@ -57,7 +57,7 @@ fn seek(rows: &[u64; CELLS], next: &[u16; ROWS], from: usize, k: usize, most: us
 // The first step of `seek` in the chain that starts before `from`, of number k, which is linked: `from` where the key
 // is found, else what comes behind it. An empty chain is not told apart, which could not be foreseen: number 0 is
 // compared then, and nothing comes behind it.
-fn first_step(rows: &[u64; CELLS], next: &[u16; ROWS], from: usize, k: usize) -> usize
+fn first_step(rows: &[Row; ROWS], next: &[u16; ROWS], from: usize, k: usize) -> usize
     requires k_lt_rows_max { (k < rows_max) × (from ≤ k) }
     requires linked { Linked (key_in rows.now) next.now (k + 1) }
     requires kin { Kin (key_in rows.now) k from }
@@ -65,7 +65,7 @@ fn first_step(rows: &[u64; CELLS], next: &[u16; ROWS], from: usize, k: usize) ->
     ensures kin_2 { Kin (key_in rows.now) k result }
 {
     let at = from.saturating_sub(1);
-    if same_at(rows, at, k) {
+    if rows[at].key == rows[k].key {
         return from;
     }
     usize::from(next[at])
@@ -75,7 +75,7 @@ fn first_step(rows: &[u64; CELLS], next: &[u16; ROWS], from: usize, k: usize) ->
 // its last number; and what stands before each number in its chain.
 #[derive(Drop)]
 pub struct Table {
-    pub rows: [u64; CELLS],
+    pub rows: [Row; ROWS],
     pub heads: [u16; ROWS],
     pub next: [u16; ROWS],
 }
@@ -87,7 +87,7 @@ impl Table {
         ensures chained { Chained (key_in result.rows) result.heads result.next 0 }
     {
         Table {
-            rows: [0; CELLS],
+            rows: [Row::UNUSED; ROWS],
             heads: [0; ROWS],
             next: [0; ROWS],
         }
@@ -101,8 +101,7 @@ impl Table {
         ensures sought { Sought (key_in self.now.rows) k result }
         ensures upper_bound { result ≤ k }
     {
-        let key = key_at(&self.rows, k);
-        let h = bucket_of(key);
+        let h = bucket_of(self.rows[k].key);
         let head = self.heads[h];
         seek(&self.rows, &self.next, usize::from(head), k, ROWS)
     }
@@ -116,8 +115,7 @@ impl Table {
         ensures chained_2 { Chained (key_in self.new.rows) self.new.heads self.new.next (k + 1) }
         ensures upper_bound { rows_max ≤ most → result ≤ k }
     {
-        let key = key_at(&self.rows, k);
-        let h = bucket_of(key);
+        let h = bucket_of(self.rows[k].key);
         let head = self.heads[h];
         self.next[k] = head;
         let from = first_step(&self.rows, &self.next, usize::from(head), k);
@@ -166,7 +164,7 @@ pub fn steps(known: Verdict) -> usize {
 // The keys of the first `count` numbers, which are in their chains.
 #[derive(Clone, Copy)]
 pub struct Keyed<'a> {
-    pub rows: &'a [u64; CELLS],
+    pub rows: &'a [Row; ROWS],
     pub next: &'a [u16; ROWS],
     pub count: usize,
     ghost few: { count ≤ rows_max },

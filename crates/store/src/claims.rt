@@ -4,7 +4,7 @@ ghost use Rattle.store.specs.Layout.{Given};
 ghost use Rattle.store.specs.Shares.{owners, no_shares, larger};
 ghost use Rattle.store.specs.Claims.{DuesFrom, Addable, Adds, Sums, Covers, row_lengths};
 
-use crate::rows::{CELLS, key_at, len_at};
+use crate::rows::{ROWS, Row};
 use crate::shares::{OWNERS, any_share};
 use crate::table::Fill;
 
@@ -33,15 +33,15 @@ pub fn claimed(dues: Dues, used: usize) -> usize
 }
 
 // Adds up the bytes of each owner's lines, of the first `count` rows.
-pub fn add_uses(rows: &[u64; CELLS], count: usize, uses: &mut [u64; OWNERS])
+pub fn add_uses(rows: &[Row; ROWS], count: usize, uses: &mut [u64; OWNERS])
     requires uses_value { uses.old ≡ no_shares }
     requires addable { Addable rows.now count }
     ensures { Adds rows.now count uses.new }
 {
     for k in 0..count {
-        let key = key_at(rows, k);
-        let o = key.owner as usize;
-        uses[o] += len_at(rows, k) as u64;
+        let row = rows[k];
+        let o = row.key.owner as usize;
+        uses[o] += row.len as u64;
     }
 }
 
@@ -60,7 +60,7 @@ pub fn claims_of(uses: &[u64; OWNERS], shares: &[u64; OWNERS]) -> usize
 
 // What the others than an owner claim and use, and its share, by the lines that are written down. Without any share all
 // that is claimed is in use.
-pub fn dues_of(rows: &[u64; CELLS], fill: Fill, shares: &[u64; OWNERS], owner: u8) -> Dues
+pub fn dues_of(rows: &[Row; ROWS], fill: Fill, shares: &[u64; OWNERS], owner: u8) -> Dues
     requires given { Given shares.now }
     requires addable { Addable rows.now fill.count × (row_lengths rows.now fill.count ≤ fill.used) }
     ensures { DuesFrom rows.now fill shares.now owner result }

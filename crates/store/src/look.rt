@@ -8,7 +8,7 @@ use crate::calls::LookError;
 use crate::chains::Table;
 use crate::owners::owner_of;
 use crate::parties::{Key, Party};
-use crate::rows::{put_row, start_at};
+use crate::rows::Row;
 use crate::shares::OWNERS;
 use crate::soundness::take_stock;
 use crate::table::{Fill, len_before};
@@ -32,13 +32,17 @@ pub fn part_of(table: &mut Table, fill: Fill, key: Key) -> Option<Part>
     ensures spots { Spots table.old.rows table.old.heads table.old.next fill key result }
 {
     let n = fill.count;
-    put_row(&mut table.rows, n, key, 0, 0);
+    table.rows[n] = Row {
+        key,
+        start: 0,
+        len: 0,
+    };
     let r = table.seek_before(n);
     let len = len_before(&table.rows, r);
     if len == 0 {
         return None;
     }
-    let start = start_at(&table.rows, r - 1);
+    let start = table.rows[r - 1].start;
     Some(Part { start, len })
 }
 

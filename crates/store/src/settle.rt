@@ -6,7 +6,7 @@ ghost use Rattle.store.specs.Table.{Keepable, Keeps, Closes, Closed, Extends, Se
 
 use crate::bytes::{move_down, zero_between};
 use crate::records::{put_record, record_size};
-use crate::rows::{CELLS, key_at, len_at, start_at};
+use crate::rows::{ROWS, Row};
 use crate::table::Fill;
 use text::bytes::write_bytes;
 
@@ -35,18 +35,18 @@ fn put_text(text: &mut [u8], lines: &[u8], off: usize, start: usize, len: usize,
 }
 
 // Counts the first of `old` numbers, up to one that is struck out.
-fn kept_rows(rows: &[u64; CELLS], old: usize) -> Kept
+fn kept_rows(rows: &[Row; ROWS], old: usize) -> Kept
     requires { Keepable rows.now old }
     ensures { Keeps rows.now old result }
 {
     let mut at = 0;
     let mut off = 0;
     for k in 0..old {
-        let len = len_at(rows, k);
+        let len = rows[k].len;
         if len == 0 {
             return Kept { rows: k, at, off };
         }
-        let key = key_at(rows, k);
+        let key = rows[k].key;
         at += record_size(key);
         off += len;
     }
@@ -60,7 +60,7 @@ fn close_up(
     part: &mut [u8],
     text: &mut [u8],
     lines: &[u8],
-    rows: &[u64; CELLS],
+    rows: &[Row; ROWS],
     kept: Kept,
     was: Fill,
     count: usize,
@@ -73,12 +73,12 @@ fn close_up(
     let mut at = 0;
     let mut off = kept.off;
     for k in kept.rows..count {
-        let len = len_at(rows, k);
+        let len = rows[k].len;
         if len == 0 {
             continue;
         }
-        let key = key_at(rows, k);
-        let start = start_at(rows, k);
+        let key = rows[k].key;
+        let start = rows[k].start;
         put_record(&mut part[at..], key, off, len);
         put_text(text, lines, off, start, len, k < was.count);
         at += record_size(key);
@@ -94,7 +94,7 @@ pub fn settle(
     index: &mut [u8],
     text: &mut [u8],
     lines: &[u8],
-    rows: &[u64; CELLS],
+    rows: &[Row; ROWS],
     was: Fill,
     count: usize,
 )

@@ -8,7 +8,7 @@ ghost use Rattle.store.specs.Store.{store_share, store_told};
 use crate::calls::StoreError;
 use crate::chains::Table;
 use crate::claims::{add_uses, claims_of};
-use crate::rows::CELLS;
+use crate::rows::{ROWS, Row};
 use crate::shares::{OWNERS, change_share, share_place, share_size};
 use crate::soundness::take_stock;
 use crate::table::Full;
@@ -43,7 +43,7 @@ pub fn share_of(index: &[u8], text: &[u8], owner: u8) -> Result<ShareUse, Unsoun
 }
 
 // What all parties claim with those shares, by the lines that are written down.
-fn claims_with(rows: &[u64; CELLS], count: usize, shares: &[u64; OWNERS]) -> usize
+fn claims_with(rows: &[Row; ROWS], count: usize, shares: &[u64; OWNERS]) -> usize
     requires addable { Addable rows.now count }
     requires given { Given shares.now }
     ensures { ClaimsWith rows.now count shares.now result }
@@ -56,7 +56,7 @@ fn claims_with(rows: &[u64; CELLS], count: usize, shares: &[u64; OWNERS]) -> usi
 // Whether there is room for a share of so many bytes, which stands among those shares already: in the text, and in an
 // index of which so many bytes are then in use.
 fn share_room(
-    rows: &[u64; CELLS],
+    rows: &[Row; ROWS],
     count: usize,
     shares: &[u64; OWNERS],
     bytes: usize,

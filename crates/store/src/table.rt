@@ -9,7 +9,7 @@ use crate::chains::Table;
 use crate::claims::{Dues, claimed};
 use crate::parties::Key;
 use crate::records::record_size;
-use crate::rows::{CELLS, ROWS, len_at, put_len, put_row};
+use crate::rows::{ROWS, Row};
 
 // Why a line has no room: the index has none for its record, or the text none for the line.
 #[derive(Clone, Copy, PartialEq, Eq)]
@@ -33,35 +33,35 @@ impl Table {
     pub fn add_row(&mut self, n: usize, key: Key, start: usize, len: usize, most: usize) -> usize
         requires n_lt_rows_max { n < rows_max }
         requires chained { Chained (key_in self.old.rows) self.old.heads self.old.next n }
-        ensures rows_after { (self.new.rows ≡ row_put self.old.rows n key start len) × (key.owner < 256) }
+        ensures rows_after { self.new.rows ≡ row_put self.old.rows n key start len }
         ensures sought { Sought (key_in self.new.rows) n result × (rows_max ≤ most → result ≤ n) }
         ensures chained_2 { Chained (key_in self.new.rows) self.new.heads self.new.next (n + 1) }
     {
-        put_row(&mut self.rows, n, key, start, len);
+        self.rows[n] = Row { key, start, len };
         self.link(n, most)
     }
 }
 
 // The length of the line of the number before r, and 0 where r is 0.
-pub fn len_before(rows: &[u64; CELLS], r: usize) -> usize
+pub fn len_before(rows: &[Row; ROWS], r: usize) -> usize
     requires { r ≤ rows_max }
     ensures { result ≡ len_before rows.now r }
 {
     if r == 0 {
         return 0;
     }
-    len_at(rows, r - 1)
+    rows[r - 1].len
 }
 
 // Strikes out the number before r; r is 0 where there is none.
-fn strike_before(rows: &mut [u64; CELLS], r: usize)
+fn strike_before(rows: &mut [Row; ROWS], r: usize)
     requires { r ≤ rows_max }
     ensures { rows.new ≡ struck_before rows.old r }
 {
     if r == 0 {
         return;
     }
-    put_len(rows, r - 1, 0);
+    rows[r - 1].len = 0;
 }
 
 // Where the records end with one more of that key; a line of length `had` is struck out for it, or none where it is 0.

@@ -1,58 +1,42 @@
 use mathlib.Core.Path.{sym, ◌∙◌}
 use native.Mathlib.Omega.{arith}
-use Prim.Native.Nat.{◌≤◌}
+use Prim.Native.Nat.{◌-◌, ◌≤◌}
+use Rattle.store.specs.Held.{same_key}
 use Rattle.store.specs.Rows.{key_in}
 use Rattle.store.proofs.ChainLaws.{seek_turn}
 use Rattle.store.proofs.HeldLaws.{same_eq}
 use Rattle.store.proofs.chains.seek.Goals as goal
 
-pub loop-c-init : goal.loop-c-init
-loop-c-init c =
-    (record { passed = λ j l m e. omega arith; kin = c.requires.kin; within = c.requires.k_lt_rows_max.1 }, λ l. l)
-
-pub returns-then-left-eq0 : goal.returns-then-left-eq0
-returns-then-left-eq0 c =
-    record {
-      seeks = record { clear = λ l. absurd (omega arith); hit = λ p l. absurd (omega arith) };
-      upper_bound = λ l. let loop = c.loop-c in let left : loop.c ≤ loop.left = loop.invariant.1 l in omega arith;
-    }
-
-pub returns-then-same_at : goal.returns-then-same_at
-returns-then-same_at c =
+pub returns-then-eq : goal.returns-then-eq
+unfolding same_key
+returns-then-eq c =
+    let args = c.args in
     let loop = c.loop-c in record {
       seeks = record {
         clear = λ l. loop.invariant.0.passed;
-        hit = λ p l. same_eq _ _ (sym c.same_at.ensures ∙ c.if-same_at.true);
+        hit = λ p l. same_eq (key_in args.rows.now (loop.c - 1)) (key_in args.rows.now args.k)
+            (sym c.eq.ensures ∙ c.if-eq.true);
       };
       upper_bound = λ l. loop.invariant.0.within;
     }
 
 pub loop-c-smaller : goal.loop-c-smaller
+unfolding same_key
 loop-c-smaller c =
     let args = c.args in
     let pre = c.requires in
     let loop = c.loop-c in
-    let same_at = c.same_at in
-    let if2 = c.if-same_at in
     (seek_turn (key_in args.rows.now) args.next.now args.k args.from loop.c
-    c.from-c.result pre.linked loop.invariant.0 (omega arith) (sym same_at.ensures ∙ if2.false)
+    c.from-c.result pre.linked loop.invariant.0 (omega arith) (sym c.eq.ensures ∙ c.if-eq.false)
     c.from-c.ensures).1
 
 pub loop-c-preserved : goal.loop-c-preserved
+unfolding same_key
 loop-c-preserved c =
     let args = c.args in
     let pre = c.requires in
     let loop = c.loop-c in
-    let same_at = c.same_at in
-    let if2 = c.if-same_at in
     let on = seek_turn (key_in args.rows.now) args.next.now args.k args.from loop.c
-    c.from-c.result pre.linked loop.invariant.0 (omega arith) (sym same_at.ensures ∙ if2.false)
+    c.from-c.result pre.linked loop.invariant.0 (omega arith) (sym c.eq.ensures ∙ c.if-eq.false)
     c.from-c.ensures in
     (on.0, λ l. let left : loop.c ≤ loop.left = loop.invariant.1 l in omega (arith, on.1))
-
-pub returns : goal.returns
-returns c =
-    let loop = c.loop-c in record {
-      seeks = record { clear = λ l j a b e. loop.invariant.0.passed j (omega arith) b e; hit = λ p l. absurd (omega arith) };
-      upper_bound = λ l. omega arith;
-    }

@@ -1,7 +1,6 @@
 -- The key is the last of the numbers, and its chain tells the one before: `spot_line`.
 use mathlib.Core.Path.{refl, ◌∙◌}
-use native.Mathlib.Omega.{arith}
-use Rattle.store.proofs.LookLaws.{some-before, spot_none, spot_line, put_agree, put_ready, put_new}
+use Rattle.store.proofs.LookLaws.{spot_none, spot_line, put_agree, put_ready, put_new}
 use Rattle.store.proofs.look.part_of.Goals as goal
 
 pub seek_before-r-requires : goal.seek_before-r-requires
@@ -11,67 +10,46 @@ seek_before-r-requires c =
     let pre = pre in record {
       k_lt_rows_max = pre.count_lt_rows_max;
       chained = (put_ready args.table.now.rows args.table.now.heads args.table.now.next args.fill.count args.key pre.count_lt_rows_max pre.ready
-          _ c.put_row.ensures.rows_after c.put_row.ensures.owner_bound).chained;
+          _ refl).chained;
     }
 
 pub returns-then-len-eq0 : goal.returns-then-len-eq0
 returns-then-len-eq0 c =
     let args = c.args in
     let pre = c.requires in
-    let put = c.put_row in
     let seek = c.seek_before-r in
     let before = c.len_before-len in
     let agree = put_agree args.table.now.rows args.table.now.heads args.table.now.next args.fill.count args.key pre.count_lt_rows_max
-    pre.ready _ put.ensures.rows_after put.ensures.owner_bound in record {
+    pre.ready _ refl in record {
       ready_2 = put_ready args.table.now.rows args.table.now.heads args.table.now.next args.fill.count args.key pre.count_lt_rows_max pre.ready
-          _ put.ensures.rows_after put.ensures.owner_bound;
+          _ refl;
       chains_kept = (refl, refl);
       agree = agree;
       spots = λ i t b hs ag x.
           spot_none args.key i t b _ args.table.now.heads args.table.now.next args.fill hs x
           (λ j l. ag j l ∙ agree j l)
           (put_new args.table.now.rows args.table.now.heads args.table.now.next args.fill.count args.key pre.count_lt_rows_max
-          pre.ready _ put.ensures.rows_after put.ensures.owner_bound)
+          pre.ready _ refl)
           seek.result seek.ensures.sought seek.ensures.upper_bound before.result before.ensures c.if-len-eq0.true;
     }
-
-pub overflow_sub-r : goal.overflow_sub-r
-overflow_sub-r c =
-    let seek-before = c.seek_before-r in
-    omega (
-      arith,
-      some-before _ seek-before.result c.len_before-len.result c.len_before-len.ensures c.if-len-eq0.false,
-    )
-
-pub start_at-start-requires : goal.start_at-start-requires
-start_at-start-requires c =
-    let pre = c.requires in
-    let seek-before = c.seek_before-r in
-    omega (
-      arith,
-      some-before _ seek-before.result c.len_before-len.result c.len_before-len.ensures c.if-len-eq0.false,
-      seek-before.ensures.upper_bound,
-      pre.count_lt_rows_max,
-    )
 
 pub returns : goal.returns
 returns c =
     let args = c.args in
     let pre = c.requires in
-    let put = c.put_row in
     let seek = c.seek_before-r in
     let before = c.len_before-len in
     let agree = put_agree args.table.now.rows args.table.now.heads args.table.now.next args.fill.count args.key pre.count_lt_rows_max
-    pre.ready _ put.ensures.rows_after put.ensures.owner_bound in record {
+    pre.ready _ refl in record {
       ready_2 = put_ready args.table.now.rows args.table.now.heads args.table.now.next args.fill.count args.key pre.count_lt_rows_max pre.ready
-          _ put.ensures.rows_after put.ensures.owner_bound;
+          _ refl;
       chains_kept = (refl, refl);
       agree = agree;
       spots = λ i t b hs ag x.
           spot_line args.key i t b _ args.table.now.heads args.table.now.next args.fill hs x
           (λ j l. ag j l ∙ agree j l)
           (put_new args.table.now.rows args.table.now.heads args.table.now.next args.fill.count args.key pre.count_lt_rows_max
-          pre.ready _ put.ensures.rows_after put.ensures.owner_bound)
+          pre.ready _ refl)
           seek.result seek.ensures.sought seek.ensures.upper_bound before.result before.ensures c.if-len-eq0.false
-          c.start_at-start.result c.start_at-start.ensures;
+          _ refl;
     }

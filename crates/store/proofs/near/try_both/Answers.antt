@@ -2,6 +2,7 @@
 use mathlib.Core.List.{List, []}
 use mathlib.Core.Path.{◌≡◌, refl, sym, subst}
 use Prim.Native.Nat.{ℕ}
+use Rattle.store.specs.declared.rows.Row.{Row}
 use Rattle.store.specs.declared.table.Fill.{Fill}
 use Rattle.store.specs.Held.{Held}
 use Rattle.store.specs.Table.{InRows}
@@ -29,7 +30,7 @@ part_of-requires-2 c =
     }
 
 -- the chains are those from before
-still : (i t a heads next heads' next' : List ℕ) (f : Fill) (hs : List Held) → heads' ≡ heads → next' ≡ next
+still : (i t : List ℕ) (a : List Row) (heads next heads' next' : List ℕ) (f : Fill) (hs : List Held) → heads' ≡ heads → next' ≡ next
     → InRows i t [] a heads next f.count f hs → InRows i t [] a heads' next' f.count f hs
 still i t a heads next heads' next' f hs p q x =
     subst (λ (v : List ℕ). InRows i t [] a v next' f.count f hs) (sym p)

@@ -1,34 +1,15 @@
-use mathlib.Core.Path.{sym, ◌∙◌}
 use native.Mathlib.Omega.{arith}
-use Rattle.store.proofs.ClosingLaws.{close_first, close_skip, close_most, close_within}
+use Rattle.store.proofs.ClosingLaws.{close_skip, close_within}
 use Rattle.store.proofs.ClosingLaws.{close_later, close_ends, close_off, close_end}
-use Rattle.store.proofs.ClosingLaws.{part_long, close_long}
-use Rattle.store.proofs.ReadLaws.{read_fits, read_size, read_text, read_source, read_ahead, read_turn}
+use Rattle.store.proofs.ClosingLaws.{close_long}
+use Rattle.store.proofs.ClosingLaws.{close_fits, close_turn}
+use Rattle.store.proofs.SettleLaws.{fits_text, fits_source, stands_ahead}
 use Rattle.store.proofs.settle.close_up.Goals as goal
-
-pub loop-k-init : goal.loop-k-init
-loop-k-init c =
-    let args = c.args in
-    let pre = c.requires in
-    close_first args.part.now args.text.now args.lines.now _ args.kept args.was args.count (pre)
-
-pub len_at-len-requires : goal.len_at-len-requires
-len_at-len-requires c = close_most c.loop-k.invariant (omega arith)
 
 pub loop-k-preserved-then-len-eq0 : goal.loop-k-preserved-then-len-eq0
 loop-k-preserved-then-len-eq0 c =
     let loop = c.loop-k in
-    close_skip loop.invariant (omega arith) (sym c.len_at-len.ensures ∙ c.if-len-eq0.true)
-
-pub key_at-key-requires : goal.key_at-key-requires
-key_at-key-requires c =
-    let loop = c.loop-k in
-    close_most loop.invariant (omega arith)
-
-pub start_at-start-requires : goal.start_at-start-requires
-start_at-start-requires c =
-    let loop = c.loop-k in
-    close_most loop.invariant (omega arith)
+    close_skip loop.invariant (omega arith) c.if-len-eq0.true
 
 pub slice_bounds-put_record-count : goal.slice_bounds-put_record-count
 slice_bounds-put_record-count c =
@@ -41,54 +22,21 @@ slice_bounds-put_record-start c =
     omega (arith, close_within loop.invariant)
 
 pub put_record-requires : goal.put_record-requires
-put_record-requires c =
-    let loop = c.loop-k in
-    let len-at = c.len_at-len in
-    let if1 = c.if-len-eq0 in
-    read_fits loop.invariant (omega arith) c.key_at-key.result len-at.result c.key_at-key.ensures
-    len-at.ensures if1.false
+put_record-requires c = close_fits c.loop-k.invariant (omega arith) c.if-len-eq0.false
 
 pub put_text-requires : goal.put_text-requires
 put_text-requires c =
-    let loop = c.loop-k in
-    let len-at = c.len_at-len in
-    let if1 = c.if-len-eq0 in
-    let key-at = c.key_at-key in
-    let start-at = c.start_at-start in record {
-      len_in_bounds = read_text loop.invariant (omega arith) key-at.result len-at.result key-at.ensures
-          len-at.ensures if1.false;
-      len_in_bounds_2 = read_source loop.invariant (omega arith) key-at.result len-at.result key-at.ensures
-          len-at.ensures if1.false start-at.result start-at.ensures;
-      off_le_start = read_ahead loop.invariant (omega arith) key-at.result len-at.result key-at.ensures
-          len-at.ensures if1.false start-at.result start-at.ensures;
+    let run = c.loop-k.invariant.run in
+    let some = c.if-len-eq0.false in record {
+      len_in_bounds = fits_text run (omega arith) some;
+      len_in_bounds_2 = fits_source run (omega arith) some;
+      off_le_start = stands_ahead run (omega arith) some;
     }
-
-pub overflow_add-at : goal.overflow_add-at
-overflow_add-at c =
-    let loop = c.loop-k in
-    let len-at = c.len_at-len in
-    let if1 = c.if-len-eq0 in
-    let key-at = c.key_at-key in
-    omega (
-      arith,
-      part_long loop.invariant,
-      read_size loop.invariant (omega arith) key-at.result len-at.result key-at.ensures
-          len-at.ensures if1.false _ c.record_size-at.ensures,
-    )
 
 pub loop-k-preserved : goal.loop-k-preserved
 loop-k-preserved c =
-    let loop = c.loop-k in
-    let loop-test = c.loop-k-test in
-    let len-at = c.len_at-len in
-    let if1 = c.if-len-eq0 in
-    let key-at = c.key_at-key in
-    let start-at = c.start_at-start in
-    let put_record = c.put_record in
-    let put-text = c.put_text in
-    read_turn loop.invariant loop-test.true key-at.result len-at.result key-at.ensures
-    len-at.ensures if1.false start-at.result
-    start-at.ensures _ c.record_size-at.ensures _ _ put_record.ensures put-text.ensures
+    close_turn c.loop-k.invariant c.loop-k-test.true c.if-len-eq0.false _ c.record_size-at.ensures _ _
+    c.put_record.ensures c.put_text.ensures
 
 pub overflow_sub-was : goal.overflow_sub-was
 overflow_sub-was c =

@@ -138,7 +138,7 @@ loop-head-preserved c =
     survey_turn args.index.now args.text.now loop.at loop.table.rows loop.table.heads loop.table.next loop.n loop.used loop.verdict loop.invariant whole-head.result
     (whole-head.ensures ∙ ap head_at (tail_part loop.at args.index.now))
     (whole_size _ (stands.ensures.0 if1.true) _ whole-head.ensures) head-fits.result head-fits.ensures
-    if2.false _ put.ensures.rows_after.0 put.ensures.rows_after.1 _ _ put.ensures.chained_2 put.result put.ensures.sought.0
+    if2.false _ put.ensures.rows_after _ _ put.ensures.chained_2 put.result put.ensures.sought.0
     told.result told.ensures
 
 pub zero_behind-requires : goal.zero_behind-requires

@@ -19,7 +19,7 @@ overflow_sub-used c =
     had_less pre.fileable.0 args.dues args.index.now args.text.now pre.fileable.1 _ args.table.now.heads
     args.table.now.next pre.fileable.2.0
     args.fill args.key args.start args.len pre.fileable.2.1.0 pre.fileable.2.1.1 pre.count_lt_rows_max
-    put.ensures.rows_after.1 _ put.ensures.rows_after.0
+    _ put.ensures.rows_after
     put.result put.ensures.sought.0 (put.ensures.sought.1 (omega arith)) had.result had.ensures
 
 pub overflow_add-used : goal.overflow_add-used
@@ -47,7 +47,7 @@ returns-then-index-end c =
     let ends = c.end_with-end in
     λ g s old hs w.
     files_index g args.dues args.index.now args.text.now s _ args.table.now.heads args.table.now.next old
-    args.fill args.key args.start args.len hs w pre.count_lt_rows_max put.ensures.rows_after.1 _ put.ensures.rows_after.0
+    args.fill args.key args.start args.len hs w pre.count_lt_rows_max _ put.ensures.rows_after
     put.result put.ensures.sought.0 (put.ensures.sought.1 (omega arith)) had.result had.ensures
     ends.result ends.ensures _ _ c.if-index-end.true
 
@@ -65,7 +65,7 @@ claimed-requires c =
     dues_less pre.fileable.0 args.dues args.index.now args.text.now pre.fileable.1 _ args.table.now.heads
     args.table.now.next pre.fileable.2.0
     args.fill args.key args.start args.len pre.fileable.2.1.0 pre.fileable.2.1.1 pre.count_lt_rows_max
-    put.ensures.rows_after.1 _ put.ensures.rows_after.0
+    _ put.ensures.rows_after
     put.result put.ensures.sought.0 (put.ensures.sought.1 (omega arith)) had.result had.ensures in
     let most : args.fill.used - had.result + args.len ≤ 131070
     = omega (
@@ -91,7 +91,7 @@ returns-then-text-claimed c =
     let all = c.claimed in
     λ g s old hs w.
     files_text g args.dues args.index.now args.text.now s _ args.table.now.heads args.table.now.next old
-    args.fill args.key args.start args.len hs w pre.count_lt_rows_max put.ensures.rows_after.1 _ put.ensures.rows_after.0
+    args.fill args.key args.start args.len hs w pre.count_lt_rows_max _ put.ensures.rows_after
     put.result put.ensures.sought.0 (put.ensures.sought.1 (omega arith)) had.result had.ensures
     ends.result ends.ensures _ _ (omega (arith, c.if-index-end.false)) all.result
     all.ensures
@@ -110,7 +110,7 @@ returns c =
     let all = c.claimed in
     λ g s old hs w.
     files_fit g args.dues args.index.now args.text.now s _ args.table.now.heads args.table.now.next old
-    args.fill args.key args.start args.len hs w pre.count_lt_rows_max put.ensures.rows_after.1 _ put.ensures.rows_after.0
+    args.fill args.key args.start args.len hs w pre.count_lt_rows_max _ put.ensures.rows_after
     put.result put.ensures.sought.0 (put.ensures.sought.1 (omega arith)) had.result had.ensures
     ends.result ends.ensures _ _ (omega (arith, c.if-index-end.false)) all.result all.ensures
     (omega (arith, c.if-text-claimed.false)) put.ensures.chained_2 _ c.strike_before.ensures

@@ -1,8 +1,7 @@
-use mathlib.Core.List.{List}
-use mathlib.Core.Path.{sym, ap, ◌∙◌}
-use Prim.Native.Nat.{ℕ}
+use mathlib.Core.Path.{sym, ap}
 use native.Mathlib.Omega.{arith}
-use Rattle.store.specs.Rows.{Row, key_in}
+use Rattle.store.specs.declared.rows.Row.{Row}
+use Rattle.store.specs.Rows.{key_in}
 use Rattle.store.proofs.TableLaws.{chained_agree}
 use Rattle.store.proofs.WriteLaws.{row_other}
 use Rattle.store.proofs.chains.Table.add_row.Goals as goal
@@ -13,16 +12,7 @@ link-requires c =
     let pre = c.requires in record {
       k_lt_rows_max = pre.n_lt_rows_max;
       chained = chained_agree (key_in args.self.now.rows) _ args.n
-          (λ k l. sym (ap (λ (v : List ℕ). key_in v k) c.put_row.ensures.rows_after
-          ∙ ap (λ (r : Row). r.key) (row_other args.self.now.rows args.n args.key args.start args.len k
+          (λ k l. sym (ap (λ (r : Row). r.key) (row_other args.self.now.rows args.n args.key args.start args.len k
           (λ e. omega arith))))
           args.self.now.heads args.self.now.next pre.chained;
-    }
-
-pub returns : goal.returns
-returns c =
-    record {
-      rows_after = (c.link.ensures.rows_kept ∙ c.put_row.ensures.rows_after, c.put_row.ensures.owner_bound);
-      sought = (c.link.ensures.sought, c.link.ensures.upper_bound);
-      chained_2 = c.link.ensures.chained_2;
     }

@@ -1,9 +1,8 @@
 -- The chain's head is the last number of its bucket; number k takes its place.
-use mathlib.Core.Path.{refl, ap, ◌∙◌}
+use mathlib.Core.Path.{refl}
 use Prim.Native.Nat.{ℕ, ◌+◌}
 use native.Mathlib.Omega.{arith}
 use lib.ListN.{get_or}
-use Rattle.store.specs.Keys.{bucket}
 use Rattle.store.specs.Rows.{key_in}
 use Rattle.store.proofs.ChainLaws.{here, sought, seeks_from, chained_turn}
 use Rattle.store.proofs.chains.Table.link.Goals as goal
@@ -12,11 +11,10 @@ pub first_step-from-requires : goal.first_step-from-requires
 first_step-from-requires c =
     let args = c.args in
     let pre = c.requires in
-    let key-at = c.key_at-key in
     let bucket-of = c.bucket_of-h in
     let number = c.from in
     let head : ℕ = get_or args.self.now.heads bucket-of.result 0 in
-    let bucket-is = bucket-of.ensures.0 ∙ ap bucket key-at.ensures in
+    let bucket-is = bucket-of.ensures.0 in
     let last = here (key_in args.self.now.rows) args.self.now.heads args.self.now.next args.k
     bucket-of.result number.result pre.chained bucket-is bucket-of.ensures.1
     number.ensures pre.k_lt_rows_max in
@@ -32,11 +30,10 @@ pub seek-r-requires : goal.seek-r-requires
 seek-r-requires c =
     let args = c.args in
     let pre = c.requires in
-    let key-at = c.key_at-key in
     let bucket-of = c.bucket_of-h in
     let number = c.from in
     let head : ℕ = get_or args.self.now.heads bucket-of.result 0 in
-    let bucket-is = bucket-of.ensures.0 ∙ ap bucket key-at.ensures in
+    let bucket-is = bucket-of.ensures.0 in
     let last = here (key_in args.self.now.rows) args.self.now.heads args.self.now.next args.k
     bucket-of.result number.result pre.chained bucket-is bucket-of.ensures.1
     number.ensures pre.k_lt_rows_max in
@@ -52,10 +49,9 @@ pub returns : goal.returns
 returns c =
     let args = c.args in
     let pre = c.requires in
-    let key-at = c.key_at-key in
     let bucket-of = c.bucket_of-h in
     let number = c.from in
-    let bucket-is = bucket-of.ensures.0 ∙ ap bucket key-at.ensures in
+    let bucket-is = bucket-of.ensures.0 in
     let last = here (key_in args.self.now.rows) args.self.now.heads args.self.now.next args.k
     bucket-of.result number.result pre.chained bucket-is bucket-of.ensures.1
     number.ensures pre.k_lt_rows_max in

@@ -1,7 +1,5 @@
 -- The head of the chain is the last number of its bucket.
-use mathlib.Core.Path.{ap, ◌∙◌}
 use native.Mathlib.Omega.{arith}
-use Rattle.store.specs.Keys.{bucket}
 use Rattle.store.specs.Rows.{key_in}
 use Rattle.store.proofs.ChainLaws.{here, sought}
 use Rattle.store.proofs.chains.Table.seek_before.Goals as goal
@@ -10,10 +8,9 @@ pub seek-requires : goal.seek-requires
 seek-requires c =
     let args = c.args in
     let pre = c.requires in
-    let key-at = c.key_at-key in
     let bucket-of = c.bucket_of-h in
     let number = c.from in
-    let bucket-is = bucket-of.ensures.0 ∙ ap bucket key-at.ensures in
+    let bucket-is = bucket-of.ensures.0 in
     let last = here (key_in args.self.now.rows) args.self.now.heads args.self.now.next args.k
     bucket-of.result number.result pre.chained bucket-is bucket-of.ensures.1
     number.ensures pre.k_lt_rows_max in
@@ -27,10 +24,9 @@ pub returns : goal.returns
 returns c =
     let args = c.args in
     let pre = c.requires in
-    let key-at = c.key_at-key in
     let bucket-of = c.bucket_of-h in
     let number = c.from in
-    let bucket-is = bucket-of.ensures.0 ∙ ap bucket key-at.ensures in
+    let bucket-is = bucket-of.ensures.0 in
     let within = (here (key_in args.self.now.rows) args.self.now.heads args.self.now.next args.k
     bucket-of.result number.result pre.chained bucket-is bucket-of.ensures.1
     number.ensures pre.k_lt_rows_max).within in record {
