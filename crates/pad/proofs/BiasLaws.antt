@@ -1,7 +1,7 @@
 -- A value counted from the least one, and back. Assumes nothing.
 use Rattle.std.specs.Prelude.{Some, None, Option}
 use Prim.Native.Nat.{ℕ, zero, suc, ◌+◌, ◌-◌, ◌<◌, ◌≤◌}
-use mathlib.Core.Path.{◌≡◌, refl, ap, subst}
+use mathlib.Core.Path.{◌≡◌, refl, ap, subst, ◌∙◌}
 use native.Mathlib.Omega.{arith}
 use mathlib.Core.Logic.{◌⊎◌, inl, inr, ⊎_elim}
 use mathlib.Core.Bool.{Bool, true, false}
@@ -9,7 +9,9 @@ use lib.Dec.{ltb, eqb}
 use lib.IntN.{ℤ, pos, negsuc, nat_abs, ◌+ℤ◌}
 use borrow.Author.Tests.{lt-ltb, le-ltb, eqb-true, eqb-false, ltb-true, ltb-false}
 use mir.Syntax.{w16}
-use mir.Val.{SFits}
+use mir.Val.{SFits, to_z, of_z}
+use mir.ValLaws.{to_z-of_z}
+use lib.Signed.{mag}
 use Rattle.pad.specs.Values.{part_of}
 use Rattle.pad.specs.Inner.{shifted, unshifted, share_of, Proper}
 use Rattle.line.specs.declared.parser.AxisRange.{AxisRange}
@@ -26,6 +28,11 @@ zero_or_more : (k : ℕ) → (k ≡ 0) ⊎ (0 < k)
 zero_or_more zero = inl refl
 zero_or_more (suc k) = inr (omega arith)
 
+-- ---- a value of 16 bits that a call has answered
+pub answered_value : (v z : ℤ) → mag v < 32768 → v ≡ z → to_z w16 (of_z w16 v) ≡ z
+answered_value v z h e = to_z-of_z w16 v (record { sfits = h }) ∙ e
+
+-- ---- shifted values
 pub shifted_small : (v : ℤ) → SFits w16 v → shifted v < 65536
 shifted_small (pos k) f = let h : k < 32768 = f.sfits in omega arith
 shifted_small (negsuc k) f = omega arith

@@ -1,5 +1,5 @@
 -- One event after the other. Assumes nothing.
-use Rattle.std.proofs.Common.{get_or, arith, rules, ◌∙◌}
+use Rattle.std.proofs.Common.{get_or, arith, rules}
 use lib.ListN.{length-take}
 use mir.Syntax.{w16}
 use mir.Val.{SFits}
@@ -9,6 +9,7 @@ use Rattle.pad.specs.States.{unused_event}
 use Rattle.pad.specs.PadGuarantee.{told_events}
 use Rattle.pad.proofs.TwoLaws.{joined_is, refining_passed, refining_taken, refining_all}
 use Rattle.pad.proofs.ListLaws.{events_many}
+use Rattle.pad.proofs.BiasLaws.{answered_value}
 use Rattle.pad.proofs.two.joined_events.Goals as goal
 use Rattle.pad.proofs.two.joined_events.Goals.{in-Some, in_default}
 
@@ -28,7 +29,7 @@ loop-e-preserved c =
     let i = c.loop-e.e-index in
     let e : Event = get_or es i unused_event in
     let b = c.value_of-before in
-    let eb = to_z-of_z w16 b.result (record { sfits = b.type_inv }) ∙ b.ensures in
+    let eb = answered_value b.result _ b.type_inv b.ensures in
     let f : SFits w16 e.value = search rules in
     let is = joined_is c.args.which c.args.own.now c.args.beside.now e c.joined_change.result _ _ c.joined_change.ensures eb
     (to_z-of_z w16 e.value f) in

@@ -6,6 +6,7 @@ use lib.IntN.{ℤ}
 use mir.Syntax.{w16}
 use mir.ValLaws.{to_z-of_z}
 use Rattle.pad.specs.Values.{raw_value, axis_value, part_of}
+use Rattle.pad.proofs.BiasLaws.{answered_value}
 use Rattle.pad.proofs.value.raw_value.Goals as goal
 
 pub returns-in-ButtonReleased : goal.returns-in-ButtonReleased
@@ -16,7 +17,7 @@ pub returns-in-ButtonPressed : goal.returns-in-ButtonPressed
 unfolding raw_value
 returns-in-ButtonPressed c =
     ap (λ (z : ℤ). Some z)
-    (to_z-of_z w16 c.pressed_value.result (record { sfits = c.pressed_value.type_inv }) ∙ c.pressed_value.ensures)
+    (answered_value c.pressed_value.result _ c.pressed_value.type_inv c.pressed_value.ensures)
     ∙ simp c.in-ButtonPressed.is
 
 pub returns-in-AxisValueChanged : goal.returns-in-AxisValueChanged

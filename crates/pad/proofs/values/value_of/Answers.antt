@@ -1,10 +1,9 @@
 -- By whether the element has a place. Assumes nothing.
 use Rattle.std.proofs.Common.{sym, ◌∙◌}
-use mir.Syntax.{w16}
-use mir.ValLaws.{to_z-of_z}
 use Rattle.pad.proofs.PlaceLaws.{has_place_lem}
 use Rattle.pad.proofs.EventLaws.{value_away, value_there}
 use Rattle.pad.proofs.StateLaws.{value_parts}
+use Rattle.pad.proofs.BiasLaws.{answered_value}
 use Rattle.pad.proofs.values.value_of.Goals as goal
 
 pub returns-then-place_of-eq-ELEMENTS : goal.returns-then-place_of-eq-ELEMENTS
@@ -15,6 +14,6 @@ pub returns : goal.returns
 returns c =
     let p = c.args.pad.now in
     let el = c.args.element in
-    to_z-of_z w16 c.element_value.result (record { sfits = c.element_value.type_inv }) ∙ c.element_value.ensures
+    answered_value c.element_value.result _ c.element_value.type_inv c.element_value.ensures
     ∙ value_parts p c.codes.result.now c.rows.result.now el c.codes.ensures c.rows.ensures.are
     ∙ value_there p el (has_place_lem el c.place_of.result c.place_of.ensures c.if-place_of-eq-ELEMENTS.false)
