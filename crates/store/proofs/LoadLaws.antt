@@ -55,7 +55,8 @@ pub record Loading (i : List ℕ) (at : ℕ) (a : List Row) (heads next : List �
   pub listing : Listing i at a n
   pub loaded : (hs : List Held) → Lies 0 hs i → Loaded i at a n used hs
 
-pub loads_extend : (i t : List ℕ) (a : List Row) (heads next : List ℕ) (f : Fill) → Loads i a heads next f → Extends i t f
+pub loads_extend : (i t : List ℕ) (a : List Row) (heads next : List ℕ) (f : Fill)
+    → Loads i a heads next f → Extends i t f
 loads_extend i t a heads next f w hs d = ((w t [] hs d).end, (w t [] hs d).used)
 
 pub load-first : (i : List ℕ) (a : List Row) (heads next : List ℕ) → length i ≤ index_max → Long a

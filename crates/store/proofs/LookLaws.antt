@@ -41,8 +41,8 @@ look_unsound k i t e = go (content i t) e
     go (some c) q = let z : ◌≡◌ {A = ℕ} 0 1 = cc in absurd (omega arith)
 
 -- the lines of a sound store are in their chains
-pub look_ready : (i t : List ℕ) (hs : List Held) → decode i t ≡ some hs → (a : List Row) (heads next : List ℕ) (f : Fill)
-    → Loads i a heads next f → Ready a heads next f.count
+pub look_ready : (i t : List ℕ) (hs : List Held) → decode i t ≡ some hs
+    → (a : List Row) (heads next : List ℕ) (f : Fill) → Loads i a heads next f → Ready a heads next f.count
 look_ready i t hs e a heads next f loads =
     let x = loads t [] hs e in
     record { long = x.tabled.long; chained = x.chained }
@@ -187,8 +187,8 @@ module _ (k : Key) (i t : List ℕ) (a b : List Row) (heads next : List ℕ) (f 
 
 -- ---- a key written down under number n
 
-module _ (a : List Row) (heads next : List ℕ) (n : ℕ) (k : Key) (l : n < rows_max) (p : Ready a heads next n) (b : List Row)
-    (eb : b ≡ row_put a n k 0 0) where
+module _ (a : List Row) (heads next : List ℕ) (n : ℕ) (k : Key) (l : n < rows_max) (p : Ready a heads next n)
+    (b : List Row) (eb : b ≡ row_put a n k 0 0) where
   pub put_agree : Agree a b n
   put_agree j m = sym (ap (λ (v : List Row). row_in v j) eb ∙ row_other a n k 0 0 j (λ z. omega arith))
 

@@ -79,7 +79,8 @@ module _ (i t g : List ℕ) (p : ℕ) (f : Fronts i g p) (b : Bytes i) where
 
 -- ---- what `take_stock` says of a sound store
 
-module _ (i t g : List ℕ) (a : List Row) (heads next : List ℕ) (r : Stock) (w : Stocks i t g a heads next r) (b : Bytes i)
+module _ (i t g : List ℕ) (a : List Row) (heads next : List ℕ) (r : Stock)
+    (w : Stocks i t g a heads next r) (b : Bytes i)
   where
     pub stock_sound : known (content i t) ≡ true
     stock_sound = w.is

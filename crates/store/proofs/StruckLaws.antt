@@ -46,8 +46,8 @@ unfolding strike
 strike_gone u h true e = refl
 strike_gone u h false e = ap (λ (c : Bool). pick c [] (h ∷ [])) e
 
-module _ {i t s : List ℕ} {a : List Row} {heads next : List ℕ} {old : ℕ} {f : Fill} {hs : List Held} (x : InRows i t s a heads next old f hs)
-    (u : Key) (start len : ℕ) (cl : f.count < rows_max)
+module _ {i t s : List ℕ} {a : List Row} {heads next : List ℕ} {old : ℕ} {f : Fill} {hs : List Held}
+    (x : InRows i t s a heads next old f hs) (u : Key) (start len : ℕ) (cl : f.count < rows_max)
   where
     abbrev a' : List Row
     a' = row_put a f.count u start len

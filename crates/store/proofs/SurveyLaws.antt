@@ -38,7 +38,8 @@ use Rattle.store.proofs.ShareLaws.{content_parts}
 use Rattle.store.proofs.WriteLaws.{row_other}
 
 -- n records lie before `at`, and their lines before `used`
-pub record Surveying (i t : List ℕ) (at : ℕ) (a : List Row) (heads next : List ℕ) (n used : ℕ) (v : Verdict) : Type 0 where
+pub record Surveying (i t : List ℕ) (at : ℕ) (a : List Row) (heads next : List ℕ) (n used : ℕ) (v : Verdict)
+    : Type 0 where
   pub walks : Walking i t (known (walk (suc (length i)) 0 i t)) at used
   pub loading : Loading i at a heads next n used
   pub says : Says (key_in a) n v
@@ -138,7 +139,8 @@ module _ (i t : List ℕ) where
     pub stock_part : known (decode q t) ≡ known (content i t)
     stock_part = ap (λ (r : List ℕ). known (decode r t)) (e ∙ f.rest) ∙ sym (known_rest l)
 
-    pub stock_loads : (a : List Row) (heads next : List ℕ) (n : Fill) → Loads q a heads next n → Loads (drop p i) a heads next n
+    pub stock_loads : (a : List Row) (heads next : List ℕ) (n : Fill) → Loads q a heads next n
+        → Loads (drop p i) a heads next n
     stock_loads a heads next n x = subst (λ (r : List ℕ). Loads r a heads next n) e x
 
 -- what a sound store holds
@@ -163,16 +165,19 @@ sound_holds i t g p f e = go (content i t) refl e
         }
 
 -- a walk over whole records tells what it saw
-pub survey_some : (i t : List ℕ) (a : List Row) (heads next : List ℕ) (o : Optional Surveyed) → OnceSurveyed i t a heads next o
+pub survey_some : (i t : List ℕ) (a : List Row) (heads next : List ℕ) (o : Optional Surveyed)
+    → OnceSurveyed i t a heads next o
     → known (walk (suc (length i)) 0 i t) ≡ true → IsSome o
 survey_some i t a heads next None w e = absurd (true-false (sym e ∙ w))
 survey_some i t a heads next (Some r) w e = refl
 
-pub survey_of : (i t : List ℕ) (a : List Row) (heads next : List ℕ) (o : Optional Surveyed) → OnceSurveyed i t a heads next o
+pub survey_of : (i t : List ℕ) (a : List Row) (heads next : List ℕ) (o : Optional Surveyed)
+    → OnceSurveyed i t a heads next o
     → (r : Surveyed) → o ≡ Some r → Surveys i t a heads next r
 survey_of i t a heads next o w r e = subst (OnceSurveyed i t a heads next) e w
 
-pub stocked_is : (i t g : List ℕ) (a : List Row) (heads next : List ℕ) (o : Optional Stock) → OnceStocked i t g a heads next o
+pub stocked_is : (i t g : List ℕ) (a : List Row) (heads next : List ℕ) (o : Optional Stock)
+    → OnceStocked i t g a heads next o
     → is_some o ≡ known (content i t)
 stocked_is i t g a heads next None w = sym w
 stocked_is i t g a heads next (Some r) w = sym w.is

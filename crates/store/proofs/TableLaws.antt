@@ -119,7 +119,8 @@ living_most S S' (suc n) g =
 abbrev given_by : List ℕ → Row → List Held
 given_by src r = pick (eqb r.len 0) [] (record { key = r.key; line = take r.len (drop r.start src) } ∷ [])
 
-pub gives_same : (t s : List ℕ) (a b : List Row) (old k : ℕ) → row_in b k ≡ row_in a k → line_at t s b old k ≡ line_at t s a old k
+pub gives_same : (t s : List ℕ) (a b : List Row) (old k : ℕ) → row_in b k ≡ row_in a k
+    → line_at t s b old k ≡ line_at t s a old k
 unfolding line_at
 gives_same t s a b old k e = ap (λ (r : Row). given_by (source_of t s old k) r) e
 

@@ -18,7 +18,8 @@ module _ (w : List Row) (k : ℕ) (u : Key) (start len : ℕ) where
   pub row_other : (j : ℕ) → (j ≡ k → ⊥) → row_in (row_put w k u start len) j ≡ row_in w j
   row_other j n = get_or-set_other w k j _ unused n
 
-  pub row_same : Long w → k < rows_max → row_in (row_put w k u start len) k ≡ record { key = u; start = start; len = len }
+  pub row_same : Long w → k < rows_max
+      → row_in (row_put w k u start len) k ≡ record { key = u; start = start; len = len }
   row_same l m = get_or-set_same w k _ unused (omega (arith, l))
 
 -- its length alone

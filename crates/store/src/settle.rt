@@ -42,13 +42,12 @@ fn kept_rows(rows: &[Row; ROWS], old: usize) -> Kept
     let mut at = 0;
     let mut off = 0;
     for k in 0..old {
-        let len = rows[k].len;
-        if len == 0 {
+        let row = rows[k];
+        if row.len == 0 {
             return Kept { rows: k, at, off };
         }
-        let key = rows[k].key;
-        at += record_size(key);
-        off += len;
+        at += record_size(row.key);
+        off += row.len;
     }
     Kept { rows: old, at, off }
 }
@@ -73,16 +72,14 @@ fn close_up(
     let mut at = 0;
     let mut off = kept.off;
     for k in kept.rows..count {
-        let len = rows[k].len;
-        if len == 0 {
+        let row = rows[k];
+        if row.len == 0 {
             continue;
         }
-        let key = rows[k].key;
-        let start = rows[k].start;
-        put_record(&mut part[at..], key, off, len);
-        put_text(text, lines, off, start, len, k < was.count);
-        at += record_size(key);
-        off += len;
+        put_record(&mut part[at..], row.key, off, row.len);
+        put_text(text, lines, off, row.start, row.len, k < was.count);
+        at += record_size(row.key);
+        off += row.len;
     }
     zero_between(part, at, was.end - kept.at);
     zero_between(text, off, was.used);

@@ -30,8 +30,8 @@ part_of-requires-2 c =
     }
 
 -- the chains are those from before
-still : (i t : List ℕ) (a : List Row) (heads next heads' next' : List ℕ) (f : Fill) (hs : List Held) → heads' ≡ heads → next' ≡ next
-    → InRows i t [] a heads next f.count f hs → InRows i t [] a heads' next' f.count f hs
+still : (i t : List ℕ) (a : List Row) (heads next heads' next' : List ℕ) (f : Fill) (hs : List Held)
+    → heads' ≡ heads → next' ≡ next → InRows i t [] a heads next f.count f hs → InRows i t [] a heads' next' f.count f hs
 still i t a heads next heads' next' f hs p q x =
     subst (λ (v : List ℕ). InRows i t [] a v next' f.count f hs) (sym p)
     (subst (λ (v : List ℕ). InRows i t [] a heads v f.count f hs) (sym q) x)

@@ -6,10 +6,10 @@ use Rattle.store.proofs.ClosingLaws.{close_fits, close_turn}
 use Rattle.store.proofs.SettleLaws.{fits_text, fits_source, stands_ahead}
 use Rattle.store.proofs.settle.close_up.Goals as goal
 
-pub loop-k-preserved-then-len-eq0 : goal.loop-k-preserved-then-len-eq0
-loop-k-preserved-then-len-eq0 c =
+pub loop-k-preserved-then-row-eq0 : goal.loop-k-preserved-then-row-eq0
+loop-k-preserved-then-row-eq0 c =
     let loop = c.loop-k in
-    close_skip loop.invariant (omega arith) c.if-len-eq0.true
+    close_skip loop.invariant (omega arith) c.if-row-eq0.true
 
 pub slice_bounds-put_record-count : goal.slice_bounds-put_record-count
 slice_bounds-put_record-count c =
@@ -22,12 +22,12 @@ slice_bounds-put_record-start c =
     omega (arith, close_within loop.invariant)
 
 pub put_record-requires : goal.put_record-requires
-put_record-requires c = close_fits c.loop-k.invariant (omega arith) c.if-len-eq0.false
+put_record-requires c = close_fits c.loop-k.invariant (omega arith) c.if-row-eq0.false
 
 pub put_text-requires : goal.put_text-requires
 put_text-requires c =
     let run = c.loop-k.invariant.run in
-    let some = c.if-len-eq0.false in record {
+    let some = c.if-row-eq0.false in record {
       len_in_bounds = fits_text run (omega arith) some;
       len_in_bounds_2 = fits_source run (omega arith) some;
       off_le_start = stands_ahead run (omega arith) some;
@@ -35,7 +35,7 @@ put_text-requires c =
 
 pub loop-k-preserved : goal.loop-k-preserved
 loop-k-preserved c =
-    close_turn c.loop-k.invariant c.loop-k-test.true c.if-len-eq0.false _ c.record_size-at.ensures _ _
+    close_turn c.loop-k.invariant c.loop-k-test.true c.if-row-eq0.false _ c.record_size-at.ensures _ _
     c.put_record.ensures c.put_text.ensures
 
 pub overflow_sub-was : goal.overflow_sub-was

@@ -12,19 +12,19 @@ pub overflow_add-at : goal.overflow_add-at
 overflow_add-at c =
     omega (
       arith,
-      (keep_fits _ _ _ _ _ c.loop-k.invariant (omega arith) c.if-len-eq0.false _ c.record_size-at.ensures).0,
+      (keep_fits _ _ _ _ _ c.loop-k.invariant (omega arith) c.if-row-eq0.false _ c.record_size-at.ensures).0,
     )
 
 pub overflow_add-off : goal.overflow_add-off
 overflow_add-off c =
     omega (
       arith,
-      (keep_fits _ _ _ _ _ c.loop-k.invariant (omega arith) c.if-len-eq0.false _ c.record_size-at.ensures).1,
+      (keep_fits _ _ _ _ _ c.loop-k.invariant (omega arith) c.if-row-eq0.false _ c.record_size-at.ensures).1,
     )
 
 pub loop-k-preserved : goal.loop-k-preserved
 loop-k-preserved c =
-    keep-turn _ _ _ _ _ c.loop-k.invariant (omega arith) c.if-len-eq0.false _ c.record_size-at.ensures
+    keep-turn _ _ _ _ _ c.loop-k.invariant (omega arith) c.if-row-eq0.false _ c.record_size-at.ensures
 
 pub returns : goal.returns
 returns c =
