@@ -2,16 +2,17 @@
 -- Assumes nothing.
 use Rattle.std.specs.Prelude.{Result, Ok, Err, ⊤}
 use mathlib.Core.Bool.{Bool, true, false}
-use mathlib.Core.List.{List, []}
+use mathlib.Core.List.{List}
 use mathlib.Core.Option.{Option, none, some}
 use mathlib.Core.Path.{◌≡◌, refl, sym, ap, ap₂, ◌∙◌, subst}
 use Prim.Native.Nat.{ℕ, ◌+◌, ◌-◌, ◌≤◌, ◌<◌}
 use native.Mathlib.Omega.{arith}
 use lib.Dec.{eqb, ltb}
-use lib.ListN.{length, get_or, set, drop, length-set, length-drop}
+use lib.ListN.{length, get_or, set, length-set, length-drop}
 use lib.Seq.{get_or-set_same, get_or-set_other, set_out}
 use borrow.Author.Tests.{ltb-true, ltb-false, eqb-true, eqb-false}
 use Rattle.text.specs.Bytes.{pick}
+use Rattle.store.specs.declared.soundness.Ledger.{Ledger}
 use Rattle.store.specs.declared.soundness.Stock.{Stock}
 use Rattle.store.specs.Book.{record_sizes, by_room, setting, over_text, over_index, book_share}
 use Rattle.store.specs.Claims.{Addable}
@@ -22,7 +23,7 @@ use Rattle.store.specs.Layout.{Bytes, Given, encode_index, encode_text}
 use Rattle.store.specs.Settings.{UsedBy, Weighs, Writes}
 use Rattle.store.specs.Shares.{owners, Content, use_of, claims, share_size, share_sizes, with_share}
 use Rattle.store.specs.Store.{Done, unchanged, holding, on_shares, store_share, told_of, store_told}
-use Rattle.store.specs.Table.{Stocks, InRows}
+use Rattle.store.specs.Table.{Stocks}
 use Rattle.store.proofs.BoolLaws.{true-false}
 use Rattle.store.proofs.ClaimLaws.{one_least}
 use Rattle.store.proofs.EncodesLaws.{content_encodes}
@@ -30,7 +31,7 @@ use Rattle.store.proofs.PartLaws.{ends}
 use Rattle.store.proofs.RoomLaws.{sizes_sum, index_not, text_not}
 use Rattle.store.proofs.SettingLaws.{larger_share, sizes-set}
 use Rattle.store.proofs.ShareLaws.{given_front}
-use Rattle.store.proofs.SurveyLaws.{Holds, sound_holds}
+use Rattle.store.proofs.SurveyLaws.{Holds, stock_holds, stock_rows}
 use Rattle.store.proofs.UseLaws.{tabled_use, tabled_addable}
 use Rattle.store.specs.declared.calls.StoreError.TheVariants as E
 use Rattle.store.specs.declared.table.Full.TheVariants as R
@@ -52,14 +53,12 @@ pub record Stocked (i t g a : List ℕ) (r : Stock) : Type 0 where
   pub index_most : length i ≤ index_max
   pub text_most : length t ≤ text_max
 
-pub stocked : (i t g a heads next : List ℕ) (r : Stock) → Bytes i → Stocks i t g a heads next r
-    → Stocked i t g a r
-stocked i t g a heads next r b s =
+pub stocked : (i t : List ℕ) (l : Ledger) (r : Stock) → Bytes i → Stocks i t l r → Stocked i t l.shares l.table.rows r
+stocked i t l r b s =
     let p = s.front in
-    let h : Holds i t g r.front = sound_holds i t g r.front p s.is in
-    let x : InRows (drop r.front i) t [] a heads next r.fill.count r.fill h.all.held
-    = s.loads.0 t [] h.all.held h.lines in
-    let at : r.front ≡ share_sizes g = ends i t g r.front p b in
+    let h : Holds i t l.shares r.front = stock_holds i t l r s in
+    let x = stock_rows i t l r s in
+    let at : r.front ≡ share_sizes l.shares = ends i t l.shares r.front p b in
     record {
       all = h.all;
       is = h.is;

@@ -1,8 +1,9 @@
 -- The loop of `survey`: it goes as `walk` does, writes the lines down, and tells whether a key stands twice.
 -- Assumes nothing.
-use Rattle.std.specs.Prelude.{Option as Optional, Some, None, is_some, IsSome}
+use Rattle.std.proofs.lemmas.Result.{err_from_is_err_and}
+use Rattle.std.specs.Prelude.{Option as Optional, Some, None, Result, Err, is_some, IsSome, ok_or, IsErrAnd}
 use mathlib.Core.Bool.{Bool, true, false, ◌&&◌}
-use mathlib.Core.List.{List}
+use mathlib.Core.List.{List, []}
 use mathlib.Core.Option.{Option, none, some}
 use mathlib.Core.Path.{◌≡◌, refl, sym, ap, ◌∙◌, subst}
 use Prim.Native.Nat.{ℕ, suc, ◌+◌, ◌-◌, ◌≤◌, ◌<◌}
@@ -16,6 +17,7 @@ use Rattle.store.specs.declared.records.Head.{Head}
 use Rattle.store.specs.declared.table.Fill.{Fill}
 use Rattle.store.specs.declared.soundness.Stock.{Stock}
 use Rattle.store.specs.declared.soundness.Surveyed.{Surveyed}
+use Rattle.store.specs.declared.soundness.Ledger.{Ledger}
 use Rattle.store.specs.Decode.{no_head, head_at, head_fits, walk, decode, zeroes, fronted, with_lines, content}
 use Rattle.store.specs.Held.{Held, index_max, text_max, record_size}
 use Rattle.store.specs.Layout.{Bytes}
@@ -24,7 +26,7 @@ use Rattle.store.specs.Shares.{Content}
 use Rattle.store.specs.Inner.{known}
 use Rattle.store.specs.Keys.{rows_max, Says, told_of, Chained, Sought}
 use Rattle.store.specs.Rows.{Row, key_in, row_put, Long}
-use Rattle.store.specs.Table.{Loads, Surveys, OnceSurveyed, OnceStocked}
+use Rattle.store.specs.Table.{InRows, Loads, Surveys, OnceSurveyed, Stocks, OnceStocked}
 use Rattle.store.proofs.BoolLaws.{true-false}
 use Rattle.store.proofs.ChainLaws.{says-turn, says_agree}
 use Rattle.store.proofs.DecodeLaws.{laid, lines_of_lem}
@@ -171,10 +173,29 @@ pub survey_of : (i t a heads next : List ℕ) (o : Optional Surveyed) → OnceSu
     → (r : Surveyed) → o ≡ Some r → Surveys i t a heads next r
 survey_of i t a heads next o w r e = subst (OnceSurveyed i t a heads next) e w
 
-pub stocked_is : (i t g a heads next : List ℕ) (o : Optional Stock) → OnceStocked i t g a heads next o
+pub stocked_is : (i t : List ℕ) (l : Ledger) (o : Optional Stock) → OnceStocked i t l o
     → is_some o ≡ known (content i t)
-stocked_is i t g a heads next None w = sym w
-stocked_is i t g a heads next (Some r) w = sym w.is
+stocked_is i t l None w = sym w
+stocked_is i t l (Some r) w = sym w.is
+
+-- what `?` hands on where none is told as the error x
+pub stock_refused : {A E : Type 0} (i t : List ℕ) (l : Ledger) (o : Optional Stock) → OnceStocked i t l o
+    → (x y : E) → Err y ≡ ok_or o x → (r : Result A E) → IsErrAnd r (λ e. e ≡ y)
+    → (r ≡ Err x) × (known (content i t) ≡ false)
+stock_refused i t l None w x y e r f =
+    let p = err_from_is_err_and r f in
+    let q : y ≡ x = cc in
+    (p.1 ∙ ap (λ z. Err z) (p.2 ∙ q), w)
+stock_refused i t l (Some s) w x y e r f = absurd cc
+
+-- what a sound store holds is written down
+module _ (i t : List ℕ) (l : Ledger) (s : Stock) (w : Stocks i t l s) where
+  pub stock_holds : Holds i t l.shares s.front
+  stock_holds = sound_holds i t l.shares s.front w.front w.is
+
+  pub stock_rows : InRows (drop s.front i) t [] l.table.rows l.table.heads l.table.next s.fill.count s.fill
+      stock_holds.all.held
+  stock_rows = w.loads.0 t [] stock_holds.all.held stock_holds.lines
 
 -- the records of a sound store are whole
 pub walk_of : (i t : List ℕ) → Bytes i → known (decode i t) ≡ true → known (walk (suc (length i)) 0 i t) ≡ true

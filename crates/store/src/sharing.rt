@@ -6,11 +6,10 @@ ghost use Rattle.store.specs.Settings.{ClaimsWith, Weighs, Weighed, Writable, Wr
 ghost use Rattle.store.specs.Store.{store_share, store_told};
 
 use crate::calls::StoreError;
-use crate::chains::Table;
 use crate::claims::{add_uses, claims_of};
 use crate::rows::CELLS;
 use crate::shares::{OWNERS, change_share, share_place, share_size};
-use crate::soundness::take_stock;
+use crate::soundness::Ledger;
 use crate::table::Full;
 
 // A party's share, and the bytes of its lines.
@@ -28,16 +27,12 @@ pub struct Unsound;
 pub fn share_of(index: &[u8], text: &[u8], owner: u8) -> Result<ShareUse, Unsound>
     ensures { result ≡ store_told index.now text.now owner }
 {
-    let mut table = Table::new();
-    let mut shares = [0u64; OWNERS];
-    let Some(stock) = take_stock(index, text, &mut shares, &mut table) else {
-        return Err(Unsound);
-    };
+    let mut ledger = Ledger::new();
+    let stock = ledger.take_stock(index, text).ok_or(Unsound)?;
     let mut uses = [0u64; OWNERS];
-    let fill = stock.fill;
-    add_uses(&table.rows, fill.count, &mut uses);
+    add_uses(&ledger.table.rows, stock.fill.count, &mut uses);
     let o = owner as usize;
-    let share = shares[o] as usize;
+    let share = ledger.shares[o] as usize;
     let used = uses[o] as usize;
     Ok(ShareUse { share, used })
 }
@@ -93,27 +88,24 @@ pub fn set_share(index: &mut [u8], text: &[u8], owner: u8, bytes: usize) -> Resu
     ensures { record { answer = result; index = index.new; text = text.now }
         ≡ store_share index.old text.now owner bytes }
 {
-    let mut table = Table::new();
-    let mut shares = [0u64; OWNERS];
-    let Some(stock) = take_stock(index, text, &mut shares, &mut table) else {
-        return Err(StoreError::Unsound);
-    };
+    let mut ledger = Ledger::new();
+    let stock = ledger.take_stock(index, text).ok_or(StoreError::Unsound)?;
     let fill = stock.fill;
     let o = owner as usize;
-    let had = shares[o] as usize;
+    let had = ledger.shares[o] as usize;
     let end = stock.front + fill.end + share_size(bytes) - share_size(had);
-    shares[o] = bytes as u64;
+    ledger.shares[o] = bytes as u64;
     match share_room(
-        &table.rows,
+        &ledger.table.rows,
         fill.count,
-        &shares,
+        &ledger.shares,
         bytes,
         text.len(),
         index.len(),
         end,
     ) {
         Ok(()) => {
-            write_share(index, &shares, owner, had, bytes);
+            write_share(index, &ledger.shares, owner, had, bytes);
             Ok(())
         }
         Err(Full::Text) => Err(StoreError::ShareTooLarge),

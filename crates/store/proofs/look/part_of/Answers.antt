@@ -8,9 +8,9 @@ pub seek_before-r-requires : goal.seek_before-r-requires
 seek_before-r-requires c =
     let args = c.args in
     let pre = c.requires in
-    let pre = pre in record {
-      k_lt_rows_max = pre.count_lt_rows_max;
-      chained = (put_ready args.table.now.rows args.table.now.heads args.table.now.next args.fill.count args.key pre.count_lt_rows_max pre.ready
+    record {
+      k_lt_rows_max = pre.few;
+      chained = (put_ready args.table.now.rows args.table.now.heads args.table.now.next args.fill.count args.key pre
           _ c.put_row.ensures.rows_after c.put_row.ensures.owner_bound).chained;
     }
 
@@ -21,17 +21,17 @@ returns-then-len-eq0 c =
     let put = c.put_row in
     let seek = c.seek_before-r in
     let before = c.len_before-len in
-    let agree = put_agree args.table.now.rows args.table.now.heads args.table.now.next args.fill.count args.key pre.count_lt_rows_max
-    pre.ready _ put.ensures.rows_after put.ensures.owner_bound in record {
-      ready_2 = put_ready args.table.now.rows args.table.now.heads args.table.now.next args.fill.count args.key pre.count_lt_rows_max pre.ready
+    let agree = put_agree args.table.now.rows args.table.now.heads args.table.now.next args.fill.count args.key pre
+    _ put.ensures.rows_after put.ensures.owner_bound in record {
+      ready = put_ready args.table.now.rows args.table.now.heads args.table.now.next args.fill.count args.key pre
           _ put.ensures.rows_after put.ensures.owner_bound;
       chains_kept = (refl, refl);
       agree = agree;
       spots = λ i t b hs ag x.
           spot_none args.key i t b _ args.table.now.heads args.table.now.next args.fill hs x
           (λ j l. ag j l ∙ agree j l)
-          (put_new args.table.now.rows args.table.now.heads args.table.now.next args.fill.count args.key pre.count_lt_rows_max
-          pre.ready _ put.ensures.rows_after put.ensures.owner_bound)
+          (put_new args.table.now.rows args.table.now.heads args.table.now.next args.fill.count args.key pre
+          _ put.ensures.rows_after put.ensures.owner_bound)
           seek.result seek.ensures.sought seek.ensures.upper_bound before.result before.ensures c.if-len-eq0.true;
     }
 
@@ -51,7 +51,7 @@ start_at-start-requires c =
       arith,
       some-before _ seek-before.result c.len_before-len.result c.len_before-len.ensures c.if-len-eq0.false,
       seek-before.ensures.upper_bound,
-      pre.count_lt_rows_max,
+      pre.few,
     )
 
 pub returns : goal.returns
@@ -61,17 +61,17 @@ returns c =
     let put = c.put_row in
     let seek = c.seek_before-r in
     let before = c.len_before-len in
-    let agree = put_agree args.table.now.rows args.table.now.heads args.table.now.next args.fill.count args.key pre.count_lt_rows_max
-    pre.ready _ put.ensures.rows_after put.ensures.owner_bound in record {
-      ready_2 = put_ready args.table.now.rows args.table.now.heads args.table.now.next args.fill.count args.key pre.count_lt_rows_max pre.ready
+    let agree = put_agree args.table.now.rows args.table.now.heads args.table.now.next args.fill.count args.key pre
+    _ put.ensures.rows_after put.ensures.owner_bound in record {
+      ready = put_ready args.table.now.rows args.table.now.heads args.table.now.next args.fill.count args.key pre
           _ put.ensures.rows_after put.ensures.owner_bound;
       chains_kept = (refl, refl);
       agree = agree;
       spots = λ i t b hs ag x.
           spot_line args.key i t b _ args.table.now.heads args.table.now.next args.fill hs x
           (λ j l. ag j l ∙ agree j l)
-          (put_new args.table.now.rows args.table.now.heads args.table.now.next args.fill.count args.key pre.count_lt_rows_max
-          pre.ready _ put.ensures.rows_after put.ensures.owner_bound)
+          (put_new args.table.now.rows args.table.now.heads args.table.now.next args.fill.count args.key pre
+          _ put.ensures.rows_after put.ensures.owner_bound)
           seek.result seek.ensures.sought seek.ensures.upper_bound before.result before.ensures c.if-len-eq0.false
           c.start_at-start.result c.start_at-start.ensures;
     }

@@ -4,30 +4,23 @@ use native.Mathlib.Omega.{arith}
 use Rattle.store.proofs.ShareBufferLaws.{size_most}
 use Rattle.store.proofs.ShareCallLaws.{stocked, share_unsound, set_weighs, end_less, set_crowded, set_full}
 use Rattle.store.proofs.ShareCallLaws.{set-done, set_writes}
+use Rattle.store.proofs.SurveyLaws.{stock_refused}
 use Rattle.store.proofs.sharing.set_share.Goals as goal
 
-pub take_stock-requires : goal.take_stock-requires
-take_stock-requires c =
-    record {
-      shares_value = refl;
-      chained = c.new-table.ensures.chained;
-      long = c.new-table.ensures.long;
-    }
-
-pub returns-in_default : goal.returns-in_default
-returns-in_default c =
+pub returns-in_err-stock : goal.returns-in_err-stock
+returns-in_err-stock c =
     let args = c.args in
-    share_unsound args.index.now args.text.now args.owner args.bytes
-    c.in_default.ensures
+    let w = stock_refused _ _ _ _ c.take_stock.ensures _ _ c.in_err-stock.ensures.value _ c.from_residual.ensures.1 in
+    rw w.0 (share_unsound args.index.now args.text.now args.owner args.bytes w.1)
 
 pub overflow_add-end : goal.overflow_add-end
 overflow_add-end c =
     let args = c.args in
     let i = args.index.now in
     let t = args.text.now in
-    let stock = c.in-Some in
-    let w = stocked i t _ _ _ _ stock.stock
-    (λ k. omega (arith, c.slice_known-1.given k)) stock.ensures in
+    let stock = c.in_ok-stock in
+    let w = stocked i t _ stock.stock (λ k. omega (arith, c.slice_known-1.given k))
+    (rw stock.ensures.ok_part at c.take_stock.ensures) in
     omega (arith, w.front, w.end, w.fits, w.index_most)
 
 pub overflow_add-end-2 : goal.overflow_add-end-2
@@ -35,9 +28,9 @@ overflow_add-end-2 c =
     let args = c.args in
     let i = args.index.now in
     let t = args.text.now in
-    let stock = c.in-Some in
-    let w = stocked i t _ _ _ _ stock.stock
-    (λ k. omega (arith, c.slice_known-1.given k)) stock.ensures in
+    let stock = c.in_ok-stock in
+    let w = stocked i t _ stock.stock (λ k. omega (arith, c.slice_known-1.given k))
+    (rw stock.ensures.ok_part at c.take_stock.ensures) in
     omega (
       arith,
       w.front,
@@ -53,9 +46,9 @@ overflow_sub-end c =
     let args = c.args in
     let i = args.index.now in
     let t = args.text.now in
-    let stock = c.in-Some in
-    let w = stocked i t _ _ _ _ stock.stock
-    (λ k. omega (arith, c.slice_known-1.given k)) stock.ensures in
+    let stock = c.in_ok-stock in
+    let w = stocked i t _ stock.stock (λ k. omega (arith, c.slice_known-1.given k))
+    (rw stock.ensures.ok_part at c.take_stock.ensures) in
     end_less i t _ _ stock.stock w args.owner args.bytes (omega (arith, c.ranges))
     c.share_size.result c.share_size-2.result c.share_size.ensures c.share_size-2.ensures
 
@@ -64,9 +57,9 @@ share_room-requires c =
     let args = c.args in
     let i = args.index.now in
     let t = args.text.now in
-    let stock = c.in-Some in
-    let w = stocked i t _ _ _ _ stock.stock
-    (λ k. omega (arith, c.slice_known-1.given k)) stock.ensures in
+    let stock = c.in_ok-stock in
+    let w = stocked i t _ stock.stock (λ k. omega (arith, c.slice_known-1.given k))
+    (rw stock.ensures.ok_part at c.take_stock.ensures) in
     set_weighs i t _ _ stock.stock w args.owner args.bytes (omega (arith, c.ranges))
 
 pub write_share-requires : goal.write_share-requires
@@ -74,9 +67,9 @@ write_share-requires c =
     let args = c.args in
     let i = args.index.now in
     let t = args.text.now in
-    let stock = c.in-Some in
-    let w = stocked i t _ _ _ _ stock.stock
-    (λ k. omega (arith, c.slice_known-1.given k)) stock.ensures in (
+    let stock = c.in_ok-stock in
+    let w = stocked i t _ stock.stock (λ k. omega (arith, c.slice_known-1.given k))
+    (rw stock.ensures.ok_part at c.take_stock.ensures) in (
       _,
       (
         w.all.held,
@@ -95,9 +88,9 @@ returns-in-Err-Text c =
     let args = c.args in
     let i = args.index.now in
     let t = args.text.now in
-    let stock = c.in-Some in
-    let w = stocked i t _ _ _ _ stock.stock
-    (λ k. omega (arith, c.slice_known-1.given k)) stock.ensures in
+    let stock = c.in_ok-stock in
+    let w = stocked i t _ stock.stock (λ k. omega (arith, c.slice_known-1.given k))
+    (rw stock.ensures.ok_part at c.take_stock.ensures) in
     set_crowded i t _ _ stock.stock w args.owner args.bytes (omega (arith, c.ranges))
     c.share_size.result c.share_size-2.result c.share_size.ensures
     c.share_size-2.ensures (λ k. omega (arith, c.slice_known-1.given k))
@@ -109,9 +102,9 @@ returns-in-Err-Index c =
     let args = c.args in
     let i = args.index.now in
     let t = args.text.now in
-    let stock = c.in-Some in
-    let w = stocked i t _ _ _ _ stock.stock
-    (λ k. omega (arith, c.slice_known-1.given k)) stock.ensures in
+    let stock = c.in_ok-stock in
+    let w = stocked i t _ stock.stock (λ k. omega (arith, c.slice_known-1.given k))
+    (rw stock.ensures.ok_part at c.take_stock.ensures) in
     set_full i t _ _ stock.stock w args.owner args.bytes (omega (arith, c.ranges))
     c.share_size.result c.share_size-2.result c.share_size.ensures
     c.share_size-2.ensures (λ k. omega (arith, c.slice_known-1.given k))
@@ -123,9 +116,9 @@ returns-in-Ok c =
     let args = c.args in
     let i = args.index.now in
     let t = args.text.now in
-    let stock = c.in-Some in
-    let w = stocked i t _ _ _ _ stock.stock
-    (λ k. omega (arith, c.slice_known-1.given k)) stock.ensures in
+    let stock = c.in_ok-stock in
+    let w = stocked i t _ stock.stock (λ k. omega (arith, c.slice_known-1.given k))
+    (rw stock.ensures.ok_part at c.take_stock.ensures) in
     let writes = set_writes i t _ _ stock.stock w args.owner args.bytes (omega (arith, c.ranges))
     c.share_size.result c.share_size-2.result c.share_size.ensures
     c.share_size-2.ensures (λ k. omega (arith, c.slice_known-1.given k))
