@@ -1,7 +1,7 @@
 // The end of a save: a line that was built goes into the store.
 ghost use Rattle.std.specs.Prelude.{◌≡◌, ◌≤◌, length};
 ghost use Rattle.store.specs.Held.{line_max};
-ghost use Rattle.store.specs.Inner.{store_file, room_answer, said_by};
+ghost use Rattle.store.specs.Inner.{store_file, said_by};
 ghost use Rattle.store.specs.Saves.{unsaved_name, refused_save};
 
 use crate::calls::{SaveError, Saved};
@@ -10,20 +10,8 @@ use crate::filing::file_line;
 use crate::parties::Key;
 use crate::search::find_text;
 use crate::soundness::Ledger;
-use crate::table::Full;
 use line::mapping::Mapping;
 use text::bytes::find_byte;
-
-// What filing a line answers, by its room.
-fn room_answer(room: Result<(), Full>) -> Result<(), SaveError>
-    ensures { result ≡ room_answer room }
-{
-    match room {
-        Ok(()) => Ok(()),
-        Err(Full::Index) => Err(SaveError::NoRoom),
-        Err(Full::Text) => Err(SaveError::NoText),
-    }
-}
 
 // Files a line that was built under its key, unless the store is not sound or has no room.
 pub fn file_built(index: &mut [u8], text: &mut [u8], key: Key, line: &[u8]) -> Result<(), SaveError>
@@ -36,7 +24,7 @@ pub fn file_built(index: &mut [u8], text: &mut [u8], key: Key, line: &[u8]) -> R
     let fill = stock.fill;
     let front = stock.front;
     let dues = dues_of(&ledger.table.rows, fill, &ledger.shares, key.owner);
-    let room = file_line(
+    file_line(
         &mut index[front..],
         text,
         &mut ledger.table,
@@ -44,8 +32,8 @@ pub fn file_built(index: &mut [u8], text: &mut [u8], key: Key, line: &[u8]) -> R
         dues,
         key,
         line,
-    );
-    room_answer(room)
+    )?;
+    Ok(())
 }
 
 // Whether a name has LF or `platform:`.

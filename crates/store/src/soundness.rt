@@ -100,7 +100,7 @@ pub fn survey(index: &[u8], text: &[u8], table: &mut Table) -> Option<Surveyed>
 // What is written down of a store: each party's share, and the lines.
 #[derive(Drop)]
 pub struct Ledger {
-    pub shares: [u64; OWNERS],
+    pub shares: [u16; OWNERS],
     pub table: Table,
 }
 

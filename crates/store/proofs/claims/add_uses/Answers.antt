@@ -25,6 +25,19 @@ len_at-requires c =
     let test = c.loop-k-test in
     omega (arith, test.true, c.requires.addable.most)
 
+pub overflow_cast-uses : goal.overflow_cast-uses
+overflow_cast-uses c =
+    let loop = c.loop-k in
+    let args = c.args in
+    let own = ap (λ (x : Key). x.owner) c.key_at-key.ensures in
+    omega (
+      arith,
+      c.len_at.ensures,
+      add_most args.rows.now args.count c.requires.addable loop.uses loop.k loop.invariant
+          c.loop-k-test.true c.key_at-key.result.owner
+          (omega (arith, owner_byte args.rows.now loop.k, own)),
+    )
+
 pub overflow_add-uses : goal.overflow_add-uses
 overflow_add-uses c =
     let loop = c.loop-k in

@@ -1,8 +1,10 @@
 -- 19 where the store is not sound; else `file_line` says whether there was room, in the part behind the shares.
+use mathlib.Core.Path.{refl}
 use native.Mathlib.Omega.{arith}
+use Rattle.std.proofs.lemmas.Result.{err_from_is_err_and}
 use Rattle.store.specs.Layout.{Bytes}
-use Rattle.store.proofs.PartLaws.{stock_given, stock_lines, stock_loads, stock_adds, stock_owed}
-use Rattle.store.proofs.SaveLaws.{file_unsound, file_lent}
+use Rattle.store.proofs.PartLaws.{stock_lines, stock_loads, stock_adds, stock_owed}
+use Rattle.store.proofs.SaveLaws.{file_unsound, file_stocked}
 use Rattle.store.proofs.SurveyLaws.{stock_refused}
 use Rattle.store.proofs.saving.file_built.Goals as goal
 
@@ -19,10 +21,7 @@ dues_of-dues-requires c =
     (arith, c.slice_known-1.given k) in
     let stock = c.in_ok-stock in
     let w = rw stock.ensures.ok_part at c.take_stock.ensures in
-    record {
-      given = stock_given args.index.now args.text.now _ stock.stock w bytes;
-      addable = stock_adds args.index.now args.text.now _ stock.stock w bytes;
-    }
+    stock_adds args.index.now args.text.now _ stock.stock w bytes
 
 pub slice_bounds-file_line-count : goal.slice_bounds-file_line-count
 slice_bounds-file_line-count c =
@@ -36,8 +35,8 @@ slice_bounds-file_line-start c =
     let w = rw stock.ensures.ok_part at c.take_stock.ensures in
     omega (arith, w.front.within)
 
-pub file_line-room-requires : goal.file_line-room-requires
-file_line-room-requires c =
+pub file_line-requires : goal.file_line-requires
+file_line-requires c =
     let args = c.args in
     let bytes : Bytes args.index.now = λ k. omega (arith, c.slice_known-1.given k) in
     let stock = c.in_ok-stock in
@@ -56,18 +55,21 @@ file_line-room-requires c =
       );
     }
 
+pub returns-in_err-file_line : goal.returns-in_err-file_line
+returns-in_err-file_line c =
+    let args = c.args in
+    let bytes : Bytes args.index.now = λ k. omega (arith, c.slice_known-1.given k) in
+    let stock = c.in_ok-stock in
+    let w = rw stock.ensures.ok_part at c.take_stock.ensures in
+    let p = err_from_is_err_and c.from_residual-in_err-file_line.result c.from_residual-in_err-file_line.ensures.1 in
+    file_stocked args.index.now args.text.now (record { key = args.key; line = args.line.now }) _ stock.stock w bytes
+    c.dues_of-dues.result c.dues_of-dues.ensures _ _ _ c.in_err-file_line.ensures _ (rw (p.1, p.2) refl)
+
 pub returns : goal.returns
 returns c =
     let args = c.args in
     let bytes : Bytes args.index.now = λ k. omega (arith, c.slice_known-1.given k) in
     let stock = c.in_ok-stock in
     let w = rw stock.ensures.ok_part at c.take_stock.ensures in
-    let dues = c.dues_of-dues in
-    let filed = c.file_line-room in
-    file_lent args.index.now args.text.now (record { key = args.key; line = args.line.now }) _
-    stock.stock.front w.front bytes
-    w.is dues.result
-    filed.result _ _ filed.ensures
-    (stock_owed args.index.now args.text.now _ stock.stock w bytes args.key.owner
-    dues.result dues.ensures)
-    c.room_answer.result c.room_answer.ensures
+    file_stocked args.index.now args.text.now (record { key = args.key; line = args.line.now }) _ stock.stock w bytes
+    c.dues_of-dues.result c.dues_of-dues.ensures _ _ _ c.in_ok-file_line.ensures _ refl
