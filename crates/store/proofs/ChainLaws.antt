@@ -55,9 +55,6 @@ seek_turn K next k m c d links s pos ne hd = (
 
 -- the first step of number k, which is linked, in the chain that starts before m: where m is 0, nothing comes behind it
 module _ (K : ℕ → Key) (next : List ℕ) (k m : ℕ) (links : Linked K next (k + 1)) (kin : Kin K k m) (w : m ≤ k) where
-  pub step_stays : NotIn K k m m × (m ≤ m)
-  step_stays = (λ j l h e. omega arith, omega arith)
-
   pub step_on : (d : ℕ) → same_key (K (m - 1)) (K k) ≡ false → d ≡ get_or next (m - 1) 0
       → (NotIn K k d m × (d ≤ m)) × Kin K k d
   step_on d ne e = go (eqb m 0) refl

@@ -10,7 +10,7 @@ use native.Mathlib.Omega.{arith}
 use lib.Dec.{ltb}
 use lib.ListN.{length, get_or, set, take, drop, replicate, length-append, length-set}
 use lib.Seq.{take_at, drop_at, take-set-le, drop-set-lt, get_or-set_same}
-use borrow.Author.Tests.{lt-ltb, le-ltb, ltb-false}
+use borrow.Author.Tests.{lt-ltb, le-ltb}
 use borrow.Rule.Slice.PartMut.{put_mid, mid_of}
 use Rattle.text.proofs.LentLaws.{tail_part, tail_back}
 use Rattle.text.specs.Bytes.{pick}
@@ -19,19 +19,12 @@ use Rattle.store.specs.Held.{Held}
 use Rattle.store.specs.Inner.{sizes}
 use Rattle.store.specs.Layout.{records, share_bytes, share_records, padded, encode_index}
 use Rattle.store.specs.Settings.{UsedBy, Weighed, Writes}
-use Rattle.store.specs.Shares.{larger, claims, share_size, share_sizes}
+use Rattle.store.specs.Shares.{claims, share_size, share_sizes}
 use Rattle.store.proofs.ShareLaws.{length_shares}
 use Rattle.store.specs.declared.calls.StoreError.TheVariants as E
 use Rattle.store.specs.declared.calls.StoreError.{StoreError}
 
 -- ---- `share_room`
-
-pub larger_share : (u b : ℕ) → b ≤ larger u b
-larger_share u b = go (ltb u b) refl
-  where
-    go : (c : Bool) → ltb u b ≡ c → b ≤ pick c b u
-    go true e = omega arith
-    go false e = ltb-false u b e
 
 module _ (a : List ℕ) (n : ℕ) (g : List ℕ) (m i end : ℕ) where
   weighed : (r : Result ⊤ StoreError) (x y : Bool)

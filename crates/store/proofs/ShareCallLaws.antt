@@ -25,11 +25,11 @@ use Rattle.store.specs.Shares.{owners, Content, use_of, claims, share_size, shar
 use Rattle.store.specs.Store.{Done, unchanged, holding, on_shares, store_share, told_of, store_told}
 use Rattle.store.specs.Table.{Stocks}
 use Rattle.store.proofs.BoolLaws.{true-false}
-use Rattle.store.proofs.ClaimLaws.{one_least}
+use Rattle.store.proofs.ClaimLaws.{larger_share, one_least}
 use Rattle.store.proofs.EncodesLaws.{content_encodes}
 use Rattle.store.proofs.PartLaws.{ends}
 use Rattle.store.proofs.RoomLaws.{sizes_sum}
-use Rattle.store.proofs.SettingLaws.{larger_share, sizes-set}
+use Rattle.store.proofs.SettingLaws.{sizes-set}
 use Rattle.store.proofs.ShareBufferLaws.{size_most}
 use Rattle.store.proofs.ShareLaws.{given_front}
 use Rattle.store.proofs.SurveyLaws.{Holds, stock_holds, stock_rows}

@@ -8,6 +8,8 @@ use mathlib.Core.Option.{Option, none, some}
 use mathlib.Core.Path.{◌≡◌, refl, sym, ap, ◌∙◌, subst}
 use Prim.Native.Nat.{ℕ, suc, ◌+◌, ◌-◌, ◌≤◌, ◌<◌}
 use native.Mathlib.Omega.{arith}
+use borrow.Rule.Slice.PartMut.{mid_of}
+use Rattle.text.proofs.LentLaws.{tail_part}
 use lib.ListN.{length, drop, length-drop}
 use borrow.Author.Tests.{le-leb, lt-leb}
 use Rattle.text.specs.Bytes.{pick}
@@ -23,13 +25,14 @@ use Rattle.store.specs.Held.{Held, index_max, text_max, record_size}
 use Rattle.store.specs.Layout.{Bytes}
 use Rattle.store.specs.Fronts.{Fronts}
 use Rattle.store.specs.Shares.{Content}
-use Rattle.store.specs.Inner.{known}
+use Rattle.store.specs.Inner.{HasRecord, known}
 use Rattle.store.specs.Keys.{rows_max, Says, told_of, Chained, Sought}
 use Rattle.store.specs.Rows.{Row, key_in, row_put, Long}
 use Rattle.store.specs.Table.{InRows, Loads, Surveys, OnceSurveyed, Stocks, OnceStocked}
 use Rattle.store.proofs.BoolLaws.{true-false}
 use Rattle.store.proofs.ChainLaws.{says-turn, says_agree}
 use Rattle.store.proofs.DecodeLaws.{laid, lines_of_lem}
+use Rattle.store.proofs.HeadLaws.{whole_size}
 use Rattle.store.proofs.LoadLaws.{Loading, load-first, load_less, load_end, load-turn}
 use Rattle.store.proofs.OnceLaws.{list_end}
 use Rattle.store.proofs.RecordLaws.{Fits, fits_of, size_least}
@@ -52,15 +55,22 @@ survey_first i t a heads next m l c = record {
   says = λ x y p q e. omega arith;
 }
 
-module _ (i t : List ℕ) (at : ℕ) (a : List ℕ) (heads next : List ℕ) (n used : ℕ) (v : Verdict)
+module _ {i t : List ℕ} {at : ℕ} {a : List ℕ} {heads next : List ℕ} {n used : ℕ} {v : Verdict}
     (w : Surveying i t at a heads next n used v) where
   pub survey_less : n < rows_max
   survey_less = load_less i at a heads next n used w.loading
 
+  -- the rest of the index, as it is lent
+  abbrev rest : List ℕ
+  rest = mid_of at (length i - at) i
+
   -- behind the last record
-  module _ (e : no_head ≡ head_at (drop at i)) (b : Bool) (q : b ≡ zeroes (drop at i) && zeroes (drop used t)) where
+  module _ (e' : no_head ≡ head_at rest) (b : Bool) (q : b ≡ zeroes (drop at i) && zeroes (drop used t)) where
+    none_at : no_head ≡ head_at (drop at i)
+    none_at = e' ∙ ap head_at (tail_part at i)
+
     tail_is : b ≡ known (walk (suc (length i)) 0 i t)
-    tail_is = q ∙ sym (walking_end i t _ at used w.walks no_head e refl)
+    tail_is = q ∙ sym (walking_end i t _ at used w.walks no_head none_at refl)
 
     pub survey_tail : b ≡ false → known (walk (suc (length i)) 0 i t) ≡ false
     survey_tail z = sym tail_is ∙ z
@@ -72,13 +82,20 @@ module _ (i t : List ℕ) (at : ℕ) (a : List ℕ) (heads next : List ℕ) (n u
       most = survey_less;
       says = w.says;
       chained = w.loading.chained;
-      lists = list_end i at a n w.loading.listing no_head e refl;
-      loads = load_end i at a heads next n used w.loading no_head e refl y;
+      lists = list_end i at a n w.loading.listing no_head none_at refl;
+      loads = load_end i at a heads next n used w.loading no_head none_at refl y;
     }
 
-  module _ (head : Head) (e : head ≡ head_at (drop at i)) (s : head.size ≡ record_size head.key.owner) (b : Bool)
+  -- at a whole record
+  module _ (whole : HasRecord rest) (head : Head) (e' : head ≡ head_at rest) (b : Bool)
       (fit : b ≡ head_fits used head (length t - used)) where
-    some_size : head.size ≡ 0 → ⊥
+    e : head ≡ head_at (drop at i)
+    e = e' ∙ ap head_at (tail_part at i)
+
+    s : head.size ≡ record_size head.key.owner
+    s = whole_size rest whole head e'
+
+    pub some_size : head.size ≡ 0 → ⊥
     some_size z = omega (arith, s, (size_least head.key.owner).0)
 
     pub survey_bad : b ≡ false → known (walk (suc (length i)) 0 i t) ≡ false
