@@ -25,7 +25,7 @@ use Rattle.store.specs.Decode.{decode}
 use Rattle.store.specs.Held.{Held, key_by, file, index_max, text_max, line_max}
 use Rattle.text.specs.Search.{lf}
 use Rattle.store.specs.Layout.{Bytes}
-use Rattle.store.specs.Inner.{GoodFor, behind, first_line, known}
+use Rattle.store.specs.Inner.{GoodFor, behind, first_line, known, insert_full}
 use Rattle.store.specs.Claims.{not_of, Owed}
 use Rattle.store.specs.Keys.{rows_max}
 use Rattle.store.specs.Lines.{lines_of, wanted}
@@ -78,23 +78,20 @@ module _ (d : Dues) (i t s : List ℕ) (a : List Row) (heads next : List ℕ) (f
             ≡ by_room r (stopped (Err E.NoRoom)) (stopped (Err E.NoText)) (after (file (under own u.id l) hs))
         reached g hs r q = reach_room (behind g i t own) hs l u e (omega (arith, part_long)) r q
 
-        slot_full : (x : Full) (v : StoreError)
-            → ((w : Reached) → by_room (Err x) (stopped (Err E.NoRoom)) (stopped (Err E.NoText)) w ≡ stopped (Err v))
-            → z ≡ Err x → ReachesRow d i t s a heads next f own l a' heads' next' (Err v)
-        slot_full x v says er g old hs o w = go (y g s old hs (slot_files g old hs o w))
+        says : (x : Full) (w : Reached)
+            → by_room (Err x) (stopped (Err E.NoRoom)) (stopped (Err E.NoText)) w ≡ stopped (Err (insert_full x))
+        says R.Index w = refl
+        says R.Text w = refl
+
+        pub slot_full : (x : Full) → z ≡ Err x → ReachesRow d i t s a heads next f own l a' heads' next' (Err (insert_full x))
+        slot_full x er g old hs o w = go (y g s old hs (slot_files g old hs o w))
           where
             go : Filed g i t s a' heads' next' old f (under own u.id l) hs z
-                → Comes g i t s a' heads' next' old own l hs f (Err v)
+                → Comes g i t s a' heads' next' old own l hs f (Err (insert_full x))
             go (fits f' q c k) = let n : ◌≡◌ {A = ℕ} 0 1 = cc in absurd (omega arith)
             go (full x' q c k) =
                 let n : x' ≡ x = cc in
-                stops v (reached g hs (Err x) (q ∙ ap (λ (m : Full). Err m) n) ∙ says _) refl k
-
-        pub slot_index : z ≡ Err R.Index → ReachesRow d i t s a heads next f own l a' heads' next' (Err E.NoRoom)
-        slot_index = slot_full R.Index E.NoRoom (λ w. refl)
-
-        pub slot_text : z ≡ Err R.Text → ReachesRow d i t s a heads next f own l a' heads' next' (Err E.NoText)
-        slot_text = slot_full R.Text E.NoText (λ w. refl)
+                stops (insert_full x) (reached g hs (Err x) (q ∙ ap (λ (m : Full). Err m) n) ∙ says x _) refl k
 
         pub slot_filed : (f' : Fill) → z ≡ Ok f' → ReachesRow d i t s a heads next f own l a' heads' next' (Ok f')
         slot_filed f' er g old hs o w = go (y g s old hs (slot_files g old hs o w))

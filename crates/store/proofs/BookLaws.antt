@@ -17,7 +17,7 @@ use Rattle.text.specs.declared.uuid.Spelled.{Spelled}
 use Rattle.store.specs.declared.parties.Party.{Party}
 use Rattle.store.specs.declared.parties.Party.TheVariants as P
 use Rattle.store.specs.Parties.{owner_of, by_owner, EightBits, Named, Owner}
-use Rattle.store.specs.Shares.{owners, no_shares, Content, nothing_held, use_of, larger, claims_from, claims}
+use Rattle.store.specs.Shares.{owners, no_shares, Content, nothing_held, use_of, claims_from, claims}
 use Rattle.store.specs.Shares.{share_sizes}
 use Rattle.store.specs.Shares.{with_share, with_held}
 use Rattle.store.specs.Book.{Caller, caller, turn, record_sizes, room_for, by_room, under, Reached, after, stopped}
@@ -32,7 +32,7 @@ use Rattle.store.specs.Held.{Held, file, distinct, line_max, text_max}
 use Rattle.store.specs.Layout.{Shape, Shapes, Given, records, texts}
 use Rattle.store.specs.Lines.{lines_of, wanted}
 use Rattle.store.proofs.HeldLaws.{distinct-file, shapes_file}
-use Rattle.store.proofs.ClaimLaws.{one_least, lengths_least, lengths-texts}
+use Rattle.store.proofs.ClaimLaws.{larger_share, one_least, lengths_least, lengths-texts}
 use Rattle.store.proofs.RoomLaws.{fits_index, fits_claims, sizes_sum}
 use Rattle.store.proofs.WantedLaws.{wanted_small, wanted-some}
 use Rattle.store.specs.declared.calls.StoreError.TheVariants as E
@@ -237,13 +237,6 @@ fits_lines n m c f = record { good = f.good; within = f.within }
 
 -- ---- share settings
 
-larger_right : (a b : ℕ) → b ≤ larger a b
-larger_right a b = go (ltb a b) refl
-  where
-    go : (t : Bool) → ltb a b ≡ t → b ≤ pick t b a
-    go true e = omega arith
-    go false e = ltb-false a b e
-
 module _ (s : List ℕ) (given : Given s) (o b : ℕ) (byte : o < 256) where
   set_each : length (set s o b) ≡ owners
   set_each = length-set s o b ∙ given.each
@@ -271,7 +264,7 @@ module _ (s : List ℕ) (given : Given s) (o b : ℕ) (byte : o < 256) where
       omega (
         arith,
         z,
-        larger_right (use_of o hs) (get_or (set s o b) o 0),
+        larger_share (use_of o hs) (get_or (set s o b) o 0),
         one_least o (set s o b) hs (omega (arith, set_each)),
       )
 

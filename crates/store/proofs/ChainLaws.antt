@@ -1,7 +1,7 @@
 -- Chains of numbers, one for each bucket: each is linked to the last one of its bucket before it, and a chain holds
 -- every number of its key. Nothing here knows where a key is read from.
 -- Assumes nothing.
-use mathlib.Core.Bool.{Bool, true, false, ◌&&◌}
+use mathlib.Core.Bool.{Bool, true, false}
 use mathlib.Core.List.{List}
 use mathlib.Core.Logic.{⊎_elim}
 use mathlib.Core.Path.{◌≡◌, refl, sym, ap, ◌∙◌, subst}
@@ -20,7 +20,6 @@ use Rattle.store.specs.declared.chains.Verdict.{Verdict}
 use Rattle.store.specs.declared.chains.Verdict.TheVariants as Vd
 use Rattle.text.specs.Bytes.{pick}
 use Rattle.store.proofs.HeldLaws.{same_refl}
-use Rattle.store.proofs.BoolLaws.{and_assoc}
 
 pub unlike : (a b : Key) → same_key a b ≡ false → a ≡ b → ⊥
 unlike a b n e =
@@ -56,9 +55,6 @@ seek_turn K next k m c d links s pos ne hd = (
 
 -- the first step of number k, which is linked, in the chain that starts before m: where m is 0, nothing comes behind it
 module _ (K : ℕ → Key) (next : List ℕ) (k m : ℕ) (links : Linked K next (k + 1)) (kin : Kin K k m) (w : m ≤ k) where
-  pub step_stays : NotIn K k m m × (m ≤ m)
-  step_stays = (λ j l h e. omega arith, omega arith)
-
   pub step_on : (d : ℕ) → same_key (K (m - 1)) (K k) ≡ false → d ≡ get_or next (m - 1) 0
       → (NotIn K k d m × (d ≤ m)) × Kin K k d
   step_on d ne e = go (eqb m 0) refl
@@ -163,12 +159,6 @@ apart_turn K k r s q z a b l m =
 pub found_twice : (K : ℕ → Key) (n k r : ℕ) → k < n → Sought K k r → r ≤ k → 0 < r → Twice K n
 found_twice K n k r h q l p =
     record { a = r - 1; b = k; less = omega arith; below = h; same = q.hit p l }
-
--- the test of two keys as one
-pub same_as_one : (a b : Key)
-    → (eqb a.owner b.owner && eqb a.uuid.high b.uuid.high) && eqb a.uuid.low b.uuid.low ≡ same_key a b
-unfolding same_key
-same_as_one a b = and_assoc (eqb a.owner b.owner) (eqb a.uuid.high b.uuid.high) (eqb a.uuid.low b.uuid.low)
 
 -- ---- what is told of the first n
 

@@ -9,7 +9,7 @@ use native.Mathlib.Nat.{zero-add, add-zero, eq-or-lt_of_le}
 use native.Mathlib.Omega.{arith}
 use lib.Dec.{eqb, ltb}
 use lib.ListN.{length, get_or, replicate}
-use borrow.Author.Tests.{eqb-true, eqb-false, eq-eqb, ne_eqb, ltb-true, le-ltb}
+use borrow.Author.Tests.{eqb-true, eqb-false, eq-eqb, ne_eqb, ltb-true, ltb-false, le-ltb}
 use Rattle.text.specs.Bytes.{pick}
 use Rattle.store.specs.Held.{Key, Held, same_key, strike, file}
 use Rattle.store.specs.Inner.{lengths}
@@ -30,6 +30,13 @@ larger_used x b = go (ltb x b) refl
     go : (c : Bool) → ltb x b ≡ c → x ≤ pick c b x
     go true e = omega (arith, ltb-true x b e)
     go false e = omega arith
+
+pub larger_share : (x b : ℕ) → b ≤ larger x b
+larger_share x b = go (ltb x b) refl
+  where
+    go : (c : Bool) → ltb x b ≡ c → b ≤ pick c b x
+    go true e = omega arith
+    go false e = ltb-false x b e
 
 pub larger_most : (x b m : ℕ) → x ≤ m → b ≤ m → larger x b ≤ m
 larger_most x b m p q = go (ltb x b)

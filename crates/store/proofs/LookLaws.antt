@@ -16,18 +16,21 @@ use Rattle.text.specs.Bytes.{pick}
 use Rattle.store.specs.declared.rows.Row.{Row}
 use Rattle.store.specs.declared.table.Fill.{Fill}
 use Rattle.store.specs.declared.look.Part.{Part}
-use Rattle.store.specs.Decode.{decode, content}
+use Rattle.store.specs.declared.soundness.Ledger.{Ledger}
+use Rattle.store.specs.declared.soundness.Stock.{Stock}
+use Rattle.store.specs.Decode.{content}
 use Rattle.store.specs.Shares.{Content}
 use Rattle.store.specs.Held.{Key, Held, same_key, find}
 use Rattle.store.specs.Inner.{known}
-use Rattle.store.specs.Keys.{rows_max, Sought}
+use Rattle.store.specs.Keys.{Sought}
 use Rattle.store.specs.Rows.{row_in, key_in, start_in, len_in, row_put, Long}
-use Rattle.store.specs.Table.{living, held_at, line_at, InRows, Loads, len_before}
-use Rattle.store.specs.Sights.{Ready, Agree, Spot, nowhere, there, Sees}
+use Rattle.store.specs.Table.{living, held_at, line_at, InRows, Stocks, len_before}
+use Rattle.store.specs.Sights.{Ready, Agree, Spot, Spots, nowhere, there, Sees}
 use Rattle.store.specs.Store.{Looked, nothing, unsound, looked_in, looked_at, look_by, says_of, line_of}
 use Rattle.store.specs.Store as store
 use Rattle.store.proofs.ChainLaws.{unlike}
 use Rattle.store.proofs.HeldLaws.{same_refl, same_eq}
+use Rattle.store.proofs.SurveyLaws.{Holds, stock_holds, stock_rows}
 use Rattle.store.proofs.TableLaws.{chained_agree}
 use Rattle.store.proofs.WriteLaws.{put_long, row_same, row_other}
 use Rattle.store.specs.declared.calls.LookError.TheVariants as L
@@ -39,13 +42,6 @@ look_unsound k i t e = go (content i t) e
     go : (o : Option Content) → known o ≡ false → looked_at k o ≡ unsound
     go none q = refl
     go (some c) q = let z : ◌≡◌ {A = ℕ} 0 1 = cc in absurd (omega arith)
-
--- the lines of a sound store are in their chains
-pub look_ready : (i t : List ℕ) (hs : List Held) → decode i t ≡ some hs
-    → (a : List Row) (heads next : List ℕ) (f : Fill) → Loads i a heads next f → Ready a heads next f.count
-look_ready i t hs e a heads next f loads =
-    let x = loads t [] hs e in
-    record { long = x.tabled.long; chained = x.chained }
 
 -- ---- found among the lines of numbers
 
@@ -187,20 +183,21 @@ module _ (k : Key) (i t : List ℕ) (a b : List Row) (heads next : List ℕ) (f 
 
 -- ---- a key written down under number n
 
-module _ (a : List Row) (heads next : List ℕ) (n : ℕ) (k : Key) (l : n < rows_max) (p : Ready a heads next n)
-    (b : List Row) (eb : b ≡ row_put a n k 0 0) where
+module _ (a : List Row) (heads next : List ℕ) (n : ℕ) (k : Key) (p : Ready a heads next n) (b : List Row)
+    (eb : b ≡ row_put a n k 0 0) where
   pub put_agree : Agree a b n
   put_agree j m = sym (ap (λ (v : List Row). row_in v j) eb ∙ row_other a n k 0 0 j (λ z. omega arith))
 
   pub put_ready : Ready b heads next n
   put_ready = record {
+    few = p.few;
     long = subst Long (sym eb) (put_long a n k 0 0 p.long);
     chained = chained_agree (key_in a) (key_in b) n (λ j m. ap (λ (v : Row). v.key) (put_agree j m)) heads next
         p.chained;
   }
 
   pub put_new : key_in b n ≡ k
-  put_new = ap (λ (v : List Row). key_in v n) eb ∙ ap (λ (v : Row). v.key) (row_same a n k 0 0 p.long l)
+  put_new = ap (λ (v : List Row). key_in v n) eb ∙ ap (λ (v : Row). v.key) (row_same a n k 0 0 p.long p.few)
 
 -- ---- what a look-up says
 
@@ -209,7 +206,7 @@ module _ (k : Key) (i t : List ℕ) where
   sees_unsound e = subst (λ (x : Looked). Sees t x (Err L.Unsound)) (sym (look_unsound k i t e))
       (record { how = refl; within = tt; line = refl })
 
-  pub sees_spot : (c : Content) → content i t ≡ some c → (r : Optional Part) → Spot t (find k c.held) r
+  sees_spot : (c : Content) → content i t ≡ some c → (r : Optional Part) → Spot t (find k c.held) r
       → Sees t (look_by k i t) (Ok r)
   unfolding look_by
   sees_spot c e r s = subst (λ (o : Option Content). Sees t (looked_at k o) (Ok r)) (sym e) (go s)
@@ -222,3 +219,16 @@ module _ (k : Key) (i t : List ℕ) where
           subst (λ (o : Option (List ℕ)). Sees t (looked_in o) (Ok r)) (sym q)
           (subst (λ (v : Optional Part). Sees t (store.found (take p.len (drop p.start t))) (Ok v)) (sym z)
           (record { how = refl; within = w; line = refl }))
+
+-- the lines of a sound store are in their chains, and the key's chain tells the line that is held
+module _ (i t : List ℕ) (l : Ledger) (s : Stock) (w : Stocks i t l s) where
+  pub stock_ready : Ready l.table.rows l.table.heads l.table.next s.fill.count
+  stock_ready =
+      let x = stock_rows i t l s w in
+      record { few = w.loads.1; long = x.tabled.long; chained = x.chained }
+
+  pub sees_stock : (k : Key) (r : Optional Part) → Spots l.table.rows l.table.heads l.table.next s.fill k r
+      → Sees t (look_by k i t) (Ok r)
+  sees_stock k r p =
+      let h : Holds i t l.shares s.front = stock_holds i t l s w in
+      sees_spot k i t h.all h.is r (p (drop s.front i) t _ h.all.held (λ j m. refl) (stock_rows i t l s w))

@@ -7,9 +7,12 @@ use mathlib.Core.Option.{Option, none, some}
 use mathlib.Core.Path.{◌≡◌, refl, sym, ap, ◌∙◌, subst}
 use Prim.Native.Nat.{ℕ, ◌≤◌}
 use native.Mathlib.Omega.{arith}
+use lib.ListN.{drop}
 use Rattle.text.specs.Uuid.{without_checksum}
 use Rattle.store.specs.declared.look.Part.{Part}
 use Rattle.store.specs.declared.near.Nearness.{Nearness}
+use Rattle.store.specs.declared.soundness.Ledger.{Ledger}
+use Rattle.store.specs.declared.soundness.Stock.{Stock}
 use Rattle.store.specs.Shares.{Content}
 use Rattle.store.specs.Decode.{content}
 use Rattle.store.specs.Filings.{line_filed}
@@ -22,10 +25,12 @@ use Rattle.store.specs.Inner.{known}
 use Rattle.store.specs.Near.{nobody, near_in, plain_key, near_at, near_by}
 use Rattle.store.specs.Near.{near_up}
 use Rattle.store.specs.Near.{Beside, BesideLookUp, NeverNear, NearAfter}
-use Rattle.store.specs.Sights.{Spot, nowhere, there, NearSees}
+use Rattle.store.specs.Sights.{Spot, nowhere, there, NearSees, Tries}
 use Rattle.store.specs.Store.{Looked, nothing, unsound, no_owner, looked_in, looked_at, look_by, look_up}
 use Rattle.store.specs.Store as store
+use Rattle.store.specs.Table.{Stocks}
 use Rattle.store.proofs.Saves.{whole_guarantee}
+use Rattle.store.proofs.SurveyLaws.{Holds, stock_holds, stock_rows}
 use Rattle.store.specs.declared.calls.LookError.TheVariants as L
 use Rattle.store.specs.declared.near.Nearness.TheVariants as N
 
@@ -180,7 +185,15 @@ module _ (k : Key) (i t : List ℕ) where
       go none q = record { how = refl; within = tt; line = refl }
       go (some c) q = clash cc
 
-  pub near_sound : (c : Content) → content i t ≡ some c → (r : Optional (Nearness × Part))
+  near_sound : (c : Content) → content i t ≡ some c → (r : Optional (Nearness × Part))
       → NearSees t (near_in (find k c.held) (find (plain_key k) c.held)) (Ok r) → NearSees t (near_by k i t) (Ok r)
   unfolding near_by
   near_sound c e r s = subst (λ (o : Option Content). NearSees t (near_at k o) (Ok r)) (sym e) s
+
+-- both tries, in a sound store
+pub near_stock : (i t : List ℕ) (l : Ledger) (s : Stock) (w : Stocks i t l s) (k : Key)
+    (r : Optional (Nearness × Part)) → Tries l.table.rows l.table.heads l.table.next s.fill k r
+    → NearSees t (near_by k i t) (Ok r)
+near_stock i t l s w k r p =
+    let h : Holds i t l.shares s.front = stock_holds i t l s w in
+    near_sound k i t h.all h.is r (p (drop s.front i) t h.all.held (stock_rows i t l s w))

@@ -12,6 +12,7 @@ use borrow.Rule.Slice.PartMut.{mid_of}
 use Rattle.text.proofs.LentLaws.{tail_part}
 use Rattle.store.specs.declared.rows.Row.{Row}
 use Rattle.store.specs.declared.claims.Dues.{Dues}
+use Rattle.store.specs.declared.soundness.Ledger.{Ledger}
 use Rattle.store.specs.declared.soundness.Stock.{Stock}
 use Rattle.store.specs.Book.{caller}
 use Rattle.store.specs.Claims.{Addable, row_lengths, DuesFrom, Owed}
@@ -79,26 +80,18 @@ module _ (i t g : List ℕ) (p : ℕ) (f : Fronts i g p) (b : Bytes i) where
 
 -- ---- what `take_stock` says of a sound store
 
-module _ (i t g : List ℕ) (a : List Row) (heads next : List ℕ) (r : Stock)
-    (w : Stocks i t g a heads next r) (b : Bytes i)
-  where
-    pub stock_sound : known (content i t) ≡ true
-    stock_sound = w.is
+module _ (i t : List ℕ) (l : Ledger) (r : Stock) (w : Stocks i t l r) (b : Bytes i) where
+  pub stock_lines : known (decode (mid_of r.front (length i - r.front) i) t) ≡ true
+  stock_lines = part_lines i t l.shares r.front w.front b w.is
 
-    pub stock_given : Given g
-    stock_given = (whole i t g r.front w.front b stock_sound).given
+  pub stock_loads : Loads (mid_of r.front (length i - r.front) i) l.table.rows l.table.heads l.table.next r.fill
+  stock_loads = subst (λ (q : List ℕ). Loads q l.table.rows l.table.heads l.table.next r.fill) (sym (tail_part r.front i)) w.loads.0
 
-    pub stock_lines : known (decode (mid_of r.front (length i - r.front) i) t) ≡ true
-    stock_lines = part_lines i t g r.front w.front b stock_sound
+  pub stock_adds : Addable l.table.rows r.fill.count × (row_lengths l.table.rows r.fill.count ≤ r.fill.used)
+  stock_adds = loads_addable (mid_of r.front (length i - r.front) i) t l.table.rows l.table.heads l.table.next r.fill stock_loads stock_lines
 
-    pub stock_loads : Loads (mid_of r.front (length i - r.front) i) a heads next r.fill
-    stock_loads = subst (λ (q : List ℕ). Loads q a heads next r.fill) (sym (tail_part r.front i)) w.loads.0
-
-    pub stock_adds : Addable a r.fill.count × (row_lengths a r.fill.count ≤ r.fill.used)
-    stock_adds = loads_addable (mid_of r.front (length i - r.front) i) t a heads next r.fill stock_loads stock_lines
-
-    pub stock_owed : (o : ℕ) (d : Dues) → DuesFrom a r.fill g o d → (hs : List Held)
-        → decode (mid_of r.front (length i - r.front) i) t ≡ some hs → Owed g o hs d
-    stock_owed o d f hs q =
-        loads_owed (mid_of r.front (length i - r.front) i) t a heads next r.fill stock_loads g o d f
-        (part_bytes i t g r.front w.front b) hs q
+  pub stock_owed : (o : ℕ) (d : Dues) → DuesFrom l.table.rows r.fill l.shares o d → (hs : List Held)
+      → decode (mid_of r.front (length i - r.front) i) t ≡ some hs → Owed l.shares o hs d
+  stock_owed o d f hs q =
+      loads_owed (mid_of r.front (length i - r.front) i) t l.table.rows l.table.heads l.table.next r.fill stock_loads l.shares o d f
+      (part_bytes i t l.shares r.front w.front b) hs q

@@ -12,7 +12,7 @@ use lib.Dec.{ltb}
 use lib.ListN.{length, length-append}
 use borrow.Author.Tests.{ltb-false, lt-ltb, le-ltb}
 use Rattle.text.specs.Bytes.{pick}
-use Rattle.store.specs.Book.{Caller, caller, record_sizes, no_index_of, no_text, room_for, by_room}
+use Rattle.store.specs.Book.{Caller, record_sizes, no_index_of, no_text, room_for, by_room}
 use Rattle.store.specs.Inner.{sizes}
 use Rattle.store.specs.Held.{Held, strike, file, record_size}
 use Rattle.store.specs.Shares.{no_shares, claims, share_sizes}
@@ -90,12 +90,6 @@ module _ (c : Caller) (h : Held) (hs : List Held) where
     unfolding room_for no_text
     both_fit m = ap₂ (λ (a b : Bool). pick a (Err R.Index) (pick b (Err R.Text) (Ok tt))) within
         (le-ltb c.text (claims c.shares (file h hs)) m)
-
--- whoever calls
-pub room_by : (n m : ℕ) (s : List ℕ) (o : ℕ) (h : Held) (hs : List Held)
-    → room_for (caller n m s o) h hs ≡ room_for (caller n m s h.key.owner) h hs
-unfolding room_for no_index_of no_text
-room_by n m s o h hs = refl
 
 -- ---- exactly when the encoding of the filed list fits
 

@@ -10,8 +10,10 @@ use borrow.Rule.Slice.PartMut.{put_mid, mid_of}
 use lib.ListN.{length, take, drop}
 use Rattle.text.proofs.LentLaws.{tail_part, tail_back}
 use Rattle.store.specs.declared.claims.Dues.{Dues}
+use Rattle.store.specs.declared.soundness.Ledger.{Ledger}
+use Rattle.store.specs.declared.soundness.Stock.{Stock}
 use Rattle.store.specs.Book.{Caller, caller, Turn, turn, room_for, by_room, book_attempt, files}
-use Rattle.store.specs.Claims.{Owed}
+use Rattle.store.specs.Claims.{Owed, DuesFrom}
 use Rattle.store.specs.Decode.{decode, content}
 use Rattle.store.specs.Fronts.{Fronts}
 use Rattle.store.specs.Held.{Held, file}
@@ -19,9 +21,9 @@ use Rattle.store.specs.Inner.{book_file, known, store_file, behind, room_answer}
 use Rattle.store.specs.Layout.{Bytes, encode_index, encode_text}
 use Rattle.store.specs.Shares.{Content}
 use Rattle.store.specs.Store.{Done, on_lines, store_attempt}
-use Rattle.store.specs.Table.{FilesLine}
+use Rattle.store.specs.Table.{FilesLine, Stocks}
 use Rattle.store.proofs.BoolLaws.{true-false}
-use Rattle.store.proofs.PartLaws.{Whole, whole}
+use Rattle.store.proofs.PartLaws.{Whole, whole, stock_owed}
 use Rattle.store.specs.declared.calls.SaveError.TheVariants as Sv
 use Rattle.store.specs.declared.table.Full.TheVariants as R
 use Rattle.store.specs.declared.calls.SaveError.{SaveError}
@@ -51,7 +53,7 @@ module _ (i t : List ℕ) (h : Held) where
       go (Err R.Index) = refl
       go (Err R.Text) = refl
 
-  pub file_sound : (g : List ℕ) (p : ℕ) → Fronts i g p → Bytes i → known (content i t) ≡ true → (d : Dues) (r : Result ⊤ Full)
+  file_sound : (g : List ℕ) (p : ℕ) → Fronts i g p → Bytes i → known (content i t) ≡ true → (d : Dues) (r : Result ⊤ Full)
       → (part t' : List ℕ) → FilesLine d (drop p i) t h r part t'
       → ((hs : List Held) → decode (drop p i) t ≡ some hs → Owed g h.key.owner hs d)
       → record { answer = room_answer r; index = take p i ++ part; text = t' } ≡ store_file i t h
@@ -73,7 +75,7 @@ module _ (i t : List ℕ) (h : Held) where
       (λ c. book_file (caller (length i) (length t) c.shares h.key.owner) c.held h)) a.is)
 
   -- the part is lent, and given back
-  pub file_lent : (g : List ℕ) (p : ℕ) → Fronts i g p → Bytes i → known (content i t) ≡ true → (d : Dues) (r : Result ⊤ Full)
+  file_lent : (g : List ℕ) (p : ℕ) → Fronts i g p → Bytes i → known (content i t) ≡ true → (d : Dues) (r : Result ⊤ Full)
       → (part t' : List ℕ) → FilesLine d (mid_of p (length i - p) i) t h r part t'
       → ((hs : List Held) → decode (mid_of p (length i - p) i) t ≡ some hs → Owed g h.key.owner hs d)
       → (a : Result ⊤ SaveError) → a ≡ room_answer r
@@ -82,6 +84,15 @@ module _ (i t : List ℕ) (h : Held) where
       ap₂ (λ (x : Result ⊤ SaveError) (y : List ℕ). record { answer = x; index = y; text = t' }) ea (tail_back p i part)
       ∙ file_sound g p f b k d r part t' (subst (λ (q : List ℕ). FilesLine d q t h r part t') (tail_part p i) w)
       (λ hs e. owed hs (ap (λ (q : List ℕ). decode q t) (tail_part p i) ∙ e))
+
+  -- in a store of which stock is taken
+  pub file_stocked : (l : Ledger) (s : Stock) (w : Stocks i t l s) (b : Bytes i) (d : Dues)
+      → DuesFrom l.table.rows s.fill l.shares h.key.owner d → (r : Result ⊤ Full) (part t' : List ℕ)
+      → FilesLine d (mid_of s.front (length i - s.front) i) t h r part t' → (a : Result ⊤ SaveError)
+      → a ≡ room_answer r
+      → record { answer = a; index = put_mid s.front (length i - s.front) i part; text = t' } ≡ store_file i t h
+  file_stocked l s w b d f r part t' y =
+      file_lent l.shares s.front w.front b w.is d r part t' y (stock_owed i t l s w b h.key.owner d f)
 
   -- a save that gets as far answers by what filing answers: v when the line is filed
   module _ {B : Type 0} (refuse : SaveError → B) (v : B) where

@@ -10,7 +10,7 @@ use native.Mathlib.Omega.{arith}
 use lib.Dec.{ltb}
 use lib.ListN.{length, get_or, set, take, drop, replicate, length-append, length-set}
 use lib.Seq.{take_at, drop_at, take-set-le, drop-set-lt, get_or-set_same}
-use borrow.Author.Tests.{lt-ltb, le-ltb, ltb-false}
+use borrow.Author.Tests.{lt-ltb, le-ltb}
 use borrow.Rule.Slice.PartMut.{put_mid, mid_of}
 use Rattle.text.proofs.LentLaws.{tail_part, tail_back}
 use Rattle.text.specs.Bytes.{pick}
@@ -19,48 +19,29 @@ use Rattle.store.specs.Fronts.{Changes, Changed}
 use Rattle.store.specs.Held.{Held}
 use Rattle.store.specs.Inner.{sizes}
 use Rattle.store.specs.Layout.{records, share_bytes, share_records, padded, encode_index}
-use Rattle.store.specs.Settings.{UsedBy, Weighs, Weighed, Writes}
-use Rattle.store.specs.Shares.{use_of, larger, claims, share_size, share_sizes}
-use Rattle.store.proofs.ClaimLaws.{one_least}
+use Rattle.store.specs.Settings.{UsedBy, Weighed, Writes}
+use Rattle.store.specs.Shares.{claims, share_size, share_sizes}
 use Rattle.store.proofs.ShareLaws.{length_shares}
-use Rattle.store.specs.declared.table.Full.TheVariants as R
-use Rattle.store.specs.declared.table.Full.{Full}
+use Rattle.store.specs.declared.calls.StoreError.TheVariants as E
+use Rattle.store.specs.declared.calls.StoreError.{StoreError}
 
 -- ---- `share_room`
 
-pub larger_share : (u b : ℕ) → b ≤ larger u b
-larger_share u b = go (ltb u b) refl
-  where
-    go : (c : Bool) → ltb u b ≡ c → b ≤ pick c b u
-    go true e = omega arith
-    go false e = ltb-false u b e
-
 module _ (a : List Row) (n : ℕ) (g : List ℕ) (m i end : ℕ) where
-  weighed : (r : Result ⊤ Full) (x y : Bool)
+  weighed : (r : Result ⊤ StoreError) (x y : Bool)
       → ((hs : List Held) → UsedBy a n hs → ltb m (claims g hs) ≡ x) → ltb i end ≡ y
-      → r ≡ pick x (Err R.Text) (pick y (Err R.Index) (Ok tt)) → Weighed a n g m i end r
+      → r ≡ pick x (Err E.ShareTooLarge) (pick y (Err E.NoRoom) (Ok tt)) → Weighed a n g m i end r
   weighed r x y ex ey e hs u =
-      e ∙ ap₂ (λ (v w : Bool). pick v (Err R.Text) (pick w (Err R.Index) (Ok tt))) (sym (ex hs u)) (sym ey)
-
-  pub room_bytes : (bytes : ℕ) → Weighs a n g bytes m → m < bytes → Weighed a n g m i end (Err R.Text)
-  room_bytes bytes w l =
-      weighed (Err R.Text) true (ltb i end)
-      (λ hs u. lt-ltb m (claims g hs) (omega (
-        arith,
-        l,
-        w.is,
-        larger_share (use_of w.owner hs) (get_or g w.owner 0),
-        one_least w.owner g hs w.has,
-      ))) refl refl
+      e ∙ ap₂ (λ (v w : Bool). pick v (Err E.ShareTooLarge) (pick w (Err E.NoRoom) (Ok tt))) (sym (ex hs u)) (sym ey)
 
   module _ (sum : ℕ) (s : (hs : List Held) → UsedBy a n hs → sum ≡ claims g hs) where
-    pub room_text : m < sum → Weighed a n g m i end (Err R.Text)
+    pub room_text : m < sum → Weighed a n g m i end (Err E.ShareTooLarge)
     room_text l =
-        weighed (Err R.Text) true (ltb i end) (λ hs u. lt-ltb m (claims g hs) (omega (arith, l, s hs u))) refl refl
+        weighed (Err E.ShareTooLarge) true (ltb i end) (λ hs u. lt-ltb m (claims g hs) (omega (arith, l, s hs u))) refl refl
 
-    pub room_index : sum ≤ m → i < end → Weighed a n g m i end (Err R.Index)
+    pub room_index : sum ≤ m → i < end → Weighed a n g m i end (Err E.NoRoom)
     room_index l k =
-        weighed (Err R.Index) false true (λ hs u. le-ltb m (claims g hs) (omega (arith, l, s hs u))) (lt-ltb i end k) refl
+        weighed (Err E.NoRoom) false true (λ hs u. le-ltb m (claims g hs) (omega (arith, l, s hs u))) (lt-ltb i end k) refl
 
     pub room_fits : sum ≤ m → end ≤ i → Weighed a n g m i end (Ok tt)
     room_fits l k =

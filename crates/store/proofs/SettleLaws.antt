@@ -171,9 +171,6 @@ module _ {i t s : List ℕ} {a : List Row} {old c : ℕ} {i' t' : List ℕ} {at 
     pub fits_index : at + length (record_bytes (key_in a k) off (len_in a k)) ≤ length i'
     fits_index = omega (arith, place-next, w.index_long, sizes_within w.tabled (k + 1) (omega arith))
 
-    pub fits_size : (size : ℕ) → Sized (key_in a k) size → at + size ≤ length i'
-    fits_size size z = omega (arith, fits_index, z off len)
-
     pub fits_text : off + len_in a k ≤ length t'
     fits_text = omega (arith, used_next, w.text_long, texts_within w.tabled (k + 1) (omega arith))
 

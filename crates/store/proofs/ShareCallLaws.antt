@@ -2,41 +2,41 @@
 -- Assumes nothing.
 use Rattle.std.specs.Prelude.{Result, Ok, Err, ⊤}
 use mathlib.Core.Bool.{Bool, true, false}
-use mathlib.Core.List.{List, []}
+use mathlib.Core.List.{List}
 use mathlib.Core.Option.{Option, none, some}
 use mathlib.Core.Path.{◌≡◌, refl, sym, ap, ap₂, ◌∙◌, subst}
 use Prim.Native.Nat.{ℕ, ◌+◌, ◌-◌, ◌≤◌, ◌<◌}
 use native.Mathlib.Omega.{arith}
-use lib.Dec.{eqb, ltb}
-use lib.ListN.{length, get_or, set, drop, length-set, length-drop}
-use lib.Seq.{get_or-set_same, get_or-set_other, set_out}
-use borrow.Author.Tests.{ltb-true, ltb-false, eqb-true, eqb-false}
+use lib.Dec.{ltb}
+use lib.ListN.{length, get_or, set, length-set, length-drop}
+use lib.Seq.{get_or-set_same}
+use borrow.Author.Tests.{lt-ltb, ltb-false}
 use Rattle.text.specs.Bytes.{pick}
 use Rattle.store.specs.declared.rows.Row.{Row}
+use Rattle.store.specs.declared.soundness.Ledger.{Ledger}
 use Rattle.store.specs.declared.soundness.Stock.{Stock}
-use Rattle.store.specs.Book.{record_sizes, by_room, setting, over_text, over_index, book_share}
+use Rattle.store.specs.Book.{record_sizes, setting, over_text, over_index, book_share}
 use Rattle.store.specs.Claims.{Addable}
 use Rattle.store.specs.Decode.{content}
 use Rattle.store.specs.Held.{index_max, text_max}
 use Rattle.store.specs.Inner.{known, sizes}
 use Rattle.store.specs.Layout.{Bytes, Given, encode_index, encode_text}
-use Rattle.store.specs.Settings.{UsedBy, Weighs, Writes}
+use Rattle.store.specs.Settings.{UsedBy, Weighed, Writes, Writable, Written}
 use Rattle.store.specs.Shares.{owners, Content, use_of, claims, share_size, share_sizes, with_share}
 use Rattle.store.specs.Store.{Done, unchanged, holding, on_shares, store_share, told_of, store_told}
-use Rattle.store.specs.Table.{Stocks, InRows}
+use Rattle.store.specs.Table.{Stocks}
 use Rattle.store.proofs.BoolLaws.{true-false}
-use Rattle.store.proofs.ClaimLaws.{one_least}
+use Rattle.store.proofs.ClaimLaws.{larger_share, one_least}
 use Rattle.store.proofs.EncodesLaws.{content_encodes}
 use Rattle.store.proofs.PartLaws.{ends}
-use Rattle.store.proofs.RoomLaws.{sizes_sum, index_not, text_not}
-use Rattle.store.proofs.SettingLaws.{larger_share, sizes-set}
+use Rattle.store.proofs.RoomLaws.{sizes_sum}
+use Rattle.store.proofs.SettingLaws.{sizes-set}
+use Rattle.store.proofs.ShareBufferLaws.{size_most}
 use Rattle.store.proofs.ShareLaws.{given_front}
-use Rattle.store.proofs.SurveyLaws.{Holds, sound_holds}
+use Rattle.store.proofs.SurveyLaws.{Holds, stock_holds, stock_rows}
 use Rattle.store.proofs.UseLaws.{tabled_use, tabled_addable}
 use Rattle.store.specs.declared.calls.StoreError.TheVariants as E
-use Rattle.store.specs.declared.table.Full.TheVariants as R
 use Rattle.store.specs.declared.calls.StoreError.{StoreError}
-use Rattle.store.specs.declared.table.Full.{Full}
 
 -- ---- the store, its shares and lines written down
 
@@ -53,14 +53,12 @@ pub record Stocked (i t g : List ℕ) (a : List Row) (r : Stock) : Type 0 where
   pub index_most : length i ≤ index_max
   pub text_most : length t ≤ text_max
 
-pub stocked : (i t g : List ℕ) (a : List Row) (heads next : List ℕ) (r : Stock) → Bytes i → Stocks i t g a heads next r
-    → Stocked i t g a r
-stocked i t g a heads next r b s =
+pub stocked : (i t : List ℕ) (l : Ledger) (r : Stock) → Bytes i → Stocks i t l r → Stocked i t l.shares l.table.rows r
+stocked i t l r b s =
     let p = s.front in
-    let h : Holds i t g r.front = sound_holds i t g r.front p s.is in
-    let x : InRows (drop r.front i) t [] a heads next r.fill.count r.fill h.all.held
-    = s.loads.0 t [] h.all.held h.lines in
-    let at : r.front ≡ share_sizes g = ends i t g r.front p b in
+    let h : Holds i t l.shares r.front = stock_holds i t l r s in
+    let x = stock_rows i t l r s in
+    let at : r.front ≡ share_sizes l.shares = ends i t l.shares r.front p b in
     record {
       all = h.all;
       is = h.is;
@@ -94,23 +92,6 @@ module _ (i t : List ℕ) (o : ℕ) where
 
 -- ---- `set_share`
 
-pub set_given : (g : List ℕ) (o b : ℕ) → Given g → b ≤ 65535 → Given (set g o b)
-set_given g o b v l = record { each = length-set g o b ∙ v.each; two = λ q. go q (eqb q o) refl }
-  where
-    within : (q : ℕ) (c : Bool) → ltb o (length g) ≡ c → get_or (set g o b) o 0 ≤ 65535
-    within q true e = omega (arith, get_or-set_same g o b 0 (ltb-true o (length g) e), l)
-    within q false e =
-        omega (
-          arith,
-          ap (λ (x : List ℕ). get_or x o 0) (set_out g o b (ltb-false o (length g) e)),
-          v.two o,
-        )
-
-    go : (q : ℕ) (c : Bool) → eqb q o ≡ c → get_or (set g o b) q 0 ≤ 65535
-    go q true e =
-        subst (λ (k : ℕ). get_or (set g o b) k 0 ≤ 65535) (sym (eqb-true q o e)) (within q (ltb o (length g)) refl)
-    go q false e = omega (arith, get_or-set_other g o q b 0 (eqb-false q o e), v.two q)
-
 pub share_unsound : (i t : List ℕ) (o b : ℕ) → known (content i t) ≡ false
     → record { answer = Err E.Unsound; index = i; text = t } ≡ store_share i t o b
 unfolding store_share
@@ -122,27 +103,27 @@ share_unsound i t o b e = go (content i t) e
     go none q = refl
     go (some c) q = absurd (true-false q)
 
+-- what a setting leaves by its answer: another index where it is done
+abbrev leaves : List ℕ → List ℕ → List ℕ → Result ⊤ StoreError → Done (Result ⊤ StoreError)
+leaves i t i' (Ok u) = record { answer = Ok tt; index = i'; text = t }
+leaves i t i' (Err x) = unchanged i t (Err x)
+
 module _ (i t : List ℕ) (y : Bytes i) (c : Content) (e : content i t ≡ some c) (o b : ℕ) where
   abbrev later : List ℕ
   later = set c.shares o b
 
-  -- what comes of the room there is
-  pub share_by : (end : ℕ) → end ≡ share_sizes later + record_sizes c.held → (r : Result ⊤ Full)
-      → r ≡ pick (ltb (length t) (claims later c.held)) (Err R.Text) (pick (ltb (length i) end) (Err R.Index) (Ok tt))
-      → by_room r (unchanged i t (Err E.NoRoom)) (unchanged i t (Err E.ShareTooLarge))
-      (record { answer = Ok tt; index = encode_index (length i) later c.held; text = t })
-      ≡ store_share i t o b
+  share_by : (end : ℕ) → end ≡ share_sizes later + record_sizes c.held → (r : Result ⊤ StoreError)
+      → r ≡ pick (ltb (length t) (claims later c.held)) (Err E.ShareTooLarge)
+      (pick (ltb (length i) end) (Err E.NoRoom) (Ok tt))
+      → leaves i t (encode_index (length i) later c.held) r ≡ store_share i t o b
   unfolding store_share book_share over_text over_index
   share_by end n r q =
-      ap (λ (x : Result ⊤ Full). by_room x (unchanged i t (Err E.NoRoom)) (unchanged i t (Err E.ShareTooLarge)) done)
-      (q ∙ ap (λ (k : ℕ). pick (ltb (length t) (claims later c.held)) (Err R.Text)
-      (pick (ltb (length i) k) (Err R.Index) (Ok tt))) n)
+      ap (leaves i t (encode_index (length i) later c.held))
+      (q ∙ ap (λ (k : ℕ). pick (ltb (length t) (claims later c.held)) (Err E.ShareTooLarge)
+      (pick (ltb (length i) k) (Err E.NoRoom) (Ok tt))) n)
       ∙ go (ltb (length t) (claims later c.held)) (ltb (length i) (share_sizes later + record_sizes c.held))
       ∙ sym (ap (λ (x : Option Content). on_shares i t x (λ d. book_share (length i) (length t) d o b)) e)
     where
-      done : Done (Result ⊤ StoreError)
-      done = record { answer = Ok tt; index = encode_index (length i) later c.held; text = t }
-
       -- the buffers encode what is held
       index_kept : i ≡ encode_index (length i) c.shares c.held
       index_kept = (content_encodes i t c y e).index
@@ -154,8 +135,8 @@ module _ (i t : List ℕ) (y : Bytes i) (c : Content) (e : content i t ≡ some 
       kept a = ap₂ (λ (x z : List ℕ). record { answer = a; index = x; text = z }) index_kept text_kept
 
       go : (x z : Bool)
-          → by_room (pick x (Err R.Text) (pick z (Err R.Index) (Ok tt))) (unchanged i t (Err E.NoRoom))
-          (unchanged i t (Err E.ShareTooLarge)) done
+          → leaves i t (encode_index (length i) later c.held)
+          (pick x (Err E.ShareTooLarge) (pick z (Err E.NoRoom) (Ok tt)))
           ≡ holding i t (pick x (setting (Err E.ShareTooLarge) c) (pick z (setting (Err E.NoRoom) c)
           (setting (Ok tt) (with_share o b c)))).answer (pick x (setting (Err E.ShareTooLarge) c) (pick z (setting (Err E.NoRoom) c)
           (setting (Ok tt) (with_share o b c)))).content
@@ -165,87 +146,97 @@ module _ (i t : List ℕ) (y : Bytes i) (c : Content) (e : content i t ≡ some 
           ap (λ (z : List ℕ). record { answer = Ok tt; index = encode_index (length i) later c.held; text = z })
           text_kept
 
--- a setting of a store that is written down
-module _ (i t g : List ℕ) (a : List Row) (r : Stock) (w : Stocked i t g a r) (o b : ℕ) (lo : o < owners) where
+-- a setting of a store of which stock is taken
+module _ (i t : List ℕ) (l : Ledger) (r : Stock) (y : Bytes i) (s : Stocks i t l r) (o b : ℕ) (lo : o < owners) where
+  abbrev g : List ℕ
+  g = l.shares
+
+  abbrev g' : List ℕ
+  g' = set l.shares o b
+
+  w : Stocked i t l.shares l.table.rows r
+  w = stocked i t l r y s
+
   has : o < length g
   has = omega (arith, lo, w.given.each)
 
-  pub set_weighs : Weighs a r.fill.count (set g o b) b (length t)
-  set_weighs = record {
-    addable = w.addable;
-    given = λ l. set_given g o b w.given (omega (arith, l, w.text_most));
-    owner = o;
-    has = omega (arith, has, length-set g o b);
-    is = get_or-set_same g o b 0 has;
-  }
+  -- a share above the whole text
+  pub set_large : length t < b → unchanged i t (Err E.ShareTooLarge) ≡ store_share i t o b
+  set_large m =
+      let c = w.all in
+      let later : List ℕ = set c.shares o b in
+      let n : o < length later = omega (arith, has, ap length w.shares, length-set c.shares o b) in
+      let k : length t < claims later c.held
+      = omega (
+        arith,
+        m,
+        one_least o later c.held n,
+        larger_share (use_of o c.held) (get_or later o 0),
+        get_or-set_same c.shares o b 0 (omega (arith, has, ap length w.shares)),
+      ) in
+      share_by i t y c w.is o b _ refl (Err E.ShareTooLarge)
+      (sym (ap (λ (x : Bool). pick x (Err E.ShareTooLarge)
+      (pick (ltb (length i) (share_sizes later + record_sizes c.held)) (Err E.NoRoom) (Ok tt)))
+      (lt-ltb (length t) (claims later c.held) k)))
 
-  -- the place behind all records, once the share is set
-  module _ (x y : ℕ) (ex : x ≡ share_size b) (ey : y ≡ share_size (get_or g o 0)) where
-    abbrev end : ℕ
-    end = r.front + r.fill.end + x - y
+  module _ (fits : b ≤ length t) where
+    pub set_two : b ≤ 65535
+    set_two = omega (arith, fits, w.text_most)
 
-    pub end_less : y ≤ r.front + r.fill.end + x
-    end_less = omega (arith, sizes-set g o b has, w.front, ex, ey)
+    -- the place behind all records, once the share is set
+    module _ (p q : ℕ) (ep : p ≡ share_size b) (eq : q ≡ share_size (get_or g o 0)) where
+      abbrev end : ℕ
+      end = r.front + r.fill.end + p - q
 
-    end_sizes : end ≡ share_sizes (set g o b) + sizes 0 w.all.held
-    end_sizes = omega (arith, sizes-set g o b has, w.front, w.end, ex, ey)
+      pub end_most : r.front + r.fill.end + p ≤ 65539
+      end_most = omega (arith, w.front, w.end, w.fits, w.index_most, ep, size_most b)
 
-    module _ (y' : Bytes i) (m : Result ⊤ Full)
-        (em : m ≡ pick (ltb (length t) (claims (set g o b) w.all.held)) (Err R.Text)
-        (pick (ltb (length i) end) (Err R.Index) (Ok tt))) where
-      set-by : by_room m (unchanged i t (Err E.NoRoom)) (unchanged i t (Err E.ShareTooLarge))
-          (record { answer = Ok tt; index = encode_index (length i) (set g o b) w.all.held; text = t })
-          ≡ store_share i t o b
-      set-by =
-          ap (λ (q : List ℕ). by_room m (unchanged i t (Err E.NoRoom)) (unchanged i t (Err E.ShareTooLarge))
-          (record { answer = Ok tt; index = encode_index (length i) (set q o b) w.all.held; text = t }))
-          w.shares
-          ∙ share_by i t y' w.all w.is o b end
-          (end_sizes ∙ ap₂ (λ (q : List ℕ) (k : ℕ). share_sizes (set q o b) + k) w.shares
-          (sizes_sum w.all.held 0)) m
-          (em ∙ ap (λ (q : List ℕ). pick (ltb (length t) (claims (set q o b) w.all.held)) (Err R.Text)
-          (pick (ltb (length i) end) (Err R.Index) (Ok tt))) w.shares)
+      pub end_less : q ≤ r.front + r.fill.end + p
+      end_less = omega (arith, sizes-set g o b has, w.front, ep, eq)
 
-      -- in the three cases
-      abbrev by : Result ⊤ Full → Done (Result ⊤ StoreError)
-      by x = by_room x (unchanged i t (Err E.NoRoom)) (unchanged i t (Err E.ShareTooLarge))
-          (record { answer = Ok tt; index = encode_index (length i) (set g o b) w.all.held; text = t })
+      end_sizes : end ≡ share_sizes g' + sizes 0 w.all.held
+      end_sizes = omega (arith, sizes-set g o b has, w.front, w.end, ep, eq)
 
-      pub set_crowded : (x : Full) → m ≡ Err x → x ≡ R.Text → unchanged i t (Err E.ShareTooLarge) ≡ store_share i t o b
-      set_crowded v f z = sym (ap by (f ∙ ap (λ (x : Full). Err x) z)) ∙ set-by
+      module _ (m : Result ⊤ StoreError) (em : Weighed l.table.rows r.fill.count g' (length t) (length i) end m) where
+        set-by : leaves i t (encode_index (length i) g' w.all.held) m ≡ store_share i t o b
+        set-by =
+            ap (λ (v : List ℕ). leaves i t (encode_index (length i) (set v o b) w.all.held) m) w.shares
+            ∙ share_by i t y w.all w.is o b end
+            (end_sizes ∙ ap₂ (λ (v : List ℕ) (k : ℕ). share_sizes (set v o b) + k) w.shares
+            (sizes_sum w.all.held 0)) m
+            (em w.all.held w.used ∙ ap (λ (v : List ℕ). pick (ltb (length t) (claims (set v o b) w.all.held))
+            (Err E.ShareTooLarge) (pick (ltb (length i) end) (Err E.NoRoom) (Ok tt))) w.shares)
 
-      pub set_full : (x : Full) → m ≡ Err x → x ≡ R.Index → unchanged i t (Err E.NoRoom) ≡ store_share i t o b
-      set_full v f z = sym (ap by (f ∙ ap (λ (x : Full). Err x) z)) ∙ set-by
+        pub set_refused : (x : StoreError) → m ≡ Err x → unchanged i t (Err x) ≡ store_share i t o b
+        set_refused x f = sym (ap (leaves i t (encode_index (length i) g' w.all.held)) f) ∙ set-by
 
-      pub set-done : m ≡ Ok tt → (i' : List ℕ) → i' ≡ encode_index (length i) (set g o b) w.all.held
-          → record { answer = Ok tt; index = i'; text = t } ≡ store_share i t o b
-      set-done f i' e =
-          ap (λ (q : List ℕ). record { answer = Ok tt; index = q; text = t }) e ∙ sym (ap by f) ∙ set-by
+        fitting : (x z : Bool) → m ≡ pick x (Err E.ShareTooLarge) (pick z (Err E.NoRoom) (Ok tt)) → m ≡ Ok tt
+            → z ≡ false
+        fitting true z e f = absurd cc
+        fitting false true e f = absurd cc
+        fitting false false e f = refl
 
-      fitting : (p q : Bool) → m ≡ pick p (Err R.Text) (pick q (Err R.Index) (Ok tt)) → m ≡ Ok tt
-          → (p ≡ false) × (q ≡ false)
-      fitting true q e f = absurd (text_not (sym e ∙ f))
-      fitting false true e f = absurd (index_not (sym e ∙ f))
-      fitting false false e f = (refl, refl)
+        writes : m ≡ Ok tt → (had : ℕ) → had ≡ get_or g o 0 → Writes i g' o had b g w.all.held
+        writes f had eh =
+            let hs = w.all.held in
+            let z = fitting (ltb (length t) (claims g' hs)) (ltb (length i) end) (em hs w.used) f in
+            record {
+              index = (content_encodes i t w.all y w.is).index
+                  ∙ ap (λ (v : List ℕ). encode_index (length i) v hs) (sym w.shares);
+              owner = has;
+              former = eh;
+              later = refl;
+              fits = w.fits;
+              room = omega (arith, ltb-false (length i) end z, end_sizes);
+              most = set_two;
+            }
 
-      pub set_writes : m ≡ Ok tt → (had : ℕ) → had ≡ get_or g o 0 → Writes i (set g o b) o had b g w.all.held
-      set_writes f had eh =
-          let z = fitting (ltb (length t) (claims (set g o b) w.all.held)) (ltb (length i) end) em f in
-          let hs = w.all.held in
-          record {
-            index = (content_encodes i t w.all y' w.is).index
-                ∙ ap (λ (q : List ℕ). encode_index (length i) q hs) (sym w.shares);
-            owner = has;
-            former = eh;
-            later = refl;
-            fits = w.fits;
-            room = omega (arith, ltb-false (length i) end z.1, end_sizes);
-            most = omega (
-              arith,
-              ltb-false (length t) (claims (set g o b) hs) z.0,
-              w.text_most,
-              one_least o (set g o b) hs (omega (arith, has, length-set g o b)),
-              larger_share (use_of o hs) (get_or (set g o b) o 0),
-              get_or-set_same g o b 0 has,
-            );
-          }
+        pub set_writes : m ≡ Ok tt → (had : ℕ) → had ≡ get_or g o 0
+            → Writable i g' o had b
+        set_writes f had eh = (g, (w.all.held, writes f had eh))
+
+        pub set-done : m ≡ Ok tt → (had : ℕ) → had ≡ get_or g o 0 → (i' : List ℕ) → Written i g' o had b i'
+            → record { answer = Ok tt; index = i'; text = t } ≡ store_share i t o b
+        set-done f had eh i' v =
+            ap (λ (x : List ℕ). record { answer = Ok tt; index = x; text = t }) (v g w.all.held (writes f had eh))
+            ∙ sym (ap (leaves i t (encode_index (length i) g' w.all.held)) f) ∙ set-by

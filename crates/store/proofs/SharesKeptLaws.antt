@@ -7,9 +7,8 @@ use mathlib.Core.List.{List, ◌∷◌, ◌++◌}
 use mathlib.Core.Path.{◌≡◌, refl, sym, ap, subst, ◌∙◌}
 use Prim.Native.Nat.{ℕ, suc, ◌≤◌, ◌<◌}
 use native.Mathlib.Omega.{arith}
-use lib.Dec.{ltb}
 use lib.ListN.{length, get_or}
-use borrow.Author.Tests.{ltb-false, le-ltb}
+use borrow.Author.Tests.{le-ltb}
 use Rattle.text.specs.Bytes.{pick}
 use Rattle.text.specs.Utf8.{is_utf8}
 use Rattle.text.specs.declared.uuid.Spelled.{Spelled}
@@ -17,7 +16,7 @@ use Rattle.store.specs.declared.calls.Inserted.{Inserted}
 use Rattle.store.specs.declared.calls.Tally.{Tally}
 use Rattle.store.specs.Parties.{owner_of, Named}
 use Rattle.store.specs.Held.{Held, file, index_max, text_max, line_max}
-use Rattle.store.specs.Shares.{use_of, larger, claims}
+use Rattle.store.specs.Shares.{use_of, claims}
 use Rattle.store.specs.Lines.{lines_of, wanted}
 use Rattle.store.specs.Refusals.{number}
 use Rattle.store.specs.Book.{Caller, no_index_of, no_text, room_for, by_room, Turn, under, insert_turn, insert_lines}
@@ -26,7 +25,7 @@ use Rattle.store.specs.Saves.{SaveCall, Passes, refused_save, saving}
 use Rattle.store.specs.Guarantee.{Calls, booked, book_lines, caller_after, next, built_held, built_save}
 use Rattle.store.specs.SharesKept.{share_after, AllKept}
 use Rattle.store.proofs.BookLaws.{owner_byte, Fits, keeps_lines, fits_lines}
-use Rattle.store.proofs.ClaimLaws.{not_of-file, claims_swap}
+use Rattle.store.proofs.ClaimLaws.{larger_most, larger_share, not_of-file, claims_swap}
 use Rattle.store.proofs.Saves.{builds, whole_guarantee}
 use Rattle.store.proofs.StoreLaws.{still_fits}
 use Rattle.store.proofs.WalkLaws.{count_least}
@@ -36,20 +35,6 @@ use Rattle.store.specs.declared.table.Full.TheVariants as R
 use Rattle.store.specs.declared.table.Full.{Full}
 
 -- ---- one filing
-
-larger_within : (used share : ℕ) → used ≤ share → larger used share ≤ share
-larger_within used share l = go (ltb used share) refl
-  where
-    go : (t : Bool) → ltb used share ≡ t → pick t share used ≤ share
-    go true e = omega arith
-    go false e = l
-
-larger_least : (used share : ℕ) → share ≤ larger used share
-larger_least used share = go (ltb used share) refl
-  where
-    go : (t : Bool) → ltb used share ≡ t → share ≤ pick t share used
-    go true e = omega arith
-    go false e = ltb-false used share e
 
 module _ (c : Caller) (h : Held) (hs : List Held) (byte : h.key.owner < length c.shares)
     (before : claims c.shares hs ≤ c.text)
@@ -64,8 +49,8 @@ module _ (c : Caller) (h : Held) (hs : List Held) (byte : h.key.owner < length c
   no_more = omega (
     arith,
     claims_swap o c.shares hs (file h hs) byte (not_of-file h hs),
-    larger_within (use_of o (file h hs)) share within,
-    larger_least (use_of o hs) share,
+    larger_most (use_of o (file h hs)) share share within (omega arith),
+    larger_share (use_of o hs) share,
   )
 
   enough : no_text c h hs ≡ false

@@ -17,7 +17,7 @@ use Rattle.store.specs.Inner.{known}
 use Rattle.store.specs.Held.{Held, distinct, index_max, text_max}
 use Rattle.store.specs.Layout.{Bytes}
 use Rattle.store.specs.Inner.{Once}
-use Rattle.store.proofs.BoolLaws.{and_both, and_false_left, and_false_right}
+use Rattle.store.proofs.BoolLaws.{and_both, and_false_right}
 use Rattle.store.proofs.DecodeLaws.{walk_end, walk_on, walk_rows}
 use Rattle.store.proofs.RecordLaws.{head_within, Fits, fits_of}
 
@@ -110,9 +110,6 @@ module _ (i t : List ℕ) where
   oversized : leb (length i) index_max && leb (length t) text_max ≡ false → known (decode i t) ≡ false
   unfolding decode
   oversized e = rw e
-
-  pub sound_index : index_max < length i → known (decode i t) ≡ false
-  sound_index l = oversized (and_false_left _ _ (lt-leb _ index_max l))
 
   pub sound_text : text_max < length t → known (decode i t) ≡ false
   sound_text l = oversized (and_false_right (leb (length i) index_max) _ (lt-leb _ text_max l))

@@ -1,12 +1,15 @@
 -- The loop of `survey`: it goes as `walk` does, writes the lines down, and tells whether a key stands twice.
 -- Assumes nothing.
-use Rattle.std.specs.Prelude.{Option as Optional, Some, None, is_some, IsSome}
+use Rattle.std.proofs.lemmas.Result.{err_from_is_err_and}
+use Rattle.std.specs.Prelude.{Option as Optional, Some, None, Result, Err, is_some, IsSome, ok_or, IsErrAnd}
 use mathlib.Core.Bool.{Bool, true, false, ◌&&◌}
-use mathlib.Core.List.{List}
+use mathlib.Core.List.{List, []}
 use mathlib.Core.Option.{Option, none, some}
 use mathlib.Core.Path.{◌≡◌, refl, sym, ap, ◌∙◌, subst}
 use Prim.Native.Nat.{ℕ, suc, ◌+◌, ◌-◌, ◌≤◌, ◌<◌}
 use native.Mathlib.Omega.{arith}
+use borrow.Rule.Slice.PartMut.{mid_of}
+use Rattle.text.proofs.LentLaws.{tail_part}
 use lib.ListN.{length, drop, length-drop}
 use borrow.Author.Tests.{le-leb, lt-leb}
 use Rattle.text.specs.Bytes.{pick}
@@ -17,18 +20,20 @@ use Rattle.store.specs.declared.records.Head.{Head}
 use Rattle.store.specs.declared.table.Fill.{Fill}
 use Rattle.store.specs.declared.soundness.Stock.{Stock}
 use Rattle.store.specs.declared.soundness.Surveyed.{Surveyed}
+use Rattle.store.specs.declared.soundness.Ledger.{Ledger}
 use Rattle.store.specs.Decode.{no_head, head_at, head_fits, walk, decode, zeroes, fronted, with_lines, content}
 use Rattle.store.specs.Held.{Held, index_max, text_max, record_size}
 use Rattle.store.specs.Layout.{Bytes}
 use Rattle.store.specs.Fronts.{Fronts}
 use Rattle.store.specs.Shares.{Content}
-use Rattle.store.specs.Inner.{known}
+use Rattle.store.specs.Inner.{HasRecord, known}
 use Rattle.store.specs.Keys.{rows_max, Says, told_of, Chained, Sought}
 use Rattle.store.specs.Rows.{key_in, row_put, Long}
-use Rattle.store.specs.Table.{Loads, Surveys, OnceSurveyed, OnceStocked}
+use Rattle.store.specs.Table.{InRows, Loads, Surveys, OnceSurveyed, Stocks, OnceStocked}
 use Rattle.store.proofs.BoolLaws.{true-false}
 use Rattle.store.proofs.ChainLaws.{says-turn, says_agree}
 use Rattle.store.proofs.DecodeLaws.{laid, lines_of_lem}
+use Rattle.store.proofs.HeadLaws.{whole_size}
 use Rattle.store.proofs.LoadLaws.{Loading, load-first, load_less, load_end, load-turn}
 use Rattle.store.proofs.OnceLaws.{list_end}
 use Rattle.store.proofs.RecordLaws.{Fits, fits_of, size_least}
@@ -52,15 +57,22 @@ survey_first i t a heads next m l c = record {
   says = λ x y p q e. omega arith;
 }
 
-module _ (i t : List ℕ) (at : ℕ) (a : List Row) (heads next : List ℕ) (n used : ℕ) (v : Verdict)
+module _ {i t : List ℕ} {at : ℕ} {a : List Row} {heads next : List ℕ} {n used : ℕ} {v : Verdict}
     (w : Surveying i t at a heads next n used v) where
   pub survey_less : n < rows_max
   survey_less = load_less i at a heads next n used w.loading
 
+  -- the rest of the index, as it is lent
+  abbrev rest : List ℕ
+  rest = mid_of at (length i - at) i
+
   -- behind the last record
-  module _ (e : no_head ≡ head_at (drop at i)) (b : Bool) (q : b ≡ zeroes (drop at i) && zeroes (drop used t)) where
+  module _ (e' : no_head ≡ head_at rest) (b : Bool) (q : b ≡ zeroes (drop at i) && zeroes (drop used t)) where
+    none_at : no_head ≡ head_at (drop at i)
+    none_at = e' ∙ ap head_at (tail_part at i)
+
     tail_is : b ≡ known (walk (suc (length i)) 0 i t)
-    tail_is = q ∙ sym (walking_end i t _ at used w.walks no_head e refl)
+    tail_is = q ∙ sym (walking_end i t _ at used w.walks no_head none_at refl)
 
     pub survey_tail : b ≡ false → known (walk (suc (length i)) 0 i t) ≡ false
     survey_tail z = sym tail_is ∙ z
@@ -72,13 +84,20 @@ module _ (i t : List ℕ) (at : ℕ) (a : List Row) (heads next : List ℕ) (n u
       most = survey_less;
       says = w.says;
       chained = w.loading.chained;
-      lists = list_end i at a n w.loading.listing no_head e refl;
-      loads = load_end i at a heads next n used w.loading no_head e refl y;
+      lists = list_end i at a n w.loading.listing no_head none_at refl;
+      loads = load_end i at a heads next n used w.loading no_head none_at refl y;
     }
 
-  module _ (head : Head) (e : head ≡ head_at (drop at i)) (s : head.size ≡ record_size head.key.owner) (b : Bool)
+  -- at a whole record
+  module _ (whole : HasRecord rest) (head : Head) (e' : head ≡ head_at rest) (b : Bool)
       (fit : b ≡ head_fits used head (length t - used)) where
-    some_size : head.size ≡ 0 → ⊥
+    e : head ≡ head_at (drop at i)
+    e = e' ∙ ap head_at (tail_part at i)
+
+    s : head.size ≡ record_size head.key.owner
+    s = whole_size rest whole head e'
+
+    pub some_size : head.size ≡ 0 → ⊥
     some_size z = omega (arith, s, (size_least head.key.owner).0)
 
     pub survey_bad : b ≡ false → known (walk (suc (length i)) 0 i t) ≡ false
@@ -176,11 +195,29 @@ pub survey_of : (i t : List ℕ) (a : List Row) (heads next : List ℕ) (o : Opt
     → (r : Surveyed) → o ≡ Some r → Surveys i t a heads next r
 survey_of i t a heads next o w r e = subst (OnceSurveyed i t a heads next) e w
 
-pub stocked_is : (i t g : List ℕ) (a : List Row) (heads next : List ℕ) (o : Optional Stock)
-    → OnceStocked i t g a heads next o
+pub stocked_is : (i t : List ℕ) (l : Ledger) (o : Optional Stock) → OnceStocked i t l o
     → is_some o ≡ known (content i t)
-stocked_is i t g a heads next None w = sym w
-stocked_is i t g a heads next (Some r) w = sym w.is
+stocked_is i t l None w = sym w
+stocked_is i t l (Some r) w = sym w.is
+
+-- what `?` hands on where none is told as the error x
+pub stock_refused : {A E : Type 0} (i t : List ℕ) (l : Ledger) (o : Optional Stock) → OnceStocked i t l o
+    → (x y : E) → Err y ≡ ok_or o x → (r : Result A E) → IsErrAnd r (λ e. e ≡ y)
+    → (r ≡ Err x) × (known (content i t) ≡ false)
+stock_refused i t l None w x y e r f =
+    let p = err_from_is_err_and r f in
+    let q : y ≡ x = cc in
+    (p.1 ∙ ap (λ z. Err z) (p.2 ∙ q), w)
+stock_refused i t l (Some s) w x y e r f = absurd cc
+
+-- what a sound store holds is written down
+module _ (i t : List ℕ) (l : Ledger) (s : Stock) (w : Stocks i t l s) where
+  pub stock_holds : Holds i t l.shares s.front
+  stock_holds = sound_holds i t l.shares s.front w.front w.is
+
+  pub stock_rows : InRows (drop s.front i) t [] l.table.rows l.table.heads l.table.next s.fill.count s.fill
+      stock_holds.all.held
+  stock_rows = w.loads.0 t [] stock_holds.all.held stock_holds.lines
 
 -- the records of a sound store are whole
 pub walk_of : (i t : List ℕ) → Bytes i → known (decode i t) ≡ true → known (walk (suc (length i)) 0 i t) ≡ true

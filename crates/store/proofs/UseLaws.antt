@@ -9,11 +9,11 @@ use Prim.Native.Nat.{ℕ, zero, suc, ◌+◌, ◌-◌, ◌*◌, ◌≤◌, ◌<�
 use native.Mathlib.Nat.{zero-add, add-zero, add_assoc}
 use native.Mathlib.Numerals.{add-one}
 use native.Mathlib.Omega.{arith}
-use lib.Dec.{eqb, ltb}
-use lib.ListN.{length, get_or, set, drop, length-replicate, get_or-replicate, length-set, get_or-eq_default}
+use lib.Dec.{eqb}
+use lib.ListN.{length, get_or, set, drop, length-replicate, get_or-replicate, length-set}
 use lib.Seq.{get_or-set_same, get_or-set_other, drop-cons, drop-length}
 use borrow.Author.Count.{below_more}
-use borrow.Author.Tests.{eqb-true, eqb-false, eq-eqb, ne_eqb, ltb-true, ltb-false}
+use borrow.Author.Tests.{eqb-true, eqb-false, eq-eqb, ne_eqb}
 use Rattle.text.specs.Bytes.{pick}
 use Rattle.store.specs.declared.rows.Row.{Row}
 use Rattle.store.specs.declared.claims.Dues.{Dues}
@@ -191,12 +191,14 @@ module _ (a : List Row) (n : ℕ) (w : Addable a n) where
       let z : k ≡ n = omega (arith, x.within) in
       subst (λ (m : ℕ). Adds a m u) z x.adds
 
-  pub adds_given : (u : List ℕ) → Adds a n u → Given u
-  adds_given u x = record { each = x.0; two = λ o. go o (ltb o owners) refl }
-    where
-      go : (o : ℕ) (b : Bool) → ltb o owners ≡ b → get_or u o 0 ≤ 65535
-      go o true e = omega (arith, x.1 o (ltb-true o owners e), row_use_most o a n, w.fit)
-      go o false e = omega (arith, get_or-eq_default u 0 {n = o} (omega (arith, x.0, ltb-false o owners e)))
+-- a use is within the text's most bytes
+pub use_most : (a : List Row) (n : ℕ) → Addable a n → (u : List ℕ) → Adds a n u → (o : ℕ) → o < owners
+    → get_or u o 0 ≤ text_max
+use_most a n w u x o l = omega (arith, x.1 o l, row_use_most o a n, w.fit)
+
+-- 256 numbers of two bytes are shares, or uses
+pub words_given : (g : List ℕ) → length g ≡ owners → ((o : ℕ) → get_or g o 0 < 65536) → Given g
+words_given g e f = record { each = e; two = λ o. omega (arith, f o) }
 
 -- those uses are the lines'
 pub adds_uses : (a : List Row) (n : ℕ) (u : List ℕ) (hs : List Held) → Adds a n u

@@ -16,8 +16,10 @@ use Rattle.store.specs.Shares.{share_sizes}
 use Rattle.store.specs.Book.{Caller, caller, room_for, by_room, Turn, turn, files, Saving}
 use Rattle.store.specs.Store.{Done, on_lines}
 use Rattle.store.specs.Saves.{refused_save, accepted_save}
+use Rattle.store.specs.declared.calls.StoreError.TheVariants as E
 use Rattle.store.specs.declared.calls.SaveError.TheVariants as Sv
 use Rattle.store.specs.declared.table.Full.TheVariants as R
+use Rattle.store.specs.declared.calls.StoreError.{StoreError}
 use Rattle.store.specs.declared.calls.SaveError.{SaveError}
 use Rattle.store.specs.declared.table.Full.{Full}
 
@@ -119,11 +121,19 @@ store_file i t h =
     on_lines i t (content i t) (Err Sv.Unsound)
     (λ c. book_file (caller (length i) (length t) c.shares h.key.owner) c.held h)
 
--- `room_answer`: what filing a line answers by its room
+-- what an insert and a save say where there is no room
+abbrev pub insert_full : Full → StoreError
+insert_full R.Index = E.NoRoom
+insert_full R.Text = E.NoText
+
+abbrev pub save_full : Full → SaveError
+save_full R.Index = Sv.NoRoom
+save_full R.Text = Sv.NoText
+
+-- what a save answers by the room for its line
 abbrev pub room_answer : Result ⊤ Full → Result ⊤ SaveError
 room_answer (Ok u) = Ok tt
-room_answer (Err R.Index) = Err Sv.NoRoom
-room_answer (Err R.Text) = Err Sv.NoText
+room_answer (Err f) = Err (save_full f)
 
 -- `saved_as`: what a save answers by what filing its line answers
 abbrev pub said_by : Mapping → Result ⊤ SaveError → Saved

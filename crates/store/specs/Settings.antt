@@ -5,11 +5,11 @@ use Rattle.text.specs.Bytes.{pick}
 use Rattle.store.specs.declared.rows.Row.{Row}
 use Rattle.store.specs.Held.{Held}
 use Rattle.store.specs.Shares.{owners, share_sizes, use_of, claims}
-use Rattle.store.specs.Layout.{Given, encode_index}
+use Rattle.store.specs.Layout.{encode_index}
 use Rattle.store.specs.Inner.{sizes}
-use Rattle.store.specs.Claims.{Addable, row_use}
-use Rattle.store.specs.declared.table.Full.TheVariants as R
-use Rattle.store.specs.declared.table.Full.{Full}
+use Rattle.store.specs.Claims.{row_use}
+use Rattle.store.specs.declared.calls.StoreError.TheVariants as E
+use Rattle.store.specs.declared.calls.StoreError.{StoreError}
 
 -- the first n rows are those of the lines hs, as far as uses tell
 abbrev pub UsedBy : List Row → ℕ → List Held → Type 0
@@ -19,19 +19,11 @@ UsedBy a n hs = (q : ℕ) → q < owners → row_use q a n ≡ use_of q hs
 abbrev pub ClaimsWith : List Row → ℕ → List ℕ → ℕ → Type 0
 ClaimsWith a n g r = (hs : List Held) → UsedBy a n hs → r ≡ claims g hs
 
--- `share_room`: some party's share among g is that many bytes
-pub record Weighs (a : List Row) (n : ℕ) (g : List ℕ) (bytes m : ℕ) : Type 0 where
-  pub addable : Addable a n
-  pub given : bytes ≤ m → Given g
-  pub owner : ℕ
-  pub has : owner < length g
-  pub is : get_or g owner 0 ≡ bytes
-
--- 26, then 21: m bytes of text, i of the index, of which `end` are then in use
-abbrev pub Weighed : List Row → ℕ → List ℕ → ℕ → ℕ → ℕ → Result ⊤ Full → Type 0
+-- `share_room`: 26, then 21: m bytes of text, i of the index, of which `end` are then in use
+abbrev pub Weighed : List Row → ℕ → List ℕ → ℕ → ℕ → ℕ → Result ⊤ StoreError → Type 0
 Weighed a n g m i end r =
     (hs : List Held) → UsedBy a n hs
-    → r ≡ pick (ltb m (claims g hs)) (Err R.Text) (pick (ltb i end) (Err R.Index) (Ok tt))
+    → r ≡ pick (ltb m (claims g hs)) (Err E.ShareTooLarge) (pick (ltb i end) (Err E.NoRoom) (Ok tt))
 
 -- `write_share`: the index has the shares g and the lines hs; s are the shares with the new one
 pub record Writes (i s : List ℕ) (o had share : ℕ) (g : List ℕ) (hs : List Held) : Type 0 where

@@ -10,12 +10,14 @@ use Rattle.store.specs.declared.claims.Dues.{Dues}
 use Rattle.store.specs.declared.settle.Kept.{Kept}
 use Rattle.store.specs.declared.soundness.Surveyed.{Surveyed}
 use Rattle.store.specs.declared.soundness.Stock.{Stock}
+use Rattle.store.specs.declared.soundness.Ledger.{Ledger}
 use Rattle.store.specs.declared.calls.Tally.{Tally}
 use Rattle.store.specs.declared.batch.Walked.{Walked}
 use Rattle.store.specs.Held.{Key, Held, file, index_max, text_max, line_max}
 use Rattle.store.specs.Decode.{walk, decode, content}
 use Rattle.store.specs.Fronts.{Fronts}
 use Rattle.store.specs.Claims.{Owed}
+use Rattle.store.specs.Shares.{no_shares}
 use Rattle.store.specs.Book.{Caller, room_for, by_room, after, stopped, reach, insert_turn, insert_lines}
 use Rattle.store.specs.Lines.{lines_of}
 use Rattle.store.specs.Layout.{record_bytes, records, texts, encode_records, encode_text}
@@ -156,15 +158,21 @@ abbrev pub OnceSurveyed : List ℕ → List ℕ → List Row → List ℕ → Li
 OnceSurveyed i t a heads next r =
     MatchOption r (known (walk (suc (length i)) 0 i t) ≡ false) (Surveys i t a heads next)
 
--- `take_stock`: the store is sound
-pub record Stocks (i t g : List ℕ) (a : List Row) (heads next : List ℕ) (r : Stock) : Type 0 where
-  pub is : known (content i t) ≡ true
-  pub front : Fronts i g r.front
-  pub most : length i ≤ index_max
-  pub loads : Loads (drop r.front i) a heads next r.fill × (r.fill.count < rows_max)
+-- nothing is written down
+pub record Fresh (l : Ledger) : Type 0 where
+  pub shares : l.shares ≡ no_shares
+  pub chained : Chained (key_in l.table.rows) l.table.heads l.table.next 0
+  pub long : Long l.table.rows
 
-abbrev pub OnceStocked : List ℕ → List ℕ → List ℕ → List Row → List ℕ → List ℕ → Optional Stock → Type 0
-OnceStocked i t g a heads next r = MatchOption r (known (content i t) ≡ false) (Stocks i t g a heads next)
+-- `take_stock`: the store is sound
+pub record Stocks (i t : List ℕ) (l : Ledger) (r : Stock) : Type 0 where
+  pub is : known (content i t) ≡ true
+  pub front : Fronts i l.shares r.front
+  pub most : length i ≤ index_max
+  pub loads : Loads (drop r.front i) l.table.rows l.table.heads l.table.next r.fill × (r.fill.count < rows_max)
+
+abbrev pub OnceStocked : List ℕ → List ℕ → Ledger → Optional Stock → Type 0
+OnceStocked i t l r = MatchOption r (known (content i t) ≡ false) (Stocks i t l)
 
 -- `len_before`, `strike_before`: of the number before r; none where r is 0
 abbrev pub len_before : List Row → ℕ → ℕ

@@ -2,7 +2,6 @@
 ghost use Rattle.std.specs.Prelude.{◌≡◌, true, false, ℕ, suc, ◌+◌, ◌-◌, ◌≤◌, ◌<◌, length, take, drop};
 ghost use Rattle.store.specs.Decode.{decode};
 ghost use Rattle.store.specs.Inner.{known};
-ghost use Rattle.store.specs.Layout.{Given};
 ghost use Rattle.store.specs.Keys.{rows_max};
 ghost use Rattle.store.specs.Table.{SomeRows, ReachesRow, TakesLines, Went, Batches};
 
@@ -16,7 +15,7 @@ use crate::search::find_far;
 use crate::settle::settle;
 use crate::shares::OWNERS;
 use crate::soundness::{LINE_MAX, survey};
-use crate::table::{Fill, Full, file_row};
+use crate::table::{Fill, file_row};
 
 // How far lines were walked: what stops the insert, if anything does, the place, the lines walked, and how many numbers
 // are taken.
@@ -58,11 +57,8 @@ fn reach_row(
     }
     let uuid = spelled.id;
     let key = Key { owner, uuid };
-    match file_row(index, text, table, fill, dues, key, at, len) {
-        Ok(filled) => Ok(filled),
-        Err(Full::Index) => Err(StoreError::NoRoom),
-        Err(Full::Text) => Err(StoreError::NoText),
-    }
+    let filled = file_row(index, text, table, fill, dues, key, at, len)?;
+    Ok(filled)
 }
 
 // Walks the lines from a place on, while there are numbers for them.
@@ -121,13 +117,12 @@ fn take_lines(
 pub fn insert_batch(
     index: &mut [u8],
     text: &mut [u8],
-    shares: &[u64; OWNERS],
+    shares: &[u16; OWNERS],
     owner: u8,
     lines: &[u8],
     from: usize,
 ) -> Walked
     requires text_value { known (decode index.old text.old) ≡ true }
-    requires given { Given shares.now }
     requires from_in_bounds { from ≤ length lines.now + 1 }
     ensures batches { Batches shares.now index.old text.old owner lines.now from result
         index.new text.new }

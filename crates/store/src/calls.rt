@@ -1,8 +1,7 @@
 // The public calls of a store. Each takes any buffers and arguments; specs/Refusals gives document 01's numbers.
 ghost use Rattle.std.specs.Prelude.{◌≡◌, true};
 ghost use Rattle.store.specs.Decode.{decode};
-ghost use Rattle.store.specs.Inner.{known};
-ghost use Rattle.store.specs.Layout.{Given};
+ghost use Rattle.store.specs.Inner.{known, insert_full, save_full};
 ghost use Rattle.store.specs.Table.{InsertsAll};
 ghost use Rattle.store.specs.Saves.{save_args, store_save};
 ghost use Rattle.store.specs.Store.{store_clear, store_walk, store_insert, look_up, line_of, says_of};
@@ -15,6 +14,7 @@ use crate::saving::{file_built, refused_save, saved_as, unsaved_name};
 use crate::shares::{OWNERS, read_shares};
 use crate::soundness::{INDEX_MAX, LINE_MAX, TEXT_MAX, sound};
 use crate::spellings::other_spellings;
+use crate::table::Full;
 use line::mapping::Mapping;
 use map::error::MappingError;
 use map::from_data::from_data;
@@ -34,6 +34,18 @@ pub enum StoreError {
     NoOwner,
     NoText,
     ShareTooLarge,
+}
+
+// What an insert says where there is no room.
+impl From<Full> for StoreError {
+    ghost from_gives = { λ full error. error ≡ insert_full full };
+
+    fn from(full: Full) -> StoreError {
+        match full {
+            Full::Index => StoreError::NoRoom,
+            Full::Text => StoreError::NoText,
+        }
+    }
 }
 
 // What a walk over the lines of an insert comes to: the answer, and the lines walked.
@@ -60,6 +72,18 @@ pub enum SaveError {
     NoRoom,
     NoOwner,
     NoText,
+}
+
+// What a save says where there is no room.
+impl From<Full> for SaveError {
+    ghost from_gives = { λ full error. error ≡ save_full full };
+
+    fn from(full: Full) -> SaveError {
+        match full {
+            Full::Index => SaveError::NoRoom,
+            Full::Text => SaveError::NoText,
+        }
+    }
 }
 
 // A save's answer, and its map.
@@ -113,12 +137,11 @@ pub fn clear(index: &mut [u8], text: &mut [u8]) -> Result<(), StoreError>
 fn insert_all(
     part: &mut [u8],
     text: &mut [u8],
-    shares: &[u64; OWNERS],
+    shares: &[u16; OWNERS],
     owner: u8,
     lines: &[u8],
 ) -> Tally
-    requires text_value { known (decode part.old text.old) ≡ true }
-    requires given { Given shares.now }
+    requires { known (decode part.old text.old) ≡ true }
     ensures { InsertsAll shares.now part.old text.old owner lines.now result
         part.new text.new }
 {
@@ -161,7 +184,7 @@ fn walk_insert(index: &mut [u8], text: &mut [u8], owner: u8, lines: &[u8]) -> Ta
             count: 0,
         };
     }
-    let mut shares = [0u64; OWNERS];
+    let mut shares = [0u16; OWNERS];
     let front = read_shares(index, &mut shares);
     insert_all(&mut index[front..], text, &shares, owner, lines)
 }

@@ -1,6 +1,5 @@
 // What the parties claim of the text: of each the larger of its use and its share (document 02, P10).
 ghost use Rattle.std.specs.Prelude.{◌≡◌, ℕ, ◌+◌, ◌-◌, ◌*◌, ◌≤◌, ◌<◌, length, get_or};
-ghost use Rattle.store.specs.Layout.{Given};
 ghost use Rattle.store.specs.Shares.{owners, no_shares, larger};
 ghost use Rattle.store.specs.Claims.{DuesFrom, Addable, Adds, Sums, Covers, row_lengths};
 
@@ -33,7 +32,7 @@ pub fn claimed(dues: Dues, used: usize) -> usize
 }
 
 // Adds up the bytes of each owner's lines, of the first `count` rows.
-pub fn add_uses(rows: &[Row; ROWS], count: usize, uses: &mut [u64; OWNERS])
+pub fn add_uses(rows: &[Row; ROWS], count: usize, uses: &mut [u16; OWNERS])
     requires uses_value { uses.old ≡ no_shares }
     requires addable { Addable rows.now count }
     ensures { Adds rows.now count uses.new }
@@ -41,13 +40,12 @@ pub fn add_uses(rows: &[Row; ROWS], count: usize, uses: &mut [u64; OWNERS])
     for k in 0..count {
         let row = rows[k];
         let o = row.key.owner as usize;
-        uses[o] += row.len as u64;
+        uses[o] += row.len as u16;
     }
 }
 
 // What all parties claim, by their uses and shares.
-pub fn claims_of(uses: &[u64; OWNERS], shares: &[u64; OWNERS]) -> usize
-    requires { Given uses.now × Given shares.now }
+pub fn claims_of(uses: &[u16; OWNERS], shares: &[u16; OWNERS]) -> usize
     ensures sums { Sums uses.now shares.now result }
     ensures covers { Covers uses.now shares.now result }
 {
@@ -60,9 +58,8 @@ pub fn claims_of(uses: &[u64; OWNERS], shares: &[u64; OWNERS]) -> usize
 
 // What the others than an owner claim and use, and its share, by the lines that are written down. Without any share all
 // that is claimed is in use.
-pub fn dues_of(rows: &[Row; ROWS], fill: Fill, shares: &[u64; OWNERS], owner: u8) -> Dues
-    requires given { Given shares.now }
-    requires addable { Addable rows.now fill.count × (row_lengths rows.now fill.count ≤ fill.used) }
+pub fn dues_of(rows: &[Row; ROWS], fill: Fill, shares: &[u16; OWNERS], owner: u8) -> Dues
+    requires { Addable rows.now fill.count × (row_lengths rows.now fill.count ≤ fill.used) }
     ensures { DuesFrom rows.now fill shares.now owner result }
 {
     if !any_share(shares) {
@@ -72,7 +69,7 @@ pub fn dues_of(rows: &[Row; ROWS], fill: Fill, shares: &[u64; OWNERS], owner: u8
             share: 0,
         };
     }
-    let mut uses = [0u64; OWNERS];
+    let mut uses = [0u16; OWNERS];
     add_uses(rows, fill.count, &mut uses);
     let o = owner as usize;
     let used = uses[o] as usize;

@@ -1,6 +1,5 @@
 // A look-up that also tries a UUID without its checksum (document 02, P5). Both tries go by one walk over the store.
-ghost use Rattle.std.specs.Prelude.{◌≡◌, ◌<◌};
-ghost use Rattle.store.specs.Keys.{rows_max};
+ghost use Rattle.std.specs.Prelude.{◌≡◌};
 ghost use Rattle.store.specs.Near.{near_by, near_up, near_says, near_line};
 ghost use Rattle.store.specs.Sights.{Ready, NearSees, Tries};
 
@@ -9,8 +8,7 @@ use crate::chains::Table;
 use crate::look::{Part, line_at, part_of};
 use crate::owners::owner_of;
 use crate::parties::{Key, Party};
-use crate::shares::OWNERS;
-use crate::soundness::take_stock;
+use crate::soundness::Ledger;
 use crate::table::Fill;
 use text::uuid::Uuid;
 
@@ -23,8 +21,7 @@ pub enum Nearness {
 
 // Tries the whole UUID, then the same without its checksum, among the lines that are written down.
 fn try_both(table: &mut Table, fill: Fill, key: Key) -> Option<(Nearness, Part)>
-    requires count_lt_rows_max { fill.count < rows_max }
-    requires ready { Ready table.old.rows table.old.heads table.old.next fill.count }
+    requires { Ready table.old.rows table.old.heads table.old.next fill.count }
     ensures { Tries table.old.rows table.old.heads table.old.next fill key result }
 {
     let uuid = key.uuid;
@@ -45,13 +42,9 @@ fn try_both(table: &mut Table, fill: Fill, key: Key) -> Option<(Nearness, Part)>
 fn near_by(index: &[u8], text: &[u8], key: Key) -> Result<Option<(Nearness, Part)>, LookError>
     ensures { NearSees text.now (near_by key index.now text.now) result }
 {
-    let mut table = Table::new();
-    let mut shares = [0u64; OWNERS];
-    let Some(stock) = take_stock(index, text, &mut shares, &mut table) else {
-        return Err(LookError::Unsound);
-    };
-    let fill = stock.fill;
-    Ok(try_both(&mut table, fill, key))
+    let mut ledger = Ledger::new();
+    let stock = ledger.take_stock(index, text).ok_or(LookError::Unsound)?;
+    Ok(try_both(&mut ledger.table, stock.fill, key))
 }
 
 // Looks the line of a party's UUID up, or that of the same without its checksum.

@@ -1,31 +1,17 @@
 // The end of a save: a line that was built goes into the store.
 ghost use Rattle.std.specs.Prelude.{◌≡◌, ◌≤◌, length};
 ghost use Rattle.store.specs.Held.{line_max};
-ghost use Rattle.store.specs.Inner.{store_file, room_answer, said_by};
+ghost use Rattle.store.specs.Inner.{store_file, said_by};
 ghost use Rattle.store.specs.Saves.{unsaved_name, refused_save};
 
 use crate::calls::{SaveError, Saved};
-use crate::chains::Table;
 use crate::claims::dues_of;
 use crate::filing::file_line;
 use crate::parties::Key;
 use crate::search::find_text;
-use crate::shares::OWNERS;
-use crate::soundness::take_stock;
-use crate::table::Full;
+use crate::soundness::Ledger;
 use line::mapping::Mapping;
 use text::bytes::find_byte;
-
-// What filing a line answers, by its room.
-fn room_answer(room: Result<(), Full>) -> Result<(), SaveError>
-    ensures { result ≡ room_answer room }
-{
-    match room {
-        Ok(()) => Ok(()),
-        Err(Full::Index) => Err(SaveError::NoRoom),
-        Err(Full::Text) => Err(SaveError::NoText),
-    }
-}
 
 // Files a line that was built under its key, unless the store is not sound or has no room.
 pub fn file_built(index: &mut [u8], text: &mut [u8], key: Key, line: &[u8]) -> Result<(), SaveError>
@@ -33,16 +19,21 @@ pub fn file_built(index: &mut [u8], text: &mut [u8], key: Key, line: &[u8]) -> R
     ensures { record { answer = result; index = index.new; text = text.new }
         ≡ store_file index.old text.old (record { key = key; line = line.now }) }
 {
-    let mut table = Table::new();
-    let mut shares = [0u64; OWNERS];
-    let Some(stock) = take_stock(index, text, &mut shares, &mut table) else {
-        return Err(SaveError::Unsound);
-    };
+    let mut ledger = Ledger::new();
+    let stock = ledger.take_stock(index, text).ok_or(SaveError::Unsound)?;
     let fill = stock.fill;
     let front = stock.front;
-    let dues = dues_of(&table.rows, fill, &shares, key.owner);
-    let room = file_line(&mut index[front..], text, &mut table, fill, dues, key, line);
-    room_answer(room)
+    let dues = dues_of(&ledger.table.rows, fill, &ledger.shares, key.owner);
+    file_line(
+        &mut index[front..],
+        text,
+        &mut ledger.table,
+        fill,
+        dues,
+        key,
+        line,
+    )?;
+    Ok(())
 }
 
 // Whether a name has LF or `platform:`.

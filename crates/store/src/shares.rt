@@ -42,7 +42,7 @@ pub fn share_size(share: usize) -> usize
 }
 
 // Reads the shares at the index's front, by owner, and answers where the records of the lines start.
-pub fn read_shares(index: &[u8], shares: &mut [u64; OWNERS]) -> usize
+pub fn read_shares(index: &[u8], shares: &mut [u16; OWNERS]) -> usize
     requires { shares.old ≡ no_shares }
     ensures { Fronts index.now shares.new result }
 {
@@ -52,22 +52,21 @@ pub fn read_shares(index: &[u8], shares: &mut [u64; OWNERS]) -> usize
             return at;
         }
         let share = front_share(&index[at..], owner);
-        shares[owner] = share as u64;
+        shares[owner] = share as u16;
         at += share_size(share);
     }
     at
 }
 
 // Whether any party has a share.
-pub fn any_share(shares: &[u64; OWNERS]) -> bool
-    requires { length shares.now ≡ owners }
+pub fn any_share(shares: &[u16; OWNERS]) -> bool
     ensures { result ≡ false → shares.now ≡ no_shares }
 {
     shares.iter().any(|share| *share != 0)
 }
 
 // Where the record of an owner's share stands, or would stand: behind those of smaller owners.
-pub fn share_place(shares: &[u64; OWNERS], owner: usize) -> usize
+pub fn share_place(shares: &[u16; OWNERS], owner: usize) -> usize
     requires { owner ≤ owners }
     ensures { result ≡ share_sizes (take owner shares.now) }
 {

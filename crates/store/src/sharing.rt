@@ -1,17 +1,14 @@
 // The public calls of the parties' shares of the text (document 02, P10). Each takes any buffers and arguments.
 ghost use Rattle.std.specs.Prelude.{◌≡◌, ◌≤◌, length};
 ghost use Rattle.store.specs.Claims.{Addable};
-ghost use Rattle.store.specs.Layout.{Given};
-ghost use Rattle.store.specs.Settings.{ClaimsWith, Weighs, Weighed, Writable, Written};
+ghost use Rattle.store.specs.Settings.{ClaimsWith, Weighed, Writable, Written};
 ghost use Rattle.store.specs.Store.{store_share, store_told};
 
 use crate::calls::StoreError;
-use crate::chains::Table;
 use crate::claims::{add_uses, claims_of};
 use crate::rows::{ROWS, Row};
 use crate::shares::{OWNERS, change_share, share_place, share_size};
-use crate::soundness::take_stock;
-use crate::table::Full;
+use crate::soundness::Ledger;
 
 // A party's share, and the bytes of its lines.
 #[derive(Clone, Copy, PartialEq, Eq)]
@@ -28,59 +25,49 @@ pub struct Unsound;
 pub fn share_of(index: &[u8], text: &[u8], owner: u8) -> Result<ShareUse, Unsound>
     ensures { result ≡ store_told index.now text.now owner }
 {
-    let mut table = Table::new();
-    let mut shares = [0u64; OWNERS];
-    let Some(stock) = take_stock(index, text, &mut shares, &mut table) else {
-        return Err(Unsound);
-    };
-    let mut uses = [0u64; OWNERS];
-    let fill = stock.fill;
-    add_uses(&table.rows, fill.count, &mut uses);
+    let mut ledger = Ledger::new();
+    let stock = ledger.take_stock(index, text).ok_or(Unsound)?;
+    let mut uses = [0u16; OWNERS];
+    add_uses(&ledger.table.rows, stock.fill.count, &mut uses);
     let o = owner as usize;
-    let share = shares[o] as usize;
+    let share = ledger.shares[o] as usize;
     let used = uses[o] as usize;
     Ok(ShareUse { share, used })
 }
 
 // What all parties claim with those shares, by the lines that are written down.
-fn claims_with(rows: &[Row; ROWS], count: usize, shares: &[u64; OWNERS]) -> usize
-    requires addable { Addable rows.now count }
-    requires given { Given shares.now }
+fn claims_with(rows: &[Row; ROWS], count: usize, shares: &[u16; OWNERS]) -> usize
+    requires { Addable rows.now count }
     ensures { ClaimsWith rows.now count shares.now result }
 {
-    let mut uses = [0u64; OWNERS];
+    let mut uses = [0u16; OWNERS];
     add_uses(rows, count, &mut uses);
     claims_of(&uses, shares)
 }
 
-// Whether there is room for a share of so many bytes, which stands among those shares already: in the text, and in an
-// index of which so many bytes are then in use.
+// Whether there is room for those shares: in the text, and in an index of which so many bytes are then in use.
 fn share_room(
     rows: &[Row; ROWS],
     count: usize,
-    shares: &[u64; OWNERS],
-    bytes: usize,
+    shares: &[u16; OWNERS],
     text: usize,
     index: usize,
     end: usize,
-) -> Result<(), Full>
-    requires { Weighs rows.now count shares.now bytes text }
+) -> Result<(), StoreError>
+    requires { Addable rows.now count }
     ensures { Weighed rows.now count shares.now text index end result }
 {
-    if text < bytes {
-        return Err(Full::Text);
-    }
     if text < claims_with(rows, count, shares) {
-        return Err(Full::Text);
+        return Err(StoreError::ShareTooLarge);
     }
     if index < end {
-        return Err(Full::Index);
+        return Err(StoreError::NoRoom);
     }
     Ok(())
 }
 
 // Writes the share of an owner into the index, which had another one; it stands among those shares already.
-fn write_share(index: &mut [u8], shares: &[u64; OWNERS], owner: u8, had: usize, bytes: usize)
+fn write_share(index: &mut [u8], shares: &[u16; OWNERS], owner: u8, had: usize, bytes: usize)
     requires { Writable index.old shares.now owner had bytes }
     ensures { Written index.old shares.now owner had bytes index.new }
 {
@@ -88,35 +75,31 @@ fn write_share(index: &mut [u8], shares: &[u64; OWNERS], owner: u8, had: usize, 
     change_share(&mut index[at..], owner, had, bytes);
 }
 
-// Sets the share of the party with that owner byte, 0 being the hall; share 0 takes it away.
+// Sets the share of the party with that owner byte, 0 being the hall; share 0 takes it away. A share above the whole
+// text is told first: it may be too large for two bytes.
 pub fn set_share(index: &mut [u8], text: &[u8], owner: u8, bytes: usize) -> Result<(), StoreError>
     ensures { record { answer = result; index = index.new; text = text.now }
         ≡ store_share index.old text.now owner bytes }
 {
-    let mut table = Table::new();
-    let mut shares = [0u64; OWNERS];
-    let Some(stock) = take_stock(index, text, &mut shares, &mut table) else {
-        return Err(StoreError::Unsound);
-    };
+    let mut ledger = Ledger::new();
+    let stock = ledger.take_stock(index, text).ok_or(StoreError::Unsound)?;
+    let room = text.len();
+    if room < bytes {
+        return Err(StoreError::ShareTooLarge);
+    }
     let fill = stock.fill;
     let o = owner as usize;
-    let had = shares[o] as usize;
+    let had = ledger.shares[o] as usize;
+    ledger.shares[o] = bytes as u16;
     let end = stock.front + fill.end + share_size(bytes) - share_size(had);
-    shares[o] = bytes as u64;
-    match share_room(
-        &table.rows,
+    share_room(
+        &ledger.table.rows,
         fill.count,
-        &shares,
-        bytes,
-        text.len(),
+        &ledger.shares,
+        room,
         index.len(),
         end,
-    ) {
-        Ok(()) => {
-            write_share(index, &shares, owner, had, bytes);
-            Ok(())
-        }
-        Err(Full::Text) => Err(StoreError::ShareTooLarge),
-        Err(Full::Index) => Err(StoreError::NoRoom),
-    }
+    )?;
+    write_share(index, &ledger.shares, owner, had, bytes);
+    Ok(())
 }

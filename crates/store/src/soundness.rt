@@ -3,10 +3,9 @@ ghost use Rattle.std.specs.Prelude.{◌≡◌, ◌&&◌, false, List, ◌∷◌,
 ghost use Rattle.store.specs.Decode.{head_fits, zeroes, content};
 ghost use Rattle.store.specs.Held.{index_max, text_max};
 ghost use Rattle.store.specs.Inner.{known};
-ghost use Rattle.store.specs.Shares.{no_shares};
 ghost use Rattle.store.specs.Keys.{Chained};
 ghost use Rattle.store.specs.Rows.{key_in, Long};
-ghost use Rattle.store.specs.Table.{OnceSurveyed, OnceStocked};
+ghost use Rattle.store.specs.Table.{OnceSurveyed, Fresh, OnceStocked};
 
 use crate::bytes::all_zero;
 use crate::chains::{Keyed, Table, Verdict, steps, told};
@@ -98,46 +97,54 @@ pub fn survey(index: &[u8], text: &[u8], table: &mut Table) -> Option<Surveyed>
     })
 }
 
-// Takes stock of a sound store, of which it writes the shares and the lines down; none where the store is not sound.
-pub fn take_stock(
-    index: &[u8],
-    text: &[u8],
-    shares: &mut [u64; OWNERS],
-    table: &mut Table,
-) -> Option<Stock>
-    requires shares_value { shares.old ≡ no_shares }
-    requires chained { Chained (key_in table.old.rows) table.old.heads table.old.next 0 }
-    requires long { Long table.old.rows }
-    ensures { OnceStocked index.now text.now shares.new
-        table.new.rows table.new.heads table.new.next result }
-{
-    if INDEX_MAX < index.len() {
-        return None;
+// What is written down of a store: each party's share, and the lines.
+#[derive(Drop)]
+pub struct Ledger {
+    pub shares: [u16; OWNERS],
+    pub table: Table,
+}
+
+impl Ledger {
+    // Nothing is written down.
+    pub fn new() -> Ledger
+        ensures { Fresh result }
+    {
+        Ledger {
+            shares: [0; OWNERS],
+            table: Table::new(),
+        }
     }
-    if TEXT_MAX < text.len() {
-        return None;
+
+    // Takes stock of a sound store, which is written down; none where the store is not sound.
+    pub fn take_stock(&mut self, index: &[u8], text: &[u8]) -> Option<Stock>
+        requires { Fresh self.old }
+        ensures { OnceStocked index.now text.now self.new result }
+    {
+        if INDEX_MAX < index.len() {
+            return None;
+        }
+        if TEXT_MAX < text.len() {
+            return None;
+        }
+        let front = read_shares(index, &mut self.shares);
+        let seen = survey(&index[front..], text, &mut self.table)?;
+        let fill = seen.fill;
+        let keys = Keyed {
+            rows: &self.table.rows,
+            next: &self.table.next,
+            count: fill.count,
+        };
+        if !each_once(keys, seen.verdict) {
+            return None;
+        }
+        Some(Stock { front, fill })
     }
-    let front = read_shares(index, shares);
-    let Some(seen) = survey(&index[front..], text, table) else {
-        return None;
-    };
-    let fill = seen.fill;
-    let keys = Keyed {
-        rows: &table.rows,
-        next: &table.next,
-        count: fill.count,
-    };
-    if !each_once(keys, seen.verdict) {
-        return None;
-    }
-    Some(Stock { front, fill })
 }
 
 // Whether the store is sound.
 pub fn sound(index: &[u8], text: &[u8]) -> bool
     ensures { result ≡ known (content index.now text.now) }
 {
-    let mut table = Table::new();
-    let mut shares = [0u64; OWNERS];
-    take_stock(index, text, &mut shares, &mut table).is_some()
+    let mut ledger = Ledger::new();
+    ledger.take_stock(index, text).is_some()
 }

@@ -30,11 +30,8 @@ dues_of-dues-requires c =
     let pre = c.requires in
     let bytes : Bytes args.index.now = λ k. omega (arith, c.slice_known-1.given k) in
     let seen = c.unwrap-seen in
-    let loads = (survey_of args.index.now args.text.now _ _ _ _ c.survey.ensures _ seen.ensures).loads in record {
-      given = pre.given;
-      addable = loads_addable args.index.now args.text.now _ _ _ seen.result.fill loads
-          pre.text_value;
-    }
+    let loads = (survey_of args.index.now args.text.now _ _ _ _ c.survey.ensures _ seen.ensures).loads in
+    loads_addable args.index.now args.text.now _ _ _ seen.result.fill loads pre.text_value
 
 pub take_lines-part-requires : goal.take_lines-part-requires
 take_lines-part-requires c =

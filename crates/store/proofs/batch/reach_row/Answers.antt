@@ -1,6 +1,7 @@
 -- Each exit is that of the book's line: not wanted, over the limit, without room, or filed.
-use Rattle.store.proofs.BatchLaws.{wanted_part, slot_not, slot_long, slot_files, slot_index, slot_text}
-use Rattle.store.proofs.BatchLaws.{slot_filed}
+use mathlib.Core.Path.{refl}
+use Rattle.std.proofs.lemmas.Result.{err_from_is_err_and}
+use Rattle.store.proofs.BatchLaws.{wanted_part, slot_not, slot_long, slot_files, slot_full, slot_filed}
 use Rattle.store.proofs.batch.reach_row.Goals as goal
 
 pub returns-in_default : goal.returns-in_default
@@ -48,42 +49,25 @@ file_row-requires c =
       );
     }
 
-pub returns-in-Err-Index : goal.returns-in-Err-Index
-returns-in-Err-Index c =
-    let args = c.args in
-    let pre = c.requires in
-    let wants = wanted_part args.lines.now args.at args.len _ _
-    c.wanted.ensures
-    c.in-Some.is in
-    let filed = c.file_row in
-    slot_index args.dues args.index.now args.text.now args.lines.now _ args.table.now.heads
-    args.table.now.next
-    args.fill args.owner args.at args.len pre.count_lt_rows_max.1 _ wants
-    c.if-len-gt-LINE_MAX.false _ _ _ filed.result filed.ensures
-    (rw c.in-Err-Index.field-0-is at c.in-Err-Index.is)
-
-pub returns-in-Err-Text : goal.returns-in-Err-Text
-returns-in-Err-Text c =
-    let args = c.args in
-    let pre = c.requires in
-    let wants = wanted_part args.lines.now args.at args.len _ _
-    c.wanted.ensures
-    c.in-Some.is in
-    let filed = c.file_row in
-    slot_text args.dues args.index.now args.text.now args.lines.now _ args.table.now.heads
-    args.table.now.next
-    args.fill args.owner args.at args.len pre.count_lt_rows_max.1 _ wants
-    c.if-len-gt-LINE_MAX.false _ _ _ filed.result filed.ensures
-    (rw c.in-Err-Text.field-0-is at c.in-Err-Text.is)
-
-pub returns-in-Ok : goal.returns-in-Ok
-returns-in-Ok c =
+pub returns-in_err-filled : goal.returns-in_err-filled
+returns-in_err-filled c =
     let args = c.args in
     let pre = c.requires in
     let wants = wanted_part args.lines.now args.at args.len _ _ c.wanted.ensures
     c.in-Some.is in
-    let filed = c.file_row in
+    let p = err_from_is_err_and c.from_residual.result c.from_residual.ensures.1 in
+    rw (p.1, p.2) (slot_full args.dues args.index.now args.text.now args.lines.now _ args.table.now.heads
+    args.table.now.next
+    args.fill args.owner args.at args.len pre.count_lt_rows_max.1 _ wants
+    c.if-len-gt-LINE_MAX.false _ _ _ _ c.in_err-filled.ensures _ refl)
+
+pub returns : goal.returns
+returns c =
+    let args = c.args in
+    let pre = c.requires in
+    let wants = wanted_part args.lines.now args.at args.len _ _ c.wanted.ensures
+    c.in-Some.is in
     slot_filed args.dues args.index.now args.text.now args.lines.now _ args.table.now.heads
     args.table.now.next
     args.fill args.owner args.at args.len pre.count_lt_rows_max.1 _ wants
-    c.if-len-gt-LINE_MAX.false _ _ _ filed.result filed.ensures _ c.in-Ok.is
+    c.if-len-gt-LINE_MAX.false _ _ _ _ c.in_ok-filled.ensures _ refl

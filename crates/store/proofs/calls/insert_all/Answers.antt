@@ -11,7 +11,7 @@ loop-at-init c =
     let args = c.args in
     let pre = c.requires in
     insert_first args.shares.now args.owner args.part.now args.text.now args.lines.now
-    (λ k. omega (arith, c.slice_known-1.given k)) pre.text_value
+    (λ k. omega (arith, c.slice_known-1.given k)) pre
 
 pub insert_batch-some-requires : goal.insert_batch-some-requires
 insert_batch-some-requires c =
@@ -20,7 +20,6 @@ insert_batch-some-requires c =
     let loop = c.loop-at in record {
       text_value = still_sound args.shares.now args.owner args.part.now args.text.now args.lines.now
           loop.part loop.text loop.at loop.count loop.invariant;
-      given = pre.given;
       from_in_bounds = loop.invariant.within;
     }
 

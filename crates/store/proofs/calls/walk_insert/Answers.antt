@@ -2,7 +2,7 @@
 use mathlib.Core.Path.{sym, ◌∙◌}
 use native.Mathlib.Omega.{arith}
 use Rattle.store.proofs.InsertLaws.{walk_unsound, walk-not_utf8, walk_lent}
-use Rattle.store.proofs.PartLaws.{whole, part_lines}
+use Rattle.store.proofs.PartLaws.{part_lines}
 use Rattle.store.proofs.calls.walk_insert.Goals as goal
 
 pub returns-then-not-sound : goal.returns-then-not-sound
@@ -30,12 +30,8 @@ pub insert_all-requires : goal.insert_all-requires
 insert_all-requires c =
     let args = c.args in
     let front = c.read_shares-front in
-    let sound = sym c.sound.ensures ∙ c.if-not-sound.false in record {
-      text_value = part_lines args.index.now args.text.now _ front.result front.ensures
-          (λ k. omega (arith, c.slice_known-1.given k)) sound;
-      given = (whole args.index.now args.text.now _ front.result front.ensures
-          (λ k. omega (arith, c.slice_known-1.given k)) sound).given;
-    }
+    part_lines args.index.now args.text.now _ front.result front.ensures
+    (λ k. omega (arith, c.slice_known-1.given k)) (sym c.sound.ensures ∙ c.if-not-sound.false)
 
 pub returns : goal.returns
 returns c =

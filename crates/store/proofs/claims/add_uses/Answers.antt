@@ -11,6 +11,17 @@ loop-k-init c =
     let args = c.args in
     add_first args.rows.now args.count c.requires.addable args.uses.now c.requires.uses_value
 
+pub overflow_cast-uses : goal.overflow_cast-uses
+overflow_cast-uses c =
+    let loop = c.loop-k in
+    let args = c.args in
+    let byte : (key_in args.rows.now loop.k).owner < 256 = search rules in
+    omega (
+      arith,
+      add_most args.rows.now args.count c.requires.addable loop.uses loop.k loop.invariant
+          c.loop-k-test.true _ byte,
+    )
+
 pub overflow_add-uses : goal.overflow_add-uses
 overflow_add-uses c =
     let loop = c.loop-k in

@@ -5,11 +5,8 @@ use Prim.Native.Nat.{ℕ, ◌<◌}
 use native.Mathlib.Omega.{arith}
 use borrow.Author.Rules.{rules}
 use Rattle.store.specs.Claims.{Owed}
-use Rattle.store.proofs.UseLaws.{adds_given, row_use_most, dues_owed, owed_none}
+use Rattle.store.proofs.UseLaws.{words_given, use_most, row_use_most, dues_owed, owed_none}
 use Rattle.store.proofs.claims.dues_of.Goals as goal
-
-pub any_share-requires : goal.any_share-requires
-any_share-requires c = c.requires.given.each
 
 pub returns-then-not-any_share : goal.returns-then-not-any_share
 returns-then-not-any_share c =
@@ -24,15 +21,13 @@ pub add_uses-requires : goal.add_uses-requires
 add_uses-requires c =
     record {
       uses_value = refl;
-      addable = c.requires.addable.0;
+      addable = c.requires.0;
     }
 
-pub claims_of-requires : goal.claims_of-requires
-claims_of-requires c =
-    let args = c.args in (
-      adds_given args.rows.now args.fill.count c.requires.addable.0 _ c.add_uses.ensures,
-      c.requires.given,
-    )
+pub overflow_cast-used : goal.overflow_cast-used
+overflow_cast-used c =
+    let args = c.args in
+    omega (arith, use_most args.rows.now args.fill.count c.requires.0 _ c.add_uses.ensures args.owner (omega (arith, c.ranges)))
 
 pub overflow_sub-result : goal.overflow_sub-result
 overflow_sub-result c =
@@ -49,7 +44,7 @@ overflow_sub-result-2 c =
       arith,
       adds.1 args.owner byte,
       row_use_most args.owner args.rows.now args.fill.count,
-      c.requires.addable.1,
+      c.requires.1,
     )
 
 pub returns : goal.returns
@@ -59,5 +54,5 @@ returns c =
     let sum = c.claims_of.ensures in
     let own = c.larger_of.ensures in
     let byte : args.owner < 256 = search rules in
-    dues_owed args.rows.now args.shares.now args.fill args.owner _ _ _ c.requires.given c.requires.addable
+    dues_owed args.rows.now args.shares.now args.fill args.owner _ _ _ (words_given args.shares.now (search rules) (λ k. search rules)) c.requires
     adds sum.sums sum.covers own byte

@@ -7,9 +7,9 @@ pub seek_before-r-requires : goal.seek_before-r-requires
 seek_before-r-requires c =
     let args = c.args in
     let pre = c.requires in
-    let pre = pre in record {
-      k_lt_rows_max = pre.count_lt_rows_max;
-      chained = (put_ready args.table.now.rows args.table.now.heads args.table.now.next args.fill.count args.key pre.count_lt_rows_max pre.ready
+    record {
+      k_lt_rows_max = pre.few;
+      chained = (put_ready args.table.now.rows args.table.now.heads args.table.now.next args.fill.count args.key pre
           _ refl).chained;
     }
 
@@ -19,17 +19,17 @@ returns-then-len-eq0 c =
     let pre = c.requires in
     let seek = c.seek_before-r in
     let before = c.len_before-len in
-    let agree = put_agree args.table.now.rows args.table.now.heads args.table.now.next args.fill.count args.key pre.count_lt_rows_max
-    pre.ready _ refl in record {
-      ready_2 = put_ready args.table.now.rows args.table.now.heads args.table.now.next args.fill.count args.key pre.count_lt_rows_max pre.ready
+    let agree = put_agree args.table.now.rows args.table.now.heads args.table.now.next args.fill.count args.key pre
+    _ refl in record {
+      ready = put_ready args.table.now.rows args.table.now.heads args.table.now.next args.fill.count args.key pre
           _ refl;
       chains_kept = (refl, refl);
       agree = agree;
       spots = λ i t b hs ag x.
           spot_none args.key i t b _ args.table.now.heads args.table.now.next args.fill hs x
           (λ j l. ag j l ∙ agree j l)
-          (put_new args.table.now.rows args.table.now.heads args.table.now.next args.fill.count args.key pre.count_lt_rows_max
-          pre.ready _ refl)
+          (put_new args.table.now.rows args.table.now.heads args.table.now.next args.fill.count args.key pre
+          _ refl)
           seek.result seek.ensures.sought seek.ensures.upper_bound before.result before.ensures c.if-len-eq0.true;
     }
 
@@ -39,17 +39,17 @@ returns c =
     let pre = c.requires in
     let seek = c.seek_before-r in
     let before = c.len_before-len in
-    let agree = put_agree args.table.now.rows args.table.now.heads args.table.now.next args.fill.count args.key pre.count_lt_rows_max
-    pre.ready _ refl in record {
-      ready_2 = put_ready args.table.now.rows args.table.now.heads args.table.now.next args.fill.count args.key pre.count_lt_rows_max pre.ready
+    let agree = put_agree args.table.now.rows args.table.now.heads args.table.now.next args.fill.count args.key pre
+    _ refl in record {
+      ready = put_ready args.table.now.rows args.table.now.heads args.table.now.next args.fill.count args.key pre
           _ refl;
       chains_kept = (refl, refl);
       agree = agree;
       spots = λ i t b hs ag x.
           spot_line args.key i t b _ args.table.now.heads args.table.now.next args.fill hs x
           (λ j l. ag j l ∙ agree j l)
-          (put_new args.table.now.rows args.table.now.heads args.table.now.next args.fill.count args.key pre.count_lt_rows_max
-          pre.ready _ refl)
+          (put_new args.table.now.rows args.table.now.heads args.table.now.next args.fill.count args.key pre
+          _ refl)
           seek.result seek.ensures.sought seek.ensures.upper_bound before.result before.ensures c.if-len-eq0.false
           _ refl;
     }

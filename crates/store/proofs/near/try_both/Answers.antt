@@ -21,14 +21,6 @@ returns-in-Some c =
     sees_exact t (find args.key hs) (find (plain_key args.key) hs) whole.result
     (whole.ensures.spots i t _ hs (λ j m. refl) x) _ c.in-Some.is
 
-pub part_of-requires-2 : goal.part_of-requires-2
-part_of-requires-2 c =
-    let pre = c.requires in
-    record {
-      count_lt_rows_max = pre.count_lt_rows_max;
-      ready = c.part_of.ensures.ready_2;
-    }
-
 -- the chains are those from before
 still : (i t : List ℕ) (a : List Row) (heads next heads' next' : List ℕ) (f : Fill) (hs : List Held)
     → heads' ≡ heads → next' ≡ next → InRows i t [] a heads next f.count f hs → InRows i t [] a heads' next' f.count f hs

@@ -8,6 +8,6 @@ use Rattle.store.proofs.shares.any_share.Goals as goal
 
 pub returns : goal.returns
 returns c =
-    no_share c.args.shares.now c.any.result c.requires
+    no_share c.args.shares.now c.any.result (search rules)
     (cases_from_any _ _ _ (λ x. x ≡ 0 → ⊥) (λ x. x ≡ 0) c.any.ensures.ran
     (YieldsList-from_slice c.args.shares.now cc) (λ x q k. search (rules, tests)) (λ x q k. search (rules, tests)))

@@ -1,21 +1,14 @@
 -- The uses of the rows are those of the lines.
 use mathlib.Core.Path.{refl}
-use Rattle.store.proofs.UseLaws.{adds_given, adds_uses}
+use Rattle.store.proofs.UseLaws.{adds_uses}
 use Rattle.store.proofs.sharing.claims_with.Goals as goal
 
 pub add_uses-requires : goal.add_uses-requires
 add_uses-requires c =
     record {
       uses_value = refl;
-      addable = c.requires.addable;
+      addable = c.requires;
     }
-
-pub claims_of-requires : goal.claims_of-requires
-claims_of-requires c = (
-  adds_given c.args.rows.now c.args.count c.requires.addable _
-      c.add_uses.ensures,
-  c.requires.given,
-)
 
 pub returns : goal.returns
 returns c =

@@ -5,41 +5,44 @@ use Prim.Native.Nat.{ℕ}
 use native.Mathlib.Omega.{arith}
 use lib.ListN.{get_or}
 use Rattle.store.proofs.ShareCallLaws.{stocked, told_unsound, told_sound}
+use Rattle.store.proofs.SurveyLaws.{stock_refused}
+use Rattle.store.proofs.UseLaws.{use_most}
 use Rattle.store.proofs.sharing.share_of.Goals as goal
 
-pub take_stock-requires : goal.take_stock-requires
-take_stock-requires c =
-    record {
-      shares_value = refl;
-      chained = c.new-table.ensures.chained;
-      long = c.new-table.ensures.long;
-    }
-
-pub returns-in_default : goal.returns-in_default
-returns-in_default c =
+pub returns-in_err-stock : goal.returns-in_err-stock
+returns-in_err-stock c =
     let args = c.args in
-    told_unsound args.index.now args.text.now args.owner
-    c.in_default.ensures
+    let w = stock_refused _ _ _ _ c.take_stock.ensures _ _ c.in_err-stock.ensures.value _ c.from_residual.ensures.1 in
+    rw w.0 (told_unsound args.index.now args.text.now args.owner w.1)
 
 pub add_uses-requires : goal.add_uses-requires
 add_uses-requires c =
     let args = c.args in
     let known = c.shared_slice_known-1 in
-    let stock = c.in-Some in
-    let w = stocked args.index.now args.text.now _ _ _ _ stock.stock
-    (λ k. omega (arith, known.given k)) stock.ensures in
+    let stock = c.in_ok-stock in
+    let w = stocked args.index.now args.text.now _ stock.stock (λ k. omega (arith, known.given k))
+    (rw stock.ensures.ok_part at c.take_stock.ensures) in
     record {
       uses_value = refl;
       addable = w.addable;
     }
 
+pub overflow_cast-used : goal.overflow_cast-used
+overflow_cast-used c =
+    let args = c.args in
+    let known = c.shared_slice_known-1 in
+    let stock = c.in_ok-stock in
+    let w = stocked args.index.now args.text.now _ stock.stock (λ k. omega (arith, known.given k))
+    (rw stock.ensures.ok_part at c.take_stock.ensures) in
+    omega (arith, use_most _ _ w.addable _ c.add_uses.ensures args.owner (omega (arith, c.ranges)))
+
 pub returns : goal.returns
 returns c =
     let args = c.args in
     let known = c.shared_slice_known-1 in
-    let stock = c.in-Some in
-    let w = stocked args.index.now args.text.now _ _ _ _ stock.stock
-    (λ k. omega (arith, known.given k)) stock.ensures in
+    let stock = c.in_ok-stock in
+    let w = stocked args.index.now args.text.now _ stock.stock (λ k. omega (arith, known.given k))
+    (rw stock.ensures.ok_part at c.take_stock.ensures) in
     told_sound args.index.now args.text.now args.owner w.all w.is _ _
     (ap (λ (q : List ℕ). get_or q args.owner 0) w.shares)
     (c.add_uses.ensures.1 args.owner (omega (arith, c.ranges)) ∙ w.used args.owner

@@ -1,18 +1,6 @@
 -- The tests of a setting, in their order: 26, then 21.
-use Rattle.store.proofs.SettingLaws.{room_bytes, room_text, room_index, room_fits}
+use Rattle.store.proofs.SettingLaws.{room_text, room_index, room_fits}
 use Rattle.store.proofs.sharing.share_room.Goals as goal
-
-pub returns-then-text-bytes : goal.returns-then-text-bytes
-returns-then-text-bytes c =
-    room_bytes c.args.rows.now c.args.count c.args.shares.now c.args.text
-    c.args.index c.args.end c.args.bytes c.requires c.if-text-bytes.true
-
-pub claims_with-requires : goal.claims_with-requires
-claims_with-requires c =
-    record {
-      addable = c.requires.addable;
-      given = c.requires.given c.if-text-bytes.false;
-    }
 
 pub returns-then-text-claims_with : goal.returns-then-text-claims_with
 returns-then-text-claims_with c =

@@ -10,7 +10,7 @@ use Rattle.store.proofs.BodyLaws.{bytes_part}
 use Rattle.store.proofs.OnceLaws.{tells_once}
 use Rattle.store.proofs.SoundLaws.{sound_walk, sound_once}
 use Rattle.store.proofs.SurveyLaws.{stock_index, stock_text, part_most, stock_part, stock_loads}
-use Rattle.store.proofs.soundness.take_stock.Goals as goal
+use Rattle.store.proofs.soundness.Ledger.take_stock.Goals as goal
 
 pub returns-then-index-gt-INDEX_MAX : goal.returns-then-index-gt-INDEX_MAX
 returns-then-index-gt-INDEX_MAX c =
@@ -21,7 +21,7 @@ returns-then-text-gt-TEXT_MAX c =
     stock_text c.args.index.now c.args.text.now c.if-index-gt-INDEX_MAX.false c.if-text-gt-TEXT_MAX.true
 
 pub read_shares-front-requires : goal.read_shares-front-requires
-read_shares-front-requires c = c.requires.shares_value
+read_shares-front-requires c = c.requires.shares
 
 pub slice_bounds-survey-count : goal.slice_bounds-survey-count
 slice_bounds-survey-count c = omega (arith, c.read_shares-front.ensures.within)
@@ -49,8 +49,8 @@ survey-requires c =
       long = pre.long;
     }
 
-pub returns-in_default : goal.returns-in_default
-returns-in_default c =
+pub returns-in_err-seen : goal.returns-in_err-seen
+returns-in_err-seen c =
     let args = c.args in
     let if1 = c.if-index-gt-INDEX_MAX in
     let if2 = c.if-text-gt-TEXT_MAX in
@@ -58,20 +58,20 @@ returns-in_default c =
     let p = read.result in
     let i = args.index.now in
     let q : List ℕ = mid_of p (length i - p) i in
-    sym (stock_part i args.text.now _ p read.ensures if1.false q (tail_part p i))
+    rw c.from_residual.ensures (sym (stock_part i args.text.now _ p read.ensures if1.false q (tail_part p i))
     ∙ sound_walk q args.text.now
-    (part_most i args.text.now _ p read.ensures if1.false q (tail_part p i)) if2.false c.in_default.ensures
+    (part_most i args.text.now _ p read.ensures if1.false q (tail_part p i)) if2.false c.in_err-seen.ensures)
 
 pub invariant_of-keys : goal.invariant_of-keys
 invariant_of-keys c =
-    let seen = c.in-Some in
+    let seen = c.in_ok-seen in
     record {
       few = omega (arith, seen.ensures.most);
       linked = seen.ensures.chained.links;
     }
 
 pub each_once-requires : goal.each_once-requires
-each_once-requires c = c.in-Some.ensures.says
+each_once-requires c = c.in_ok-seen.ensures.says
 
 pub returns-then-not-each_once : goal.returns-then-not-each_once
 returns-then-not-each_once c =
@@ -80,7 +80,7 @@ returns-then-not-each_once c =
     let if1 = c.if-index-gt-INDEX_MAX in
     let if2 = c.if-text-gt-TEXT_MAX in
     let read = c.read_shares-front in
-    let seen = c.in-Some in
+    let seen = c.in_ok-seen in
     let p = read.result in
     let i = args.index.now in
     let t = args.text.now in
@@ -98,7 +98,7 @@ returns c =
     let if1 = c.if-index-gt-INDEX_MAX in
     let if2 = c.if-text-gt-TEXT_MAX in
     let read = c.read_shares-front in
-    let seen = c.in-Some in
+    let seen = c.in_ok-seen in
     let p = read.result in
     let i = args.index.now in
     let t = args.text.now in
