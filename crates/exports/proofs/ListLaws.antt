@@ -33,29 +33,20 @@ listed_found (d ∷ cs) (x ∷ xs) c h l = go (eqb d c) (listed_found cs xs c) h
     go true f h l = refl
     go false f h l = f (omega (arith, h)) (omega (arith, l))
 
-pub listed-none : (cs xs : List ℕ) (c : ℕ) → length cs ≤ first_of c cs → map_of (listed_entries cs xs) (code_of c) ≡ None
+-- past the end of one of the two lists
+pub listed-none : (cs xs : List ℕ) (c : ℕ) → (first_of c cs < length cs → first_of c cs < length xs → ⊥)
+    → map_of (listed_entries cs xs) (code_of c) ≡ None
 unfolding map_of listed_entries first_of
 listed-none [] xs c h = refl
 listed-none (d ∷ cs) [] c h = refl
 listed-none (d ∷ cs) (x ∷ xs) c h = go (eqb d c) (listed-none cs xs c) h
   where
-    go : (t : Bool) → (length cs ≤ first_of c cs → map_of (listed_entries cs xs) (code_of c) ≡ None)
-        → suc (length cs) ≤ pick t 0 (suc (first_of c cs))
+    go : (t : Bool) → ((first_of c cs < length cs → first_of c cs < length xs → ⊥)
+        → map_of (listed_entries cs xs) (code_of c) ≡ None)
+        → (pick t 0 (suc (first_of c cs)) < suc (length cs) → pick t 0 (suc (first_of c cs)) < suc (length xs) → ⊥)
         → pick t (Some (element_of (listed_element x))) (map_of (listed_entries cs xs) (code_of c)) ≡ None
-    go true f h = absurd (omega (arith, h))
-    go false f h = f (omega (arith, h))
-
-pub listed_past : (cs xs : List ℕ) (c : ℕ) → length xs ≤ first_of c cs → map_of (listed_entries cs xs) (code_of c) ≡ None
-unfolding map_of listed_entries first_of
-listed_past [] xs c h = refl
-listed_past (d ∷ cs) [] c h = refl
-listed_past (d ∷ cs) (x ∷ xs) c h = go (eqb d c) (listed_past cs xs c) h
-  where
-    go : (t : Bool) → (length xs ≤ first_of c cs → map_of (listed_entries cs xs) (code_of c) ≡ None)
-        → suc (length xs) ≤ pick t 0 (suc (first_of c cs))
-        → pick t (Some (element_of (listed_element x))) (map_of (listed_entries cs xs) (code_of c)) ≡ None
-    go true f h = absurd (omega (arith, h))
-    go false f h = f (omega (arith, h))
+    go true f h = absurd (h (omega arith) (omega arith))
+    go false f h = f (λ l m. h (omega (arith, l)) (omega (arith, m)))
 
 -- numbers that are an element, laid out again
 pub flat_again : (e : FlatElement) → flat_element (element_of e) ≡ e
@@ -109,7 +100,7 @@ module _ (cs xs : List ℕ) (c i : ℕ) (is : i ≡ first_of c cs) where
       sym (ap flat_mapped there ∙ ap found_flat (same ∙ ap (λ (k : ℕ). listed_element (get_or xs k 0)) (sym is) ∙ sym p))
 
   pub none_flat : length cs ≤ i → no_element ≡ flat_mapped (map_of (listed_entries cs xs) (code_of c))
-  none_flat h = sym (ap flat_mapped (listed-none cs xs c (omega (arith, is))))
+  none_flat h = sym (ap flat_mapped (listed-none cs xs c (λ l m. absurd (omega (arith, is, h, l)))))
 
   pub past_flat : length xs ≤ i → no_element ≡ flat_mapped (map_of (listed_entries cs xs) (code_of c))
-  past_flat h = sym (ap flat_mapped (listed_past cs xs c (omega (arith, is))))
+  past_flat h = sym (ap flat_mapped (listed-none cs xs c (λ l m. absurd (omega (arith, is, h, m)))))

@@ -5,6 +5,8 @@ use Rattle.text.specs.Bytes.{pick}
 use Rattle.line.specs.declared.ev.Code.{Code}
 use Rattle.line.specs.declared.ev.Button.{Button}
 use Rattle.line.specs.declared.ev.Axis.{Axis}
+use Rattle.line.specs.declared.ev.AxisOrBtn.{AxisOrBtn}
+use Rattle.line.specs.declared.ev.AxisOrBtn.TheVariants as El
 use Rattle.map.specs.declared.error.MappingError.{MappingError}
 use Rattle.line.specs.Elements.{code_of}
 use Rattle.map.specs.declared.mapping_data.MappingData.{MappingData}
@@ -56,6 +58,14 @@ flat_button_changed lent b (former, slots) =
 abbrev pub flat_axis_changed : FlatData → Axis → Option Code × MappingData → FlatChanged
 flat_axis_changed lent a (former, slots) =
     record { former = flat_code former; slots = flat_with_axis lent a (flat_slot (axis_of slots a)) }
+
+-- the same, by the kind of the element whose slot it is
+abbrev pub flat_with_element : FlatData → AxisOrBtn → MappingData → FlatData
+flat_with_element lent (El.Btn b) slots = flat_with_button lent b (flat_slot (button_of slots b))
+flat_with_element lent (El.Axis a) slots = flat_with_axis lent a (flat_slot (axis_of slots a))
+
+abbrev pub flat_element_changed : FlatData → AxisOrBtn → Option Code × MappingData → FlatChanged
+flat_element_changed lent e (former, slots) = record { former = flat_code former; slots = flat_with_element lent e slots }
 
 -- ---- answers
 abbrev pub flat_answer : Result ⊤ MappingError → FlatRefusal

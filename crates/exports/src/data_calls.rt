@@ -4,11 +4,11 @@ ghost use Rattle.line.specs.Elements.{code_of};
 ghost use Rattle.map.specs.Slots.{filled_with, has_code_in, no_slots, button_of, axis_of, insert_btn_of, insert_axis_of, remove_button_of, remove_axis_of};
 ghost use Rattle.exports.specs.Flat.{button_in, axis_in, flat_code, flat_code_in};
 ghost use Rattle.exports.specs.FlatSlots.{flat_slot, slot_in, flat_data, data_in, flat_slots_with};
-ghost use Rattle.exports.specs.FlatSlots.{flat_button_changed, flat_axis_changed};
+ghost use Rattle.exports.specs.FlatSlots.{flat_with_element, flat_element_changed, flat_button_changed, flat_axis_changed};
 
 use crate::flat_data::{FlatData, FlatSlot};
 use crate::line_calls::FlatCode;
-use line::ev::{Axis, Button, Code};
+use line::ev::{Axis, AxisOrBtn, Button, Code};
 use map::mapping_data::MappingData;
 
 // What an insert or a remove hands back: the former code, and the changed slots.
@@ -38,34 +38,26 @@ fn put_slot(slots: &mut [FlatSlot], number: u16, slot: FlatSlot)
     }
 }
 
-// The former code, and the lent slots with the one of that button as it is after the call. Each other comes back as it
-// was lent, also one that is not filled.
-fn button_changed(
-    lent: FlatData,
-    button: Button,
-    changed: (Option<Code>, MappingData),
-) -> FlatChanged
-    ensures { result ≡ flat_button_changed lent button changed }
+// The lent slots with the one of that element as it is after the call. Each other comes back as it was lent, also one
+// that is not filled.
+fn with_slot(lent: FlatData, of: AxisOrBtn, after: MappingData) -> FlatData
+    ensures { result ≡ flat_with_element lent of after }
 {
-    let (former, after) = changed;
     let mut slots = lent;
-    put_slot(&mut slots.buttons, button.0, after.button(button).into());
-    FlatChanged {
-        former: former.into(),
-        slots,
+    match of {
+        AxisOrBtn::Btn(b) => put_slot(&mut slots.buttons, b.0, after.button(b).into()),
+        AxisOrBtn::Axis(a) => put_slot(&mut slots.axes, a.0, after.axis(a).into()),
     }
+    slots
 }
 
-// The same for the slot of an axis.
-fn axis_changed(lent: FlatData, axis: Axis, changed: (Option<Code>, MappingData)) -> FlatChanged
-    ensures { result ≡ flat_axis_changed lent axis changed }
+// The former code, and the slots, where a call changed the one of that element.
+fn changed(lent: FlatData, of: AxisOrBtn, former: Option<Code>, after: MappingData) -> FlatChanged
+    ensures { result ≡ flat_element_changed lent of (former, after) }
 {
-    let (former, after) = changed;
-    let mut slots = lent;
-    put_slot(&mut slots.axes, axis.0, after.axis(axis).into());
     FlatChanged {
         former: former.into(),
-        slots,
+        slots: with_slot(lent, of, after),
     }
 }
 
@@ -118,7 +110,7 @@ pub extern "C" fn raspteal_data_insert_btn(data: FlatData, code: u32, button: u1
 {
     let mut slots = MappingData::from(data);
     let former = slots.insert_btn(Code(code), Button(button));
-    button_changed(data, Button(button), (former, slots))
+    changed(data, AxisOrBtn::Btn(Button(button)), former, slots)
 }
 
 #[unsafe(no_mangle)]
@@ -128,7 +120,7 @@ pub extern "C" fn raspteal_data_insert_axis(data: FlatData, code: u32, axis: u16
 {
     let mut slots = MappingData::from(data);
     let former = slots.insert_axis(Code(code), Axis(axis));
-    axis_changed(data, Axis(axis), (former, slots))
+    changed(data, AxisOrBtn::Axis(Axis(axis)), former, slots)
 }
 
 #[unsafe(no_mangle)]
@@ -138,7 +130,7 @@ pub extern "C" fn raspteal_data_remove_button(data: FlatData, button: u16) -> Fl
 {
     let mut slots = MappingData::from(data);
     let former = slots.remove_button(Button(button));
-    button_changed(data, Button(button), (former, slots))
+    changed(data, AxisOrBtn::Btn(Button(button)), former, slots)
 }
 
 #[unsafe(no_mangle)]
@@ -148,5 +140,5 @@ pub extern "C" fn raspteal_data_remove_axis(data: FlatData, axis: u16) -> FlatCh
 {
     let mut slots = MappingData::from(data);
     let former = slots.remove_axis(Axis(axis));
-    axis_changed(data, Axis(axis), (former, slots))
+    changed(data, AxisOrBtn::Axis(Axis(axis)), former, slots)
 }

@@ -1,5 +1,6 @@
 // What crosses the boundary, and how the answers of the layers are laid out as numbers. C has no Option and no enum with
-// values: a flag stands beside each value that may be missing.
+// values: a flag stands beside each value that may be missing. C has no generic structs either, and the layers' structs
+// are not laid out for it: each struct for C has a From of its own, each way that it crosses, also where two look alike.
 ghost use Rattle.std.specs.Prelude.{◌≡◌, Err};
 ghost use Rattle.exports.specs.Flat.{flat_written, flat_uuid, form_number, uuid_in, flat_element, element_of, place_number, code_number, flat_outcome};
 
@@ -7,7 +8,7 @@ use line::ev::{Axis, AxisOrBtn, Button, Code};
 use line::refusal::Refusal;
 use text::uuid::{Form, Uuid};
 
-// Where a writer stopped; 0 where the text did not fit.
+// Where a writer stopped; 0 where the text did not fit. C's struct, as FlatValue and FlatIndexParse are.
 #[repr(C)]
 #[derive(Clone, Copy)]
 pub struct FlatWritten {
@@ -86,6 +87,7 @@ impl From<Uuid> for FlatUuid {
     }
 }
 
+// The way back: C's struct of a UUID is not the layer's.
 impl From<FlatUuid> for Uuid {
     ghost from_gives = { λ f id. id ≡ uuid_in f };
 
@@ -97,7 +99,8 @@ impl From<FlatUuid> for Uuid {
     }
 }
 
-// The number that C knows a form by. The layers know nothing of C, so that no From of theirs tells it.
+// The number that C knows a form by. The layers know nothing of C, so that no From of theirs tells it. Each kind has its
+// own numbers, so each has a table.
 pub fn form_number(f: Form) -> u8
     ensures { result ≡ form_number f }
 {

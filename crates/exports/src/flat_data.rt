@@ -7,6 +7,7 @@ use line::ev::Code;
 use map::mapping_data::{AXES, BUTTONS, MappingData};
 use std::array;
 
+// A slot: C's struct, as FlatCode is, whose flag has another name there.
 #[repr(C)]
 #[derive(Clone, Copy)]
 pub struct FlatSlot {
@@ -52,6 +53,7 @@ impl From<MappingData> for FlatData {
     }
 }
 
+// The way back: C's struct of the slots is not the layer's.
 impl From<FlatData> for MappingData {
     ghost from_gives = { λ f d. d ≡ data_in f };
 

@@ -47,7 +47,7 @@ const BUTTON: u8 = 6;
 
 const HAT: u8 = 7;
 
-// The number that C knows a range by.
+// The number that C knows a range by. (line's packed ranges number the halves otherwise.)
 pub fn range_number(r: AxisRange) -> u8
     ensures { result ≡ range_number r }
 {
@@ -70,7 +70,7 @@ pub fn range_of(n: u8) -> AxisRange
     }
 }
 
-// The number that C knows a state by.
+// The number that C knows a state by: a table for each kind, as `form_number` says.
 pub fn state_number(s: State) -> u8
     ensures { result ≡ state_number s }
 {

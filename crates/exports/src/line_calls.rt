@@ -6,7 +6,7 @@ ghost use Rattle.exports.specs.Flat.{element_of, button_in, axis_in, flat_code, 
 use crate::flat::{FlatElement, code_number};
 use line::ev::{Axis, AxisOrBtn, Button, Code};
 
-// A code, if there is one.
+// A code, if there is one: C's struct, as FlatSlot is, whose flag has another name there.
 #[repr(C)]
 #[derive(Clone, Copy)]
 pub struct FlatCode {

@@ -54,7 +54,8 @@ pub extern "C" fn raspteal_store_found_near(
     store::near::found_near(index, text, party.into(), id.into()).into()
 }
 
-// A reference can't be returned to C: the line is copied to the start of `out`.
+// A reference can't be returned to C: the line is copied to the start of `out`. C calls this and `raspteal_store_get`
+// each by its name: what they share is the last line.
 #[unsafe(no_mangle)]
 pub extern "C" fn raspteal_store_get_near(
     index: &[u8],

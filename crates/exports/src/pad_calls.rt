@@ -12,7 +12,7 @@ use line::ev::Code;
 use pad::events::{Event, Raw};
 use pad::value::{entry_value, event};
 
-// The value of an element, if there is one.
+// The value of an element, if there is one: C's struct, as FlatWritten is.
 #[repr(C)]
 #[derive(Clone, Copy)]
 pub struct FlatValue {

@@ -64,6 +64,7 @@ impl From<Pad> for FlatPad {
     }
 }
 
+// The way back: C's struct of a pad is not the layer's, and has the same four parts.
 impl From<FlatPad> for Pad {
     ghost from_gives = { λ f p. p ≡ pad_in f };
 

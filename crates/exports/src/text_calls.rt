@@ -17,6 +17,7 @@ pub struct FlatUuidParse {
     pub form: u8,
 }
 
+// The number that a text is, if it is one: C's struct, as FlatWritten is.
 #[repr(C)]
 #[derive(Clone, Copy)]
 pub struct FlatIndexParse {

@@ -56,6 +56,7 @@ impl From<Pads> for FlatPads {
     }
 }
 
+// The way back: C's struct of two pads is not the layer's.
 impl From<FlatPads> for Pads {
     ghost from_gives = { λ f p. p ≡ pads_in f };
 

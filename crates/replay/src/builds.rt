@@ -1,12 +1,11 @@
 // Cases of build: the slots are filled one after the other, from lists in which some codes stand twice.
-use crate::refused::Refused;
 use crate::same;
 use line::ev::{Axis, Button, Code};
 use map::from_data::from_data;
 use map::mapping_data::MappingData;
 use parts::cuts::{after, before, first, rest, word};
 use parts::numbers::{short, uuid_or};
-use spelling::MapText;
+use spelling::{Data, MapText, Refused};
 use std::fmt::Write;
 use std::io;
 use text::uuid::Uuid;
@@ -18,7 +17,8 @@ const BUTTONS: [u32; 24] = [
 
 const AXES: [u32; 12] = [200, 201, 200, 202, 203, 204, 205, 206, 207, 208, 100, 209];
 
-// `b1=101` fills the slot of button 1, `a2=201` that of axis 2.
+// `b1=101` fills the slot of button 1, `a2=201` that of axis 2. samples_store reads such words too: one function for both
+// would need a library of its own, since neither `parts` nor `spelling` knows the slots.
 fn fill_slot(slots: &mut MappingData, s: &[u8]) {
     let code = Code(short(after(s, b'=')) as u32);
     match before(s, b'=') {
@@ -63,7 +63,7 @@ pub fn build_case<R: Print + AllocGlobal>(rt: &R, args: &[u8]) -> io::Result<boo
             out.extend_from_slice(first(&line, built.len))?;
         }
         Err(e) => {
-            let refused = format!(in rt.alloc(); "{}", Refused(e.refusal()))?;
+            let refused = format!(in rt.alloc(); "{}", Refused(Data::Recorded, e.refusal()))?;
             out.extend_from_slice(refused.as_bytes())?;
         }
     }

@@ -2,36 +2,15 @@
 // A token is written `U<digits>`, `N<start>+<len>`, `P<start>+<len>`, or `A<axis>`, `B<button>`, `H<hat>.<direction>` with
 // `><element>`, the input and the output range, `F`, `U` or `L`, and `~` where inverted; a refusal `!<number>@<place>`; the
 // end `E`. Each has `/` after it.
-use crate::refused::Refused;
 use crate::same;
-use line::parser::{Error, Token, start_state, step};
+use line::parser::{start_state, step};
 use line::reading::parse_sdl_mapping;
 use map::default::default;
 use parts::cuts::{count_of, first, rest, word};
 use parts::numbers::{AXIS_CODES, BUTTON_CODES, number};
-use spelling::{MapText, TokenText};
+use spelling::{Answered, Data, MapText, Refused};
 use std::fmt::Write;
-use std::{fmt, io};
-
-// What the walker answers at a step.
-#[derive(Clone, Copy)]
-struct Answered(Option<Result<Token, Error>>);
-
-impl fmt::Display for Answered {
-    fn fmt<W: fmt::Write>(&self, f: &mut fmt::Formatter<W>) -> fmt::Result {
-        match self.0 {
-            Some(Ok(t)) => {
-                write!(f, "{}", TokenText(t))?;
-                match t {
-                    Token::Uuid(id) => write!(f, "{:016x}{:016x}", id.high, id.low),
-                    _ => Ok(()),
-                }
-            }
-            Some(Err(e)) => write!(f, "{}", Refused(e.refusal())),
-            None => write!(f, "E"),
-        }
-    }
-}
+use std::io;
 
 // `walk ANSWERS LINE`: a step for each slash.
 pub fn walk_case<R: Print + AllocGlobal>(rt: &R, args: &[u8]) -> io::Result<bool> {
@@ -41,7 +20,7 @@ pub fn walk_case<R: Print + AllocGlobal>(rt: &R, args: &[u8]) -> io::Result<bool
     let mut state = start_state(line);
     for _ in 0..count_of(word(args), b'/') {
         let next = step(line, pos, state);
-        write!(out, "{}/", Answered(next.answer))?;
+        write!(out, "{}/", Answered(Data::Recorded, next.answer))?;
         pos = next.pos;
         state = next.state;
     }
@@ -53,7 +32,7 @@ pub fn read_case<R: Print + AllocGlobal>(rt: &R, args: &[u8]) -> io::Result<bool
     let read = parse_sdl_mapping(rest(args), &BUTTON_CODES, &AXIS_CODES);
     let out = match read.answer {
         Ok(()) => format!(in rt.alloc(); "{}", MapText(&read.map))?,
-        Err(e) => format!(in rt.alloc(); "{}", Refused(e.refusal()))?,
+        Err(e) => format!(in rt.alloc(); "{}", Refused(Data::Recorded, e.refusal()))?,
     };
     same(rt, out.as_bytes(), word(args))
 }

@@ -4,7 +4,6 @@
 
 mod builds;
 mod lines;
-mod refused;
 mod stores;
 
 use parts::cuts::{before, is_blank, rest, word};

@@ -2,7 +2,7 @@
 use crate::codes::codes_of;
 use crate::line_cases::Reading;
 use crate::slot_cases::slots_of;
-use crate::spelled::{ROOM, Refused, copied, is, spelled, unhexed};
+use crate::spelled::{ROOM, copied, is, refused, spelled, unhexed};
 use line::reading::parse_sdl_mapping;
 use map::from_data::{Built, from_data};
 use parts::cuts::{first, past, rest, word};
@@ -70,10 +70,10 @@ fn built_text(
     let mut said = match built.answer {
         Ok(()) => { line_text(alloc, built, first(out, built.len), buttons, axes)? }
         Err(e) => {
-            let refused = Refused(e.refusal());
+            let map = MapText(&built.map);
             copied(
                 alloc,
-                format!(in alloc; "{refused};{}", MapText(&built.map))?.as_bytes(),
+                format!(in alloc; "{};{map}", refused(e.refusal()))?.as_bytes(),
             )?
         }
     };

@@ -51,6 +51,7 @@ pub fn element_case<R: Print + AllocGlobal>(rt: &R, args: &[u8]) -> io::Result<b
     is(rt, out.as_bytes(), rest(rest(args)))
 }
 
+// The half that a letter is. (C and line's packed ranges have numbers, two tables of their own.)
 fn half(b: u8) -> AxisRange {
     match b {
         b'L' => AxisRange::LowerHalf,

@@ -3,12 +3,12 @@
 // with `><element>`, the input and the output range, `F`, `U` or `L`, and `~` where inverted; a refusal
 // `!<number>@<place>`; the end `E`; a map `<name start>+<name len>;<hat flags>;<code>=<element>,..`, an element with its
 // ranges as a token has them where they are not full.
-use crate::spelled::{Refused, is, spelled};
+use crate::spelled::{is, refused, spelled};
 use line::parser::tokens::{count_tokens, token_at};
-use line::parser::{Error, Token, first_token, start_state};
+use line::parser::{first_token, start_state};
 use line::reading::{SdlMapping, parse_sdl_mapping};
 use parts::cuts::{before, count_of, rest, word};
-use spelling::{MapText, TokenText};
+use spelling::{Answered, Data, MapText};
 use std::fmt::Write;
 use std::{fmt, io};
 
@@ -16,30 +16,10 @@ const BUTTONS: [u32; 2] = [0x10130, 0x10131];
 
 const AXES: [u32; 1] = [0x30000];
 
-// What the walker answers at a call.
-#[derive(Clone, Copy)]
-struct Answered(Option<Result<Token, Error>>);
-
-impl fmt::Display for Answered {
-    fn fmt<W: fmt::Write>(&self, f: &mut fmt::Formatter<W>) -> fmt::Result {
-        match self.0 {
-            Some(Ok(t)) => {
-                write!(f, "{}", TokenText(t))?;
-                match t {
-                    Token::Uuid(id) => write!(f, "{:x}", id.low),
-                    _ => Ok(()),
-                }
-            }
-            Some(Err(e)) => write!(f, "{}", Refused(e.refusal())),
-            None => write!(f, "E"),
-        }
-    }
-}
-
 // `walk ANSWERS TEXT`: a call for each slash; the first also of a walker that is made anew.
 pub fn walk_case<R: Print + AllocGlobal>(rt: &R, args: &[u8]) -> io::Result<bool> {
     let line = spelled(rt.alloc(), rest(args))?;
-    let first = format!(in rt.alloc(); "{}", Answered(first_token(&line)))?;
+    let first = format!(in rt.alloc(); "{}", Answered(Data::Cases, first_token(&line)))?;
     if !is(rt, first.as_bytes(), before(word(args), b'/'))? {
         return Ok(false);
     }
@@ -48,7 +28,7 @@ pub fn walk_case<R: Print + AllocGlobal>(rt: &R, args: &[u8]) -> io::Result<bool
     let mut state = start_state(&line);
     for _ in 0..count_of(word(args), b'/') {
         let next = token_at(&line, pos, state);
-        write!(out, "{}/", Answered(next.answer))?;
+        write!(out, "{}/", Answered(Data::Cases, next.answer))?;
         pos = next.pos;
         state = next.state;
     }
@@ -61,7 +41,7 @@ pub fn count_case<R: Print + AllocGlobal>(rt: &R, args: &[u8]) -> io::Result<boo
     let tokens = count_tokens(&line);
     let mut out = format!(in rt.alloc(); "{}", tokens.count)?;
     if let Some(e) = tokens.last {
-        write!(out, "{}", Refused(e.refusal()))?;
+        write!(out, "{}", refused(e.refusal()))?;
     }
     is(rt, out.as_bytes(), word(args))
 }
@@ -73,7 +53,7 @@ pub struct Reading<'a>(pub &'a SdlMapping);
 impl fmt::Display for Reading<'_> {
     fn fmt<W: fmt::Write>(&self, f: &mut fmt::Formatter<W>) -> fmt::Result {
         if let Err(e) = self.0.answer {
-            write!(f, "{};", Refused(e.refusal()))?;
+            write!(f, "{};", refused(e.refusal()))?;
         }
         write!(f, "{}", MapText(&self.0.map))
     }

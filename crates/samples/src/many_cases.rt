@@ -1,5 +1,5 @@
 // Cases of reading with long lines and long lists.
-use crate::spelled::{ROOM, Refused, is, spelled};
+use crate::spelled::{ROOM, is, refused, spelled};
 use line::reading::parse_sdl_mapping;
 use parts::cuts::{first, rest, word};
 use parts::numbers::{number, numbered};
@@ -30,7 +30,7 @@ pub fn many_case<R: Print + AllocGlobal>(rt: &R, args: &[u8]) -> io::Result<bool
     let count = reading.map.count;
     let out = match reading.answer {
         Ok(()) => format!(in rt.alloc(); "{count}")?,
-        Err(e) => format!(in rt.alloc(); "{};{count}", Refused(e.refusal()))?,
+        Err(e) => format!(in rt.alloc(); "{};{count}", refused(e.refusal()))?,
     };
     is(rt, out.as_bytes(), word(args))
 }

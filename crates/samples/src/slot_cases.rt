@@ -1,7 +1,7 @@
 // Cases of the slots and of the default map.
 use crate::codes::{codes_of, hex_number};
 use crate::element_cases::element;
-use crate::spelled::{Hex, OrDash, Refused, is};
+use crate::spelled::{Hex, OrDash, is, refused};
 use line::ev::{AxisOrBtn, Code};
 use map::default::default;
 use map::mapping_data::MappingData;
@@ -74,7 +74,7 @@ pub fn default_case<R: Print + AllocGlobal>(rt: &R, args: &[u8]) -> io::Result<b
     let made = default(&buttons, &axes);
     let mut out = String::new(rt.alloc());
     if let Err(e) = made.answer {
-        write!(out, "{};", Refused(e.refusal()))?;
+        write!(out, "{};", refused(e.refusal()))?;
     }
     let flag = if made.map.is_default { "d" } else { "" };
     write!(out, "{flag}{}", MapText(&made.map))?;

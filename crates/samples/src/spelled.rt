@@ -3,6 +3,7 @@ use line::ev::Code;
 use line::refusal::Refusal;
 use parts::cuts::first;
 use parts::numbers::unhex;
+use spelling::{Data, Refused};
 use std::alloc::{AllocError, Global};
 use std::{fmt, io};
 
@@ -11,20 +12,9 @@ pub const ROOM: usize = 8704;
 
 const NIL: &[u8] = b"00000000000000000000000000000000";
 
-// A refusal: `!13`, `!4@38` with a place, `!15=131` with a code. The cases have the code in hexadecimal behind `=`, the
-// recorded answers of replay in base ten behind a colon: two spellings, which the data keep.
-#[derive(Clone, Copy)]
-pub struct Refused(pub Refusal);
-
-impl fmt::Display for Refused {
-    fn fmt<W: fmt::Write>(&self, f: &mut fmt::Formatter<W>) -> fmt::Result {
-        write!(f, "!{}", self.0.number)?;
-        match (self.0.place, self.0.code) {
-            (Some(p), _) => write!(f, "@{p}"),
-            (None, Some(c)) => write!(f, "={:x}", c.0),
-            (None, None) => Ok(()),
-        }
-    }
+// A refusal as the cases have it: `!13`, `!4@38` with a place, `!15=131` with a code.
+pub fn refused(refusal: Refusal) -> Refused {
+    Refused(Data::Cases, refusal)
 }
 
 // What there is, or `-`.

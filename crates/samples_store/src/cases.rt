@@ -4,10 +4,19 @@ use line::refusal::Refusal;
 use parts::cuts::{after, before, first, past, rest, word};
 use parts::numbers::{number, unhex};
 use std::alloc::{AllocError, Global};
-use store::calls::{LookError, StoreError, clear, found, get, insert};
+use store::calls::{Inserted, StoreError, clear, found, get, insert};
 use store::parties::Party;
 use store::refusal::store_outcome;
 use text::bytes::write_bytes;
+use text::uuid::Uuid;
+
+// The store of a case, its two buffers, and whose call it is.
+#[derive(Drop)]
+pub struct Store<'a> {
+    pub index: &'a mut [u8],
+    pub text: &'a mut [u8],
+    pub party: Party,
+}
 
 // What stands for a place or a code where a refusal has neither.
 const NEITHER: usize = 65535;
@@ -38,67 +47,62 @@ pub fn insert_answer(answer: Result<(), StoreError>, expected: &[u8]) -> bool {
 }
 
 // `clear ANSWER`
-pub fn clear_case(index: &mut [u8], text: &mut [u8], args: &[u8]) -> bool {
+pub fn clear_case(store: Store, args: &[u8]) -> bool {
+    let Store { index, text, .. } = store;
     insert_answer(clear(index, text), args)
 }
 
+// Inserts the lines of a text.
+fn insert_lines(alloc: Global, store: Store, lines: &[u8]) -> Result<Inserted, AllocError> {
+    let Store { index, text, party } = store;
+    let lines = spelled(alloc, lines)?;
+    Ok(insert(index, text, party, &lines))
+}
+
+// Whether an insert answers so and tells so many lines: `ANSWER COUNT ..`.
+fn is_inserted(inserted: Inserted, args: &[u8]) -> bool {
+    inserted.count == number(word(rest(args))) && insert_answer(inserted.answer, word(args))
+}
+
 // `insert ANSWER COUNT TEXT`
-pub fn insert_case(
-    alloc: Global,
-    index: &mut [u8],
-    text: &mut [u8],
-    party: Party,
-    args: &[u8],
-) -> Result<bool, AllocError> {
-    let counts = rest(args);
-    let lines = spelled(alloc, rest(counts))?;
-    let inserted = insert(index, text, party, &lines);
-    Ok(inserted.count == number(word(counts)) && insert_answer(inserted.answer, word(args)))
+pub fn insert_case(alloc: Global, store: Store, args: &[u8]) -> Result<bool, AllocError> {
+    let inserted = insert_lines(alloc, store, rest(rest(args)))?;
+    Ok(is_inserted(inserted, args))
 }
 
 // `forms ANSWER COUNT OTHERS TEXT`: an insert that tells how many lines were filed in another form than 32 digits.
-pub fn forms_case(
-    alloc: Global,
-    index: &mut [u8],
-    text: &mut [u8],
-    party: Party,
-    args: &[u8],
-) -> Result<bool, AllocError> {
-    let counts = rest(args);
-    let others = rest(counts);
-    let lines = spelled(alloc, rest(others))?;
-    let inserted = insert(index, text, party, &lines);
-    Ok(
-        inserted.count == number(word(counts))
-            && inserted.not_simple == number(word(others))
-            && insert_answer(inserted.answer, word(args)),
-    )
+pub fn forms_case(alloc: Global, store: Store, args: &[u8]) -> Result<bool, AllocError> {
+    let others = rest(rest(args));
+    let inserted = insert_lines(alloc, store, rest(others))?;
+    Ok(inserted.not_simple == number(word(others)) && is_inserted(inserted, args))
 }
 
-// Whether a look-up says so and hands back that line: `SAYS UUID LINE`, of which `says` is the number.
-pub fn is_looked(alloc: Global, says: usize, line: &[u8], args: &[u8]) -> Result<bool, AllocError> {
+// What a look-up says, as a number, and the line that it hands back.
+#[derive(Clone, Copy)]
+pub struct Looked<'a> {
+    pub says: usize,
+    pub line: &'a [u8],
+}
+
+// The UUID of a look-up: `SAYS UUID LINE`.
+pub fn key_of(args: &[u8]) -> Uuid {
+    uuid(word(rest(args)))
+}
+
+// Whether a look-up says so and hands back that line: `SAYS UUID LINE`.
+pub fn is_looked(alloc: Global, looked: Looked, args: &[u8]) -> Result<bool, AllocError> {
     let expected = spelled(alloc, rest(rest(args)))?;
-    Ok(says == number(word(args)) && line == expected.as_slice())
-}
-
-fn look_number(looked: Result<bool, LookError>) -> usize {
-    match looked {
-        Ok(held) => usize::from(held),
-        Err(e) => e.refusal().number as usize,
-    }
+    Ok(looked.says == number(word(args)) && looked.line == expected.as_slice())
 }
 
 // `find SAYS UUID LINE`: 1 found, 0 none, 19 or 24, and the line that is handed back, empty unless found.
-pub fn find_case(
-    alloc: Global,
-    index: &[u8],
-    text: &[u8],
-    party: Party,
-    args: &[u8],
-) -> Result<bool, AllocError> {
-    let key = uuid(word(rest(args)));
-    let says = look_number(found(index, text, party, key));
-    is_looked(alloc, says, get(index, text, party, key), args)
+pub fn find<'a>(store: &'a Store, key: Uuid) -> Looked<'a> {
+    let says = match found(store.index, store.text, store.party, key) {
+        Ok(held) => usize::from(held),
+        Err(e) => e.refusal().number as usize,
+    };
+    let line = get(store.index, store.text, store.party, key);
+    Looked { says, line }
 }
 
 // `index TEXT`, `text TEXT`: the bytes of the buffer, all after them being 0.

@@ -10,9 +10,15 @@ mod save_cases;
 mod share_cases;
 mod spelled;
 
+use cases::{
+    Store, bytes_case, clear_case, find, forms_case, insert_case, is_looked, key_of, poke_case,
+};
+use near_cases::near;
 use parties::party_and_call;
 use parts::cuts::{before, is_blank, rest, word};
 use parts::totals::Totals;
+use save_cases::save_case;
+use share_cases::{share_case, told_case};
 use spelled::big;
 use std::alloc::{AllocError, Global};
 use std::io::Read;
@@ -44,7 +50,6 @@ struct Run {
 }
 
 // One call of a party on the store, a comparison of a whole buffer, or a change of its bytes.
-// The index and the text stand beside each other here and in the cases, as the store's own calls take them.
 fn run_case(
     alloc: Global,
     index: &mut [u8],
@@ -53,19 +58,20 @@ fn run_case(
 ) -> Result<bool, AllocError> {
     let (party, call) = party_and_call(line);
     let args = rest(call);
+    let store = Store { index, text, party };
     match word(call) {
-        b"find" => cases::find_case(alloc, index, text, party, args),
-        b"near" => near_cases::near_case(alloc, index, text, party, args),
-        b"insert" => cases::insert_case(alloc, index, text, party, args),
-        b"forms" => cases::forms_case(alloc, index, text, party, args),
-        b"save" => save_cases::save_case(alloc, index, text, party, args),
-        b"share" => Ok(share_cases::share_case(index, text, args)),
-        b"told" => Ok(share_cases::told_case(index, text, args)),
-        b"clear" => Ok(cases::clear_case(index, text, args)),
-        b"index" => cases::bytes_case(alloc, index, args),
-        b"text" => cases::bytes_case(alloc, text, args),
-        b"poke-index" => Ok(cases::poke_case(index, args)),
-        b"poke-text" => Ok(cases::poke_case(text, args)),
+        b"find" => is_looked(alloc, find(&store, key_of(args)), args),
+        b"near" => is_looked(alloc, near(&store, key_of(args)), args),
+        b"insert" => insert_case(alloc, store, args),
+        b"forms" => forms_case(alloc, store, args),
+        b"save" => save_case(alloc, store, args),
+        b"share" => Ok(share_case(store, args)),
+        b"told" => Ok(told_case(&store, args)),
+        b"clear" => Ok(clear_case(store, args)),
+        b"index" => bytes_case(alloc, store.index, args),
+        b"text" => bytes_case(alloc, store.text, args),
+        b"poke-index" => Ok(poke_case(store.index, args)),
+        b"poke-text" => Ok(poke_case(store.text, args)),
         _ => Ok(false),
     }
 }

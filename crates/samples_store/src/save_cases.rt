@@ -1,5 +1,5 @@
 // Cases of save.
-use crate::cases::is;
+use crate::cases::{Store, is};
 use crate::spelled::{spelled, uuid};
 use line::ev::{Axis, Button, Code};
 use line::mapping::Mapping;
@@ -9,10 +9,9 @@ use parts::cuts::{after, before, first, rest, word};
 use parts::numbers::{number, numbered, short};
 use std::alloc::{AllocError, Global};
 use store::calls::{get, save};
-use store::parties::Party;
 use store::refusal::save_outcome;
 
-// `b1=5`: button 1 has code 5.
+// `b1=5`: button 1 has code 5. replay reads such words too, and says why each has its function.
 fn fill_slot(slots: &mut MappingData, s: &[u8]) {
     let code = Code(short(after(s, b'=')) as u32);
     match s {
@@ -61,13 +60,8 @@ fn reads_back(line: &[u8], map: &Mapping, buttons: &[u32], axes: &[u32]) -> bool
 
 // `save ANSWER UUID SLOTS BUTTONS AXES NAME`: the lists are the codes from 1 on, so many each. A save that filed reads
 // back as its map, and a refused one has the empty map.
-pub fn save_case(
-    alloc: Global,
-    index: &mut [u8],
-    text: &mut [u8],
-    party: Party,
-    args: &[u8],
-) -> Result<bool, AllocError> {
+pub fn save_case(alloc: Global, store: Store, args: &[u8]) -> Result<bool, AllocError> {
+    let Store { index, text, party } = store;
     let more = rest(args);
     let lists = rest(rest(more));
     let key = uuid(word(more));

@@ -1,22 +1,24 @@
 // Cases of the parties' shares of the text.
-use crate::cases::insert_answer;
+use crate::cases::{Store, insert_answer};
 use crate::spelled::{big, owner};
 use parts::cuts::{rest, word};
 use parts::numbers::number;
 use store::sharing::{ShareUse, set_share, share_of};
 
 // `share ANSWER OWNER BYTES`
-pub fn share_case(index: &mut [u8], text: &[u8], args: &[u8]) -> bool {
+pub fn share_case(store: Store, args: &[u8]) -> bool {
     let more = rest(args);
     let bytes = big(word(rest(more)));
-    insert_answer(set_share(index, text, owner(word(more)), bytes), word(args))
+    let Store { index, text, .. } = store;
+    let set = set_share(index, text, owner(word(more)), bytes);
+    insert_answer(set, word(args))
 }
 
 // `told ANSWER OWNER SHARE USE`: 0 or 19; share and use are 0 where nothing is told.
-pub fn told_case(index: &[u8], text: &[u8], args: &[u8]) -> bool {
+pub fn told_case(store: &Store, args: &[u8]) -> bool {
     let more = rest(args);
     let uses = rest(more);
-    let (refused, shown) = match share_of(index, text, owner(word(more))) {
+    let (refused, shown) = match share_of(store.index, store.text, owner(word(more))) {
         Ok(told) => (0, told),
         Err(e) => (e.refusal().number, ShareUse { share: 0, used: 0 }),
     };

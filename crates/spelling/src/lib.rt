@@ -3,8 +3,36 @@
 
 use line::ev::AxisOrBtn;
 use line::mapping::{Entry, Mapping};
-use line::parser::{AxisRange, Ranges, Token};
+use line::parser::{AxisRange, Error, Ranges, Token};
+use line::refusal::Refusal;
 use std::fmt;
+
+// Whose data the text is compared with. The cases of samples have the low half of a UUID, and a code that is refused in
+// hexadecimal behind `=`; the recorded answers of replay have all 32 digits, and the code in base ten behind a colon.
+#[derive(Clone, Copy)]
+pub enum Data {
+    Cases,
+    Recorded,
+}
+
+// A refusal: `!13`, `!4@38` with a place, `!15=131` or `!15:305` with a code.
+#[derive(Clone, Copy)]
+pub struct Refused(pub Data, pub Refusal);
+
+impl fmt::Display for Refused {
+    fn fmt<W: fmt::Write>(&self, f: &mut fmt::Formatter<W>) -> fmt::Result {
+        let refusal = self.1;
+        write!(f, "!{}", refusal.number)?;
+        if let Some(p) = refusal.place {
+            return write!(f, "@{p}");
+        }
+        match (refusal.code, self.0) {
+            (Some(c), Data::Cases) => write!(f, "={:x}", c.0),
+            (Some(c), Data::Recorded) => write!(f, ":{}", c.0),
+            (None, _) => Ok(()),
+        }
+    }
+}
 
 // `b16` for a button, `a8` for an axis.
 #[derive(Clone, Copy)]
@@ -71,15 +99,18 @@ impl fmt::Display for Part {
     }
 }
 
-// A token: `N<start>+<len>`, `P<start>+<len>`, or `A<axis>`, `B<button>`, `H<hat>.<direction>` with `><element>` and its
-// ranges. Of a UUID it is `U` alone: the digits are the program's.
+// A token: `U<digits>`, `N<start>+<len>`, `P<start>+<len>`, or `A<axis>`, `B<button>`, `H<hat>.<direction>` with
+// `><element>` and its ranges.
 #[derive(Clone, Copy)]
-pub struct TokenText(pub Token);
+pub struct TokenText(pub Data, pub Token);
 
 impl fmt::Display for TokenText {
     fn fmt<W: fmt::Write>(&self, f: &mut fmt::Formatter<W>) -> fmt::Result {
-        match self.0 {
-            Token::Uuid(_) => write!(f, "U"),
+        match self.1 {
+            Token::Uuid(id) => match self.0 {
+                Data::Cases => write!(f, "U{:x}", id.low),
+                Data::Recorded => write!(f, "U{:016x}{:016x}", id.high, id.low),
+            },
             Token::Platform { start, len } => write!(f, "P{}", Part(start, len)),
             Token::Name { start, len } => write!(f, "N{}", Part(start, len)),
             Token::AxisMapping { from, to, ranges } => {
@@ -94,6 +125,20 @@ impl fmt::Display for TokenText {
                 to,
                 ranges,
             } => write!(f, "H{hat}.{direction}>{}{}", Element(to), Halves(ranges)),
+        }
+    }
+}
+
+// What the walker answers at a call: a token, a refusal, or `E` at the end.
+#[derive(Clone, Copy)]
+pub struct Answered(pub Data, pub Option<Result<Token, Error>>);
+
+impl fmt::Display for Answered {
+    fn fmt<W: fmt::Write>(&self, f: &mut fmt::Formatter<W>) -> fmt::Result {
+        match self.1 {
+            Some(Ok(t)) => write!(f, "{}", TokenText(self.0, t)),
+            Some(Err(e)) => write!(f, "{}", Refused(self.0, e.refusal())),
+            None => write!(f, "E"),
         }
     }
 }
