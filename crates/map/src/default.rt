@@ -38,6 +38,7 @@ pub struct DefaultMap {
 }
 
 // The code of a button is sought among the buttons, that of an axis among the axes.
+#[tactic(auto, unfolding(crate::specs::Default::in_its_list))]
 fn in_its_list(buttons: &[u32], axes: &[u32], code: Code) -> bool
     ensures { result ≡ in_its_list buttons.now axes.now code }
 {

@@ -20,6 +20,7 @@ pub fn find_code(list: &[u32], code: Code) -> Option<usize>
     list.iter().position(|x| *x == code.0)
 }
 
+#[tactic(auto, using(crate::proofs::FilledLaws::some_place))]
 pub fn in_list(list: &[u32], code: Code) -> bool
     ensures { result ≡ in_list code list.now }
 {

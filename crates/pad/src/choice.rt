@@ -29,6 +29,7 @@ fn code_place(numbers: &[u64], code: Code) -> Option<usize>
 
 // The place of a code among those that are held; how many there are where it is not there, since a new code is put
 // there: the caller has one step for both.
+#[tactic(auto, using(crate::proofs::NumberLaws::place_or))]
 pub fn held_place(held: &[u64], code: Code) -> usize
     ensures { (result ≡ place_in code.0 held.now) × (result ≤ length held.now) }
 {

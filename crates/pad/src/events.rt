@@ -47,6 +47,7 @@ pub struct Events {
 
 impl Events {
     // No events.
+    #[tactic(auto, unfolding(crate::specs::States::events_in))]
     pub(crate) fn none() -> Events
         ensures { result ≡ events_in [] }
     {
@@ -57,6 +58,7 @@ impl Events {
     }
 
     // One event more.
+    #[tactic(auto, using(crate::proofs::ListLaws::event_pushed))]
     pub(crate) fn push(&mut self, e: Event)
         requires { self.old.count < 27 }
         ensures { PushesEvent self.old e self.new }

@@ -106,6 +106,7 @@ fn raw_number(raw: Raw) -> u32
 }
 
 // The held code that a number is.
+#[tactic(auto, unfolding(crate::specs::States::held_in))]
 pub fn held_of(x: u64) -> Held
     ensures { result ≡ held_in x }
 {

@@ -59,6 +59,7 @@ pub struct Told {
 
 impl Pad {
     // No codes and the empty map.
+    #[tactic(auto, unfolding(crate::specs::States::new_pad))]
     pub fn new() -> Pad
         ensures { result ≡ new_pad }
     {

@@ -39,6 +39,7 @@ pub struct PadsTold {
 
 impl Pads {
     // No codes and the empty map, on both pads.
+    #[tactic(auto, unfolding(crate::specs::TwoPads::new_pads))]
     pub fn new() -> Pads
         ensures { result ≡ new_pads }
     {

@@ -48,6 +48,7 @@ fn pressed_value(e: AxisOrBtn, half: AxisRange) -> i16
 }
 
 // What a raw value gives to an element with those ranges.
+#[tactic(auto, unfolding(crate::specs::Values::raw_value))]
 fn raw_value(e: AxisOrBtn, r: Ranges, raw: Raw) -> Option<i16>
     ensures { result ≡ raw_value e r raw }
 {

@@ -14,6 +14,7 @@ use text::bytes::find_byte;
 use text::utf8::valid_up_to;
 
 // The axes' slots: 14, 15, 16.
+#[tactic(auto, using(crate::proofs::FilledLaws::axes_after), unfolding(crate::specs::Build::axis_checks))]
 fn axes_checked(slots: &MappingData, axes: &[u32]) -> Result<Filled, MappingError>
     ensures { Passes result (axis_checks slots.now axes.now)
         (λ f. f.items ≡ placed_in axes.now (filled_axes slots.now)) }
@@ -29,6 +30,7 @@ fn axes_checked(slots: &MappingData, axes: &[u32]) -> Result<Filled, MappingErro
 }
 
 // The buttons' slots: 14, 15; then the axes'.
+#[tactic(auto, using(crate::proofs::FilledLaws::buttons_after), unfolding(crate::specs::Build::slot_checks))]
 fn slots_checked(slots: &MappingData, buttons: &[u32], axes: &[u32]) -> Result<Pairs, MappingError>
     ensures { Passes result (slot_checks slots.now buttons.now axes.now) (Gathered slots.now buttons.now axes.now) }
 {
@@ -44,6 +46,7 @@ fn slots_checked(slots: &MappingData, buttons: &[u32], axes: &[u32]) -> Result<P
 }
 
 // The name and the lists: 10, 17, 12, 13; then the slots, whose pairs are handed back.
+#[tactic(auto, unfolding(crate::specs::Build::checks_of, text::specs::Utf8::is_utf8))]
 pub fn checked(
     slots: &MappingData,
     buttons: &[u32],
