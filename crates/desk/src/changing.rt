@@ -4,10 +4,10 @@
 // of those names that a broken-off hub left is removed first. Where the reader of an output has gone, nothing is changed.
 use crate::codes::parse_code;
 use crate::console::{Console, argument, create_new, open_read, remove_file, rename};
-use crate::fields::first;
 use crate::files::{StoreFile, arg_space, load};
 use crate::say::{Failure, complain};
 use crate::shown::fail;
+use arrayvec::ArrayVec;
 use std::fs::{File, Permissions};
 use std::io;
 use std::io::{Error, ErrorKind, Write};
@@ -77,28 +77,12 @@ pub fn may_change(console: &Console, held: Held) -> Result<(), Failure> {
     Err(Failure::Trouble)
 }
 
-// STORE with an ending. It has a fixed room and a length: a text that grows would have to ask for memory, and making a
-// path can't fail.
-#[derive(Clone, Copy)]
-struct Path {
-    bytes: [u8; PATH_ROOM],
-    len: usize,
-}
-
-impl Path {
-    fn new(store: &[u8], ending: &[u8]) -> Path {
-        let mut path = io::Cursor::new([0u8; PATH_ROOM]);
-        let _ = path.write_all(store);
-        let _ = path.write_all(ending);
-        Path {
-            len: path.position() as usize,
-            bytes: path.into_inner(),
-        }
-    }
-
-    fn as_slice(&self) -> &[u8] {
-        first(&self.bytes, self.len)
-    }
+// STORE with an ending, as far as it has room. Making one can't fail: it asks for no memory.
+fn path_of(store: &[u8], ending: &[u8]) -> ArrayVec<u8, PATH_ROOM> {
+    let mut path = ArrayVec::new();
+    let _ = path.write_all(store);
+    let _ = path.write_all(ending);
+    path
 }
 
 // Owner, group and mode of the file; where the owner can't be given, the group.
@@ -142,24 +126,36 @@ struct Change<'a> {
     held: Held,
 }
 
-impl Change<'_> {
+impl<'a> Change<'a> {
+    // Where the reader of an output has gone, nothing is changed.
+    fn begin(console: &'a Console, store: &'a [u8], held: Held) -> Result<Change<'a>, Failure> {
+        if console.is_closed() {
+            return Err(Failure::Trouble);
+        }
+        Ok(Change {
+            console,
+            store,
+            held,
+        })
+    }
+
     // What is not there needs no removal.
     fn remove(self, ending: &[u8]) {
-        let _ = remove_file(self.console, Path::new(self.store, ending).as_slice());
+        let _ = remove_file(self.console, path_of(self.store, ending).as_slice());
     }
 
     fn rename(self, from: &[u8], to: &[u8]) -> io::Result<()> {
         rename(
             self.console,
-            Path::new(self.store, from).as_slice(),
-            Path::new(self.store, to).as_slice(),
+            path_of(self.store, from).as_slice(),
+            path_of(self.store, to).as_slice(),
         )
     }
 
     // Writes a store beside the store.
     fn write(self, ending: &[u8], file: &StoreFile) -> io::Result<()> {
         self.remove(ending);
-        let new = create_new(self.console, Path::new(self.store, ending).as_slice())?;
+        let new = create_new(self.console, path_of(self.store, ending).as_slice())?;
         keep(self.console, &new, self.held)?;
         fill(new, file)
     }
@@ -202,14 +198,7 @@ impl Change<'_> {
 
 // Puts a store where there is none.
 pub fn place(console: &Console, store: &[u8], held: Held, file: &StoreFile) -> Result<(), Failure> {
-    if console.is_closed() {
-        return Err(Failure::Trouble);
-    }
-    let change = Change {
-        console,
-        store,
-        held,
-    };
+    let change = Change::begin(console, store, held)?;
     change.place(file).map_err(|error| change.unwritten(error))
 }
 
@@ -224,14 +213,7 @@ pub fn replace(
     if former == file {
         return Ok(());
     }
-    if console.is_closed() {
-        return Err(Failure::Trouble);
-    }
-    let change = Change {
-        console,
-        store,
-        held,
-    };
+    let change = Change::begin(console, store, held)?;
     change
         .replace(former, file)
         .map_err(|error| change.unwritten(error))
@@ -239,5 +221,5 @@ pub fn replace(
 
 // Reads STORE.old.
 pub fn load_old(console: &Console, store: &[u8]) -> Result<StoreFile, Failure> {
-    load(console, Path::new(store, b".old").as_slice())
+    load(console, path_of(store, b".old").as_slice())
 }

@@ -53,7 +53,8 @@ impl Kind {
 }
 
 // A list of codes. It has a fixed room and a length: a list that grows would have to ask for memory, and the functions
-// that make one can't fail.
+// that make one can't fail. The kit's ArrayVec asks for none, and was tried: it is not Copy and its clone can fail, so
+// that a request could no longer hand out a list that it keeps.
 #[derive(Clone, Copy)]
 pub struct Codes {
     list: [u32; LONGEST],

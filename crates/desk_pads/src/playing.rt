@@ -75,10 +75,11 @@ impl Play {
 
 // `pad 1`
 pub fn say_which(console: &Console, which: Which) {
-    match which {
-        Which::First => say(console, b"pad 1"),
-        Which::Second => say(console, b"pad 2"),
-    }
+    let words = match which {
+        Which::First => b"pad 1",
+        Which::Second => b"pad 2",
+    };
+    say(console, words);
 }
 
 // The player's other pad.

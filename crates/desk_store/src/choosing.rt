@@ -1,6 +1,6 @@
 // Which lines of a list an insert with `only=TEXT` is about.
-use crate::buffers::Buffer;
 use crate::records::{name_of, uuid_of};
+use arrayvec::ArrayVec;
 use desk::console::Console;
 use desk::fields::{after, bare, before};
 use desk::files::HALF;
@@ -44,11 +44,11 @@ impl<'a> Choice<'a> {
     }
 
     // The lines of a list that are chosen, with their ends; None where they are more bytes than a store holds.
-    pub fn lines_of(&self, list: &[u8]) -> Option<Buffer<HALF>> {
-        let mut kept = Buffer::new();
+    pub fn lines_of(&self, list: &[u8]) -> Option<ArrayVec<u8, HALF>> {
+        let mut kept = ArrayVec::new();
         for line in list.split_inclusive(|b| *b == b'\n') {
             if self.takes(bare(line)) {
-                kept.push(line)?;
+                kept.try_extend_from_slice(line).ok()?;
             }
         }
         Some(kept)

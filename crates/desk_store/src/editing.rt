@@ -1,9 +1,9 @@
 // The command edit: pairs of a line that is held, changed by arguments as `a:b1`.
-use crate::buffers::Buffer;
 use crate::parties::Caller;
 use crate::records::{LineKey, View};
 use crate::targets::Target;
 use crate::wrong::{id_named, wrong};
+use arrayvec::ArrayVec;
 use desk::arguments::is_party;
 use desk::console::{Console, argument, argument_count};
 use desk::fields::{after, before, without};
@@ -28,8 +28,8 @@ struct Parts<'a> {
     pairs: &'a [u8],
 }
 
-// A line that is written.
-type NewLine = Buffer<ARG_ROOM>;
+// A line that is written. It asks for no memory: putting one together can't run out of it.
+type NewLine = ArrayVec<u8, ARG_ROOM>;
 
 impl<'a> Parts<'a> {
     // None where the line has no name.
@@ -54,9 +54,10 @@ fn key_of(pair: &[u8]) -> &[u8] {
     before(pair, b':')
 }
 
+// Puts a pair and a comma; None where it has no room.
 fn push_pair(line: &mut NewLine, pair: &[u8]) -> Option<()> {
-    line.push(pair)?;
-    line.push(b",")
+    line.try_extend_from_slice(pair).ok()?;
+    line.try_push(b',').ok()
 }
 
 // Whether argument `i` is a pair with that key.
@@ -104,7 +105,7 @@ fn push_new(console: &Console, line: &mut NewLine, held: &Parts, i: usize) -> Op
 // UUID, name, and the pairs of the held line, changed by all arguments from `from` on; None where that is longer than a
 // line may be.
 fn edited(console: &Console, held: &Parts, from: usize) -> Option<NewLine> {
-    let mut line = NewLine::new();
+    let mut line: NewLine = ArrayVec::new();
     push_pair(&mut line, held.id)?;
     push_pair(&mut line, held.name)?;
     for pair in held.pairs.split_inclusive(|b| *b == b',') {

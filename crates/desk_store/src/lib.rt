@@ -1,7 +1,6 @@
 // The commands on a hall's store, on lists of lines and on maps.
 #![tactic(auto)]
 
-mod buffers;
 mod census;
 mod choosing;
 pub mod demo;

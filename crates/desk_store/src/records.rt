@@ -37,10 +37,7 @@ impl<'a> View<'a> {
 
     // The records of a sound store.
     pub fn records(self) -> Records<'a> {
-        Records {
-            index: self.index,
-            text: self.text,
-        }
+        Records { left: self }
     }
 
     // The line that a party holds under a UUID itself; empty where it holds none.
@@ -81,8 +78,7 @@ impl Record<'_> {
 // What is left of a store: the records from a place on, and the text from their first line on.
 #[derive(Drop)]
 pub struct Records<'a> {
-    index: &'a [u8],
-    text: &'a [u8],
+    left: View<'a>,
 }
 
 fn word(high: u8, low: u8) -> usize {
@@ -97,27 +93,26 @@ fn cut(text: &[u8], len: usize) -> (&[u8], &[u8]) {
 impl<'a> Iterator for Records<'a> {
     type Item = Record<'a>;
 
-    ghost remaining = { λ s. at_most (length s.index.now) };
+    ghost remaining = { λ s. at_most (length s.left.index.now) };
 
     // Kind 1 and the body, which ends in the line's length; kind 3, the owner and the same body; kind 4, the owner and its
     // share.
     fn next(&mut self) -> Option<Record<'a>> {
-        let size = match self.index {
+        let size = match self.left.index {
             [1, ..] => RECORD,
             [3, ..] => OWNED_RECORD,
             [4, ..] => SHARE_RECORD,
             _ => return None,
         };
-        let (bytes, index) = self.index.split_at_checked(size)?;
+        let (bytes, index) = self.left.index.split_at_checked(size)?;
         let (owner, len) = match bytes {
             [1, .., high, low] => (0, Some(word(*high, *low))),
             [3, owner, .., high, low] => (*owner, Some(word(*high, *low))),
             [_, owner, ..] => (*owner, None),
             _ => return None,
         };
-        let (line, text) = cut(self.text, len.unwrap_or(0));
-        self.index = index;
-        self.text = text;
+        let (line, text) = cut(self.left.text, len.unwrap_or(0));
+        self.left = View { index, text };
         Some(Record {
             size,
             head: first(bytes, size - PLACE_BYTES),

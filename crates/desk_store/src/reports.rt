@@ -45,21 +45,11 @@ pub fn has_filed(answer: Result<(), StoreError>) -> bool {
     }
 }
 
-// Where there is no room: in the index, or in the text.
+// Where there is no room, in the index or in the text: the refusal's number.
 #[derive(Clone, Copy, PartialEq, Eq)]
 pub enum Full {
-    Index,
-    Text,
-}
-
-impl Full {
-    // The refusal's number.
-    pub fn number(self) -> usize {
-        match self {
-            Full::Index => 21,
-            Full::Text => 25,
-        }
-    }
+    Index = 21,
+    Text = 25,
 }
 
 // A line that has no room in a store, in the place of one of `freed` bytes.

@@ -96,7 +96,7 @@ impl Save<'_> {
     }
 
     fn no_room(&self, console: &Console, full: Full, store: View) -> Failure {
-        put_refused(console, ERR, full.number());
+        put_refused(console, ERR, full as usize);
         complain(console, b"\n  ");
         let no_room = NoRoom {
             full,

@@ -270,7 +270,7 @@ impl Seen {
 }
 
 impl Request {
-    // With a pad's lists, where the first pad is given none.
+    // With a pad's lists, where the first pad is given none. The Request of mappings.rt, another struct, has the same.
     pub fn or_of(self, pad: Plugged) -> Request {
         Request {
             first: self.first.or_of(pad),

@@ -4,7 +4,7 @@ use desk::say::{Failure, complain};
 use desk::shown::complain_shown;
 use text::uuid::Uuid;
 
-// The argument, and what is wrong with it.
+// The argument, and what is wrong with it. (desk's `fail` has the system's words behind what failed.)
 pub fn wrong(console: &Console, arg: &[u8], words: &[u8]) -> Failure {
     complain_shown(console, arg);
     complain(console, words);
