@@ -1,29 +1,13 @@
 use mathlib.Core.Path.{ap}
 use native.Mathlib.Omega.{arith}
 use Rattle.store.specs.Held.{Key}
-use Rattle.store.proofs.UseLaws.{add_first, add_most, add_next, add_end, owner_byte}
+use Rattle.store.proofs.UseLaws.{add_first, add_most, add_next, owner_byte}
 use Rattle.store.proofs.claims.add_uses.Goals as goal
 
 pub loop-k-init : goal.loop-k-init
 loop-k-init c =
     let args = c.args in
     add_first args.rows.now args.count c.requires.addable args.uses.now c.requires.uses_value
-
-pub key_at-key-requires : goal.key_at-key-requires
-key_at-key-requires c = omega (arith, c.loop-k-test.true, c.requires.addable.most)
-
-pub bounds-uses-o : goal.bounds-uses-o
-bounds-uses-o c =
-    omega (
-      arith,
-      owner_byte c.args.rows.now c.loop-k.k,
-      ap (λ (x : Key). x.owner) c.key_at-key.ensures,
-    )
-
-pub len_at-requires : goal.len_at-requires
-len_at-requires c =
-    let test = c.loop-k-test in
-    omega (arith, test.true, c.requires.addable.most)
 
 pub overflow_cast-uses : goal.overflow_cast-uses
 overflow_cast-uses c =
@@ -51,14 +35,6 @@ overflow_add-uses c =
           (omega (arith, owner_byte args.rows.now loop.k, own)),
     )
 
-pub bounds-uses-o-in-loop-k : goal.bounds-uses-o-in-loop-k
-bounds-uses-o-in-loop-k c =
-    omega (
-      arith,
-      owner_byte c.args.rows.now c.loop-k.k,
-      ap (λ (x : Key). x.owner) c.key_at-key.ensures,
-    )
-
 pub loop-k-preserved : goal.loop-k-preserved
 loop-k-preserved c =
     let loop = c.loop-k in
@@ -67,10 +43,3 @@ loop-k-preserved c =
     add_next args.rows.now args.count c.requires.addable loop.uses loop.k loop.invariant
     c.loop-k-test.true c.key_at-key.result.owner own
     (omega (arith, owner_byte args.rows.now loop.k, own)) c.len_at.result c.len_at.ensures
-
-pub returns : goal.returns
-returns c =
-    let args = c.args in
-    let loop = c.loop-k in
-    add_end args.rows.now args.count c.requires.addable loop.uses loop.k loop.invariant
-    c.loop-k-test.false

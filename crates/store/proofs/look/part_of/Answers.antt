@@ -1,7 +1,6 @@
 -- The key is the last of the numbers, and its chain tells the one before: `spot_line`.
 use mathlib.Core.Path.{refl, ◌∙◌}
-use native.Mathlib.Omega.{arith}
-use Rattle.store.proofs.LookLaws.{some-before, spot_none, spot_line, put_agree, put_ready, put_new}
+use Rattle.store.proofs.LookLaws.{spot_none, spot_line, put_agree, put_ready, put_new}
 use Rattle.store.proofs.look.part_of.Goals as goal
 
 pub seek_before-r-requires : goal.seek_before-r-requires
@@ -34,25 +33,6 @@ returns-then-len-eq0 c =
           _ put.ensures.rows_after put.ensures.owner_bound)
           seek.result seek.ensures.sought seek.ensures.upper_bound before.result before.ensures c.if-len-eq0.true;
     }
-
-pub overflow_sub-r : goal.overflow_sub-r
-overflow_sub-r c =
-    let seek-before = c.seek_before-r in
-    omega (
-      arith,
-      some-before _ seek-before.result c.len_before-len.result c.len_before-len.ensures c.if-len-eq0.false,
-    )
-
-pub start_at-start-requires : goal.start_at-start-requires
-start_at-start-requires c =
-    let pre = c.requires in
-    let seek-before = c.seek_before-r in
-    omega (
-      arith,
-      some-before _ seek-before.result c.len_before-len.result c.len_before-len.ensures c.if-len-eq0.false,
-      seek-before.ensures.upper_bound,
-      pre.few,
-    )
 
 pub returns : goal.returns
 returns c =
