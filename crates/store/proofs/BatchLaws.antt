@@ -150,21 +150,6 @@ pub record Taking (d : Dues) (i t s : List ℕ) (a₀ : List Row) (heads₀ next
       → Took g i t s a heads next own from old f at count hs
 
 module _ (d : Dues) (i t s : List ℕ) (a₀ : List Row) (heads₀ next₀ : List ℕ) (own from : ℕ) (f₀ : Fill) where
-  pub take-first : from ≤ length s + 1 → Taking d i t s a₀ heads₀ next₀ own from f₀ a₀ heads₀ next₀ f₀ from 0
-  take-first l = record {
-    within = l;
-    counted = omega arith;
-    still = λ e. refl;
-    took = λ g old hs o w. record {
-      ks = hs;
-      others = refl;
-      in_rows = w;
-      keeps = λ v. v;
-      run = λ c. let z : c ≡ c + 0 = omega arith in
-          ap (λ (k : ℕ). insert_lines (behind g i t own) hs k (lines_of (drop from s))) z;
-    };
-  }
-
   module _ (a : List Row) (heads next : List ℕ) (f : Fill) (at count : ℕ)
       (w : Taking d i t s a₀ heads₀ next₀ own from f₀ a heads next f at count) where
     pub taken : SomeRows d own i t s a₀ heads₀ next₀ f₀ → SomeRows d own i t s a heads next f

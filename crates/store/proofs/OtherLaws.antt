@@ -70,9 +70,6 @@ pub record Othering (s : List ℕ) (count at left other : ℕ) : Type 0 where
   pub run : other + other_spellings (take left (lines_of (drop at s))) ≡ other_spellings (take count (lines_of s))
 
 module _ (s : List ℕ) (count : ℕ) where
-  pub other_first : Othering s count 0 count 0
-  other_first = record { within = omega arith; few = omega arith; run = omega arith }
-
   module _ (at left other : ℕ) (w : Othering s count at left other) where
     pub other_turn : at < length s → 0 < left → (end : ℕ) → end ≡ first_of lf (drop at s) → at + end ≤ length s
         → (line : List ℕ) → line ≡ first_line (drop at s) → (v : ℕ) → v ≡ other_spelling (wanted line) → v ≤ 1

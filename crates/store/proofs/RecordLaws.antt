@@ -8,7 +8,7 @@ use mathlib.Core.Path.{◌≡◌, refl, sym, ap, ap₂, ◌∙◌, subst}
 use Prim.Native.Nat.{ℕ, zero, suc, ◌+◌, ◌≤◌, ◌<◌}
 use native.Mathlib.Omega.{arith}
 use lib.Dec.{eqb, leb}
-use lib.ListN.{length, set, get_or, take, drop, replicate, length-append, length-drop}
+use lib.ListN.{length, get_or, take, drop, replicate, length-append, length-drop}
 use lib.Seq.{drop_at, drop-drop, drop-cons, length-take-le}
 use borrow.Author.Tests.{eq-eqb, ne_eqb, lt-leb, le-leb, leb-true, leb-false, eqb-true, eqb-false}
 use Rattle.text.specs.Bytes.{pick}
@@ -266,33 +266,6 @@ module _ (d p : List ℕ) (k : Key) (off len : ℕ) (m : length (record_bytes k 
       ∙ ap (λ (x : List ℕ). kind_bytes k.owner ++ x)
       (drop_at (take (kind_size k.owner) d) (body ++ drop body_size (drop (kind_size k.owner) d)) _
       (length-take-le (kind_size k.owner) d (omega (arith, long, kind_size_lem k.owner)))))
-
--- `body_start`
-pub start_hall : (o : ℕ) → o ≡ 0 → 1 ≡ kind_size o
-start_hall o e = sym (ap (λ (b : Bool). length (pick b (1 ∷ []) (3 ∷ o ∷ []))) (eq-eqb o 0 e))
-
-pub start_owned : (o : ℕ) → (o ≡ 0 → ⊥) → 2 ≡ kind_size o
-start_owned o n = sym (ap length (kind_owned o n))
-
--- `put_kind`
-pub kind_hall : (o : ℕ) → o ≡ 0 → (d : List ℕ) → 2 ≤ length d → set d 0 1 ≡ kind_bytes o ++ drop (kind_size o) d
-kind_hall o e d l =
-    go d l ∙ ap (λ (b : Bool). pick b (1 ∷ []) (3 ∷ o ∷ []) ++ drop (length (pick b (1 ∷ []) (3 ∷ o ∷ []))) d)
-    (sym (eq-eqb o 0 e))
-  where
-    go : (d : List ℕ) → 2 ≤ length d → set d 0 1 ≡ 1 ∷ drop 1 d
-    go [] l = absurd (omega (arith, l))
-    go (x ∷ d) l = refl
-
-pub kind_other : (o : ℕ) → (o ≡ 0 → ⊥) → (d : List ℕ) → 2 ≤ length d
-    → set (set d 0 3) 1 o ≡ kind_bytes o ++ drop (kind_size o) d
-kind_other o n d l =
-    go d l ∙ ap (λ (q : List ℕ). q ++ drop (length q) d) (sym (kind_owned o n))
-  where
-    go : (d : List ℕ) → 2 ≤ length d → set (set d 0 3) 1 o ≡ 3 ∷ o ∷ drop 2 d
-    go [] l = absurd (omega (arith, l))
-    go (x ∷ []) l = absurd (omega (arith, l))
-    go (x ∷ y ∷ d) l = refl
 
 pub size_sized : (k : Key) (n : ℕ) → n ≡ record_size k.owner → Sized k n
 size_sized k n e off len = e ∙ sym (length-record k off len)

@@ -186,7 +186,3 @@ module _ (i : List ℕ) (at : ℕ) (head : Head) (e : head ≡ head_at (drop at 
 
   pub next_within : at ≤ length i → at + head.size ≤ length i
   next_within l = omega (arith, ap (λ (x : Head). x.size) e, head_within (drop at i), length-drop at i)
-
-pub size_more : (x : ℕ) → (x ≡ 0 → ⊥) → 1 ≤ x
-size_more zero n = absurd (n refl)
-size_more (suc x) n = omega arith

@@ -9,8 +9,7 @@ use native.Mathlib.Nat.{sub-zero}
 use native.Mathlib.Omega.{arith}
 use lib.ListN.{length, take, drop, length-append}
 use lib.Seq.{take_at}
-use lib.Dec.{ltb}
-use borrow.Author.Tests.{lt-ltb, le-ltb}
+use borrow.Author.Tests.{lt-ltb}
 use Rattle.text.specs.Bytes.{pick, first_of, written}
 use Rattle.line.specs.declared.mapping.Mapping.{Mapping}
 use Rattle.map.specs.declared.error.MappingError.{MappingError}
@@ -20,7 +19,7 @@ use Rattle.map.specs.Build as build
 use Rattle.map.proofs.CheckLaws.{refused_build_lem, whole_build}
 use Rattle.store.specs.declared.calls.Saved.{Saved}
 use Rattle.store.specs.Held.{line_max}
-use Rattle.text.specs.Search.{lf, first_text, platform_key}
+use Rattle.text.specs.Search.{lf}
 use Rattle.store.specs.Book.{under, Attempt, refused, files}
 use Rattle.store.specs.declared.parties.Party.{Party}
 use Rattle.store.specs.Parties.{owner_of, by_owner, Owner}
@@ -39,12 +38,6 @@ use Rattle.store.specs.declared.calls.SaveError.{SaveError}
 module _ (name : List ℕ) (r : ℕ) (e : r ≡ first_of lf name) where
   pub unsaved_lf : r < length name → true ≡ unsaved_name name
   unsaved_lf h = rw (lt-ltb (first_of lf name) (length name) (subst (λ (k : ℕ). k < length name) e h))
-
-  pub unsaved_platform : length name ≤ r → (q : ℕ) → q ≡ first_text platform_key name
-      → ltb q (length name) ≡ unsaved_name name
-  unsaved_platform h q f =
-      rw (le-ltb (first_of lf name) (length name) (subst (λ (k : ℕ). length name ≤ k) e h))
-      (ap (λ (k : ℕ). ltb k (length name)) f)
 
 -- a save's attempt, in the store
 abbrev tries : List ℕ → List ℕ → ℕ → Attempt Saved → Done Saved

@@ -1,51 +1,21 @@
--- A share setting weighed and written: whether there is room for it, and the index with its record.
+-- A share setting written: the index with its record.
 -- Assumes nothing.
-use Rattle.std.specs.Prelude.{Result, Ok, Err, ⊤}
-use mathlib.Core.Bool.{Bool, true, false}
 use mathlib.Core.List.{List, [], ◌∷◌, ◌++◌, append_assoc}
-use mathlib.Core.Path.{◌≡◌, refl, sym, ap, ap₂, ◌∙◌}
+use mathlib.Core.Path.{◌≡◌, sym, ap, ap₂, ◌∙◌}
 use Prim.Native.Nat.{ℕ, zero, suc, ◌+◌, ◌-◌, ◌≤◌, ◌<◌}
 use native.Mathlib.Nat.{zero-add}
 use native.Mathlib.Omega.{arith}
-use lib.Dec.{ltb}
 use lib.ListN.{length, get_or, set, take, drop, replicate, length-append, length-set}
 use lib.Seq.{take_at, drop_at, take-set-le, drop-set-lt, get_or-set_same}
-use borrow.Author.Tests.{lt-ltb, le-ltb}
 use borrow.Rule.Slice.PartMut.{put_mid, mid_of}
 use Rattle.text.proofs.LentLaws.{tail_part, tail_back}
-use Rattle.text.specs.Bytes.{pick}
-use Rattle.store.specs.declared.rows.Row.{Row}
 use Rattle.store.specs.Fronts.{Changes, Changed}
 use Rattle.store.specs.Held.{Held}
 use Rattle.store.specs.Inner.{sizes}
 use Rattle.store.specs.Layout.{records, share_bytes, share_records, padded, encode_index}
-use Rattle.store.specs.Settings.{UsedBy, Weighed, Writes}
-use Rattle.store.specs.Shares.{claims, share_size, share_sizes}
+use Rattle.store.specs.Settings.{Writes}
+use Rattle.store.specs.Shares.{share_size, share_sizes}
 use Rattle.store.proofs.ShareLaws.{length_shares}
-use Rattle.store.specs.declared.calls.StoreError.TheVariants as E
-use Rattle.store.specs.declared.calls.StoreError.{StoreError}
-
--- ---- `share_room`
-
-module _ (a : List Row) (n : ℕ) (g : List ℕ) (m i end : ℕ) where
-  weighed : (r : Result ⊤ StoreError) (x y : Bool)
-      → ((hs : List Held) → UsedBy a n hs → ltb m (claims g hs) ≡ x) → ltb i end ≡ y
-      → r ≡ pick x (Err E.ShareTooLarge) (pick y (Err E.NoRoom) (Ok tt)) → Weighed a n g m i end r
-  weighed r x y ex ey e hs u =
-      e ∙ ap₂ (λ (v w : Bool). pick v (Err E.ShareTooLarge) (pick w (Err E.NoRoom) (Ok tt))) (sym (ex hs u)) (sym ey)
-
-  module _ (sum : ℕ) (s : (hs : List Held) → UsedBy a n hs → sum ≡ claims g hs) where
-    pub room_text : m < sum → Weighed a n g m i end (Err E.ShareTooLarge)
-    room_text l =
-        weighed (Err E.ShareTooLarge) true (ltb i end) (λ hs u. lt-ltb m (claims g hs) (omega (arith, l, s hs u))) refl refl
-
-    pub room_index : sum ≤ m → i < end → Weighed a n g m i end (Err E.NoRoom)
-    room_index l k =
-        weighed (Err E.NoRoom) false true (λ hs u. le-ltb m (claims g hs) (omega (arith, l, s hs u))) (lt-ltb i end k) refl
-
-    pub room_fits : sum ≤ m → end ≤ i → Weighed a n g m i end (Ok tt)
-    room_fits l k =
-        weighed (Ok tt) false false (λ hs u. le-ltb m (claims g hs) (omega (arith, l, s hs u))) (le-ltb i end k) refl
 
 -- ---- the records before a share and behind it
 

@@ -12,11 +12,9 @@ use lib.ListN.{replicate-append-replicate}
 use lib.Seq.{drop-drop, take_at, drop_at, set_at, length-take-le}
 use lib.Seq.{append_snoc}
 use borrow.Author.Tests.{eq-eqb, ne_eqb, lt-leb, leb-true, leb-false, eqb-true, eqb-false}
-use borrow.Rule.Slice.PartMut.{put_mid, mid_of}
 use Rattle.std.specs.Bool.{MatchBool}
 use Rattle.std.specs.List.{All, AllWithin, HoldsAt}
 use Rattle.std.proofs.lemmas.List.Elements.{All-from_all_within}
-use Rattle.text.proofs.LentLaws.{tail_lent}
 use Rattle.text.specs.Bytes.{pick, written}
 use Rattle.text.specs.Uuid.{big_endian}
 use Rattle.store.specs.Decode.{word, is_share_of, Fronted, and_share, shares_at, fronted}
@@ -226,33 +224,6 @@ put_long d o b l n =
     length-append (share_bytes o b) (drop 4 d)
     ∙ ap₂ (λ (x y : ℕ). x + y) (length_share o b ∙ sym (size_some b n)) (length-drop 4 d) ∙ omega (arith, l)
 
--- ---- `close_gap`
-
-pub gap_closed : (d p ys : List ℕ) → 4 ≤ length d → p ≡ drop 4 d ++ drop (length d - 4) d
-    → (at : ℕ) → at ≡ length p - 4 → ys ≡ replicate (length (mid_of at (length p - at) p)) 0
-    → put_mid at (length p - at) p ys ≡ drop 4 d ++ replicate 4 0
-gap_closed d p ys l e at ea ey =
-    let m : length (drop 4 d) ≡ length d - 4 = length-drop 4 d in
-    let v : length (drop (length d - 4) d) ≡ length d - (length d - 4) = length-drop (length d - 4) d in
-    let n : length p ≡ length d
-    = ap length e ∙ length-append (drop 4 d) (drop (length d - 4) d) ∙ omega (arith, l, m, v) in
-    let s : length (drop 4 d) ≡ at = omega (arith, ea, m, n) in
-    let four : length (drop at p) ≡ 4 = length-drop at p ∙ omega (arith, ea, n, l) in
-    tail_lent at p (λ (q : List ℕ). replicate (length q) 0) ys ey
-    ∙ ap₂ (λ (x : List ℕ) (k : ℕ). x ++ replicate k 0)
-    (ap (take at) e ∙ take_at (drop 4 d) (drop (length d - 4) d) at s) four
-
--- ---- `open_gap`
-
-pub opened_long : (d p : List ℕ) → 4 ≤ length d → p ≡ take 4 d ++ take (length d - 4) d → 4 ≤ length p
-opened_long d p l e =
-    omega (
-      arith,
-      ap length e,
-      length-append (take 4 d) (take (length d - 4) d),
-      length-take-le 4 d l,
-    )
-
 -- ---- `change_share`
 
 module _ (part : List ℕ) (o had share : ℕ) where
@@ -271,12 +242,6 @@ module _ (part : List ℕ) (o had share : ℕ) where
         go true p false q long =
             omega (arith, long, w.room, size_none had (eqb-true had 0 p), size_some share (eqb-false share 0 q))
         go false p b q long = omega (arith, long, size_some had (eqb-false had 0 p))
-
-  pub change_nothing : had ≡ 0 → share ≡ 0 → Changed part o had share part
-  change_nothing h s behind zeros more e m =
-      let k : zeros ≡ more = omega (arith, m, size_none had h, size_none share s) in
-      e ∙ ap₂ (λ (x : List ℕ) (n : ℕ). x ++ (behind ++ replicate n 0))
-      (share_none o had h ∙ sym (share_none o share s)) k
 
   pub change_new : (p q : List ℕ) → had ≡ 0 → (share ≡ 0 → ⊥) → p ≡ take 4 part ++ take (length part - 4) part
       → q ≡ share_bytes o share ++ drop 4 p → Changed part o had share q

@@ -1,7 +1,7 @@
 -- The loop of `survey`: it goes as `walk` does, writes the lines down, and tells whether a key stands twice.
 -- Assumes nothing.
 use Rattle.std.proofs.lemmas.Result.{err_from_is_err_and}
-use Rattle.std.specs.Prelude.{Option as Optional, Some, None, Result, Err, is_some, IsSome, ok_or, IsErrAnd}
+use Rattle.std.specs.Prelude.{Option as Optional, Some, None, Result, Err, IsSome, ok_or, IsErrAnd}
 use mathlib.Core.Bool.{Bool, true, false, ◌&&◌}
 use mathlib.Core.List.{List, []}
 use mathlib.Core.Option.{Option, none, some}
@@ -194,11 +194,6 @@ pub survey_of : (i t : List ℕ) (a : List Row) (heads next : List ℕ) (o : Opt
     → OnceSurveyed i t a heads next o
     → (r : Surveyed) → o ≡ Some r → Surveys i t a heads next r
 survey_of i t a heads next o w r e = subst (OnceSurveyed i t a heads next) e w
-
-pub stocked_is : (i t : List ℕ) (l : Ledger) (o : Optional Stock) → OnceStocked i t l o
-    → is_some o ≡ known (content i t)
-stocked_is i t l None w = sym w
-stocked_is i t l (Some r) w = sym w.is
 
 -- what `?` hands on where none is told as the error x
 pub stock_refused : {A E : Type 0} (i t : List ℕ) (l : Ledger) (o : Optional Stock) → OnceStocked i t l o

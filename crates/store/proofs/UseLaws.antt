@@ -186,11 +186,6 @@ module _ (a : List Row) (n : ℕ) (w : Addable a n) where
             (sym (ap (λ (c : Bool). pick c (len_in a k) 0) (ne_eqb (key_in a k).owner q (λ v. y (sym (e ∙ v))))))
             ∙ sym (next q)
 
-  pub add_end : (u : List ℕ) (k : ℕ) → Adding a n u k → n ≤ k → Adds a n u
-  add_end u k x l =
-      let z : k ≡ n = omega (arith, x.within) in
-      subst (λ (m : ℕ). Adds a m u) z x.adds
-
 -- a use is within the text's most bytes
 pub use_most : (a : List Row) (n : ℕ) → Addable a n → (u : List ℕ) → Adds a n u → (o : ℕ) → o < owners
     → get_or u o 0 ≤ text_max
@@ -215,14 +210,6 @@ pub record Summing (u g : List ℕ) (o sum : ℕ) : Type 0 where
   pub is : (hs : List Held) → Uses u hs → sum + claims_from o (drop o g) hs ≡ claims g hs
 
 module _ (u g : List ℕ) (gu : Given u) (gg : Given g) where
-  pub sum_first : Summing u g 0 0
-  sum_first = record {
-    within = omega arith;
-    most = omega arith;
-    each = λ q l. absurd (omega arith);
-    is = λ hs x. zero-add (claims_from 0 g hs);
-  }
-
   pub sum_next : (o sum : ℕ) → Summing u g o sum → o < owners → (x : ℕ) → x ≡ larger (get_or u o 0) (get_or g o 0)
       → Summing u g (o + 1) (sum + x)
   sum_next o sum w l x e = record {

@@ -6,19 +6,8 @@ use Rattle.text.specs.Bytes.{first_of}
 use Rattle.text.proofs.ListLaws.{part_to_end}
 use Rattle.text.proofs.LentLaws.{tail_length}
 use Rattle.text.specs.Search.{lf}
-use Rattle.store.proofs.BatchLaws.{take-first, take_on, first_at_lem, taken, line_part, end_within, take_off, take-turn}
+use Rattle.store.proofs.BatchLaws.{take_on, first_at_lem, taken, line_part, end_within, take_off, take-turn}
 use Rattle.store.proofs.batch.take_lines.Goals as goal
-
-pub loop-at-init : goal.loop-at-init
-loop-at-init c =
-    let args = c.args in
-    let pre = c.requires in
-    take-first args.dues args.index.now args.text.now args.lines.now
-    args.table.now.rows
-    args.table.now.heads args.table.now.next args.owner args.from args.first pre.from_in_bounds
-
-pub line_length-len-requires : goal.line_length-len-requires
-line_length-len-requires c = c.find_far-end.ensures
 
 pub reach_row-requires : goal.reach_row-requires
 reach_row-requires c =
@@ -59,15 +48,6 @@ returns-in-Err c =
     c.reach_row.result _ _ _
     c.reach_row.ensures _ c.in-Err.is in
     record { takes_lines = r.0; went = r.1 }
-
-pub loop-at-smaller : goal.loop-at-smaller
-loop-at-smaller c =
-    let args = c.args in
-    let loop = c.loop-at in
-    let loop-test = c.loop-at-test in
-    let found = c.find_far-end in
-    let within = end_within loop.at args.lines.now _ found.ensures in
-    omega (arith, loop-test.true, within)
 
 pub loop-at-preserved : goal.loop-at-preserved
 loop-at-preserved c =

@@ -1,7 +1,4 @@
-use mathlib.Core.Path.{◌≡◌, ◌∙◌}
-use Prim.Native.Nat.{◌<◌}
 use native.Mathlib.Omega.{arith}
-use lib.ListN.{length}
 use borrow.Author.Rules.{rules}
 use Rattle.store.proofs.InsertLaws.{insert_first, still_sound, insert_end, insert_stop, insert_turn_lem}
 use Rattle.store.proofs.calls.insert_all.Goals as goal
@@ -23,20 +20,6 @@ insert_batch-some-requires c =
       from_in_bounds = loop.invariant.within;
     }
 
-pub shape_of-part-in-Err : goal.shape_of-part-in-Err
-shape_of-part-in-Err c =
-    let loop = c.loop-at in
-    let some = c.insert_batch-some in
-    let e : length some.new.index ≡ length loop.part = search rules in
-    e ∙ loop.invariant.index
-
-pub shape_of-text-in-Err : goal.shape_of-text-in-Err
-shape_of-text-in-Err c =
-    let loop = c.loop-at in
-    let some = c.insert_batch-some in
-    let e : length some.new.text ≡ length loop.text = search rules in
-    e ∙ loop.invariant.text
-
 pub returns-in-Err : goal.returns-in-Err
 returns-in-Err c =
     let args = c.args in
@@ -45,14 +28,6 @@ returns-in-Err c =
     let some = c.insert_batch-some in
     insert_stop args.shares.now args.owner args.part.now args.text.now args.lines.now
     loop.part loop.text loop.at loop.count loop.invariant some.result _ _ some.ensures.batches _ c.in-Err.is
-
-pub loop-at-smaller : goal.loop-at-smaller
-loop-at-smaller c =
-    let loop = c.loop-at in
-    let some = c.insert_batch-some in
-    let on : loop.at < some.result.at
-    = some.ensures.went.moved (omega arith) c.loop-at-test.true c.in-Ok.is in
-    omega (arith, on, some.ensures.went.within, loop.invariant.within)
 
 pub loop-at-preserved : goal.loop-at-preserved
 loop-at-preserved c =
@@ -63,12 +38,6 @@ loop-at-preserved c =
     insert_turn_lem args.shares.now args.owner args.part.now args.text.now args.lines.now
     loop.part loop.text loop.at loop.count loop.invariant some.result _ _ some.ensures.batches
     c.in-Ok.is some.ensures.went
-
-pub shape_of-part : goal.shape_of-part
-shape_of-part c = c.loop-at.invariant.index
-
-pub shape_of-text : goal.shape_of-text
-shape_of-text c = c.loop-at.invariant.text
 
 pub returns : goal.returns
 returns c =

@@ -20,12 +20,6 @@ returns-then-not-is_utf8 c =
     (sym c.is_utf8.ensures ∙ c.if-not-is_utf8.true) c.valid_up_to.result
     c.valid_up_to.ensures
 
-pub slice_bounds-insert_all-count : goal.slice_bounds-insert_all-count
-slice_bounds-insert_all-count c = omega (arith, c.read_shares-front.ensures.within)
-
-pub slice_bounds-insert_all-start : goal.slice_bounds-insert_all-start
-slice_bounds-insert_all-start c = omega (arith, c.read_shares-front.ensures.within)
-
 pub insert_all-requires : goal.insert_all-requires
 insert_all-requires c =
     let args = c.args in

@@ -1,6 +1,6 @@
 -- The uses by rows are those of the lines, so that what the owner claims is a part of the sum.
 use mathlib.Core.List.{List}
-use mathlib.Core.Path.{refl, sym, subst}
+use mathlib.Core.Path.{sym, subst}
 use Prim.Native.Nat.{ℕ, ◌<◌}
 use native.Mathlib.Omega.{arith}
 use borrow.Author.Rules.{rules}
@@ -17,23 +17,10 @@ returns-then-not-any_share c =
     subst (λ (g : List ℕ). Owed g args.owner hs (record { others = 0; theirs = 0; share = 0 })) (sym none)
     (owed_none args.owner hs b byte)
 
-pub add_uses-requires : goal.add_uses-requires
-add_uses-requires c =
-    record {
-      uses_value = refl;
-      addable = c.requires.0;
-    }
-
 pub overflow_cast-used : goal.overflow_cast-used
 overflow_cast-used c =
     let args = c.args in
     omega (arith, use_most args.rows.now args.fill.count c.requires.0 _ c.add_uses.ensures args.owner (omega (arith, c.ranges)))
-
-pub overflow_sub-result : goal.overflow_sub-result
-overflow_sub-result c =
-    let args = c.args in
-    let byte : args.owner < 256 = search rules in
-    omega (arith, c.larger_of.ensures, c.claims_of.ensures.covers.each args.owner byte)
 
 pub overflow_sub-result-2 : goal.overflow_sub-result-2
 overflow_sub-result-2 c =

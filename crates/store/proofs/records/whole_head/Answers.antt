@@ -4,21 +4,9 @@ use native.Mathlib.Omega.{arith}
 use lib.ListN.{length, length-drop}
 use Rattle.text.proofs.ListLaws.{part_to_end}
 use Rattle.store.specs.Decode.{body_at}
-use Rattle.store.proofs.RecordLaws.{kind_size_lem, size_least}
+use Rattle.store.proofs.RecordLaws.{kind_size_lem}
 use Rattle.store.proofs.HeadLaws.{body_long, whole_is}
 use Rattle.store.proofs.records.whole_head.Goals as goal
-
-pub slice_bounds-read_body-count : goal.slice_bounds-read_body-count
-slice_bounds-read_body-count c =
-    let owner = c.owner_in-owner in
-    let start = c.body_start-start in
-    omega (arith, start.ensures, body_long c.args.index.now c.requires owner.result owner.ensures, kind_size_lem owner.result)
-
-pub slice_bounds-read_body-start : goal.slice_bounds-read_body-start
-slice_bounds-read_body-start c =
-    let owner = c.owner_in-owner in
-    let start = c.body_start-start in
-    omega (arith, start.ensures, body_long c.args.index.now c.requires owner.result owner.ensures, kind_size_lem owner.result)
 
 pub read_body-body-requires : goal.read_body-body-requires
 read_body-body-requires c =
@@ -32,12 +20,6 @@ read_body-body-requires c =
       ap length (part_to_end c.args.index.now start.result),
       length-drop start.result c.args.index.now,
     )
-
-pub overflow_add-start : goal.overflow_add-start
-overflow_add-start c =
-    let owner = c.owner_in-owner in
-    let start = c.body_start-start in
-    omega (arith, start.ensures, (size_least owner.result).1, kind_size_lem owner.result)
 
 pub returns : goal.returns
 returns c =

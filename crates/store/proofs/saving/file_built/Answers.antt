@@ -23,18 +23,6 @@ dues_of-dues-requires c =
     let w = rw stock.ensures.ok_part at c.take_stock.ensures in
     stock_adds args.index.now args.text.now _ stock.stock w bytes
 
-pub slice_bounds-file_line-count : goal.slice_bounds-file_line-count
-slice_bounds-file_line-count c =
-    let stock = c.in_ok-stock in
-    let w = rw stock.ensures.ok_part at c.take_stock.ensures in
-    omega (arith, w.front.within)
-
-pub slice_bounds-file_line-start : goal.slice_bounds-file_line-start
-slice_bounds-file_line-start c =
-    let stock = c.in_ok-stock in
-    let w = rw stock.ensures.ok_part at c.take_stock.ensures in
-    omega (arith, w.front.within)
-
 pub file_line-requires : goal.file_line-requires
 file_line-requires c =
     let args = c.args in

@@ -1,5 +1,5 @@
 -- LF first, then `platform:`, each sought in the whole name.
-use Rattle.store.proofs.SaveCallLaws.{unsaved_lf, unsaved_platform}
+use Rattle.store.proofs.SaveCallLaws.{unsaved_lf}
 use Rattle.store.proofs.saving.unsaved_name.Goals as goal
 
 pub returns-then-find_byte-name : goal.returns-then-find_byte-name
@@ -9,10 +9,3 @@ returns-then-find_byte-name c =
 
 -- (no goal found) slice-aggregate-find-text : tie.Need-slice-aggregate-find-text
 -- slice-aggregate-find-text c = search rules
-
-pub returns : goal.returns
-returns c =
-    let name = c.args.name.now in
-    let found = c.find_byte in
-    unsaved_platform name found.result found.ensures c.if-find_byte-name.false
-    c.find_text.result c.find_text.ensures

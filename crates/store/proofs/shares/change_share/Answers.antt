@@ -1,28 +1,8 @@
 -- The four cases: no record before or after, a new one, none any more, another share in it.
 use native.Mathlib.Omega.{arith}
-use Rattle.store.proofs.ShareBufferLaws.{change_long, change_nothing, change_new, change_none}
-use Rattle.store.proofs.ShareBufferLaws.{change_other, opened_long}
+use Rattle.store.proofs.ShareBufferLaws.{change_long, change_new, change_none}
+use Rattle.store.proofs.ShareBufferLaws.{change_other}
 use Rattle.store.proofs.shares.change_share.Goals as goal
-
-pub returns-then-share-eq0 : goal.returns-then-share-eq0
-returns-then-share-eq0 c =
-    let args = c.args in
-    change_nothing args.part.now args.owner args.had args.share c.if-had-eq0.true c.if-share-eq0.true
-
-pub open_gap-requires : goal.open_gap-requires
-open_gap-requires c =
-    let args = c.args in
-    change_long args.part.now args.owner args.had args.share c.requires (λ h s. c.if-share-eq0.false s)
-
-pub put_share-requires : goal.put_share-requires
-put_share-requires c =
-    let args = c.args in
-    let if2 = c.if-share-eq0 in (
-      opened_long args.part.now _
-          (change_long args.part.now args.owner args.had args.share c.requires (λ h s. if2.false s))
-          c.open_gap.ensures,
-      (omega (arith, if2.false), c.requires.most),
-    )
 
 pub returns-then-had-eq0 : goal.returns-then-had-eq0
 returns-then-had-eq0 c =

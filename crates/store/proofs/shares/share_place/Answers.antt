@@ -34,11 +34,3 @@ loop-share-preserved c =
     ap₂ (λ (x y : ℕ). x + y) loop.invariant
     (c.share_size-at.ensures ∙ ap share_size (get_or-take c.args.owner s k 0 l))
     ∙ place-turn s k
-
-pub returns : goal.returns
-returns c =
-    let s = c.args.shares.now in
-    let loop = c.loop-share in
-    let n : length (take c.args.owner s) ≡ c.args.owner = length-take-le c.args.owner s (omega arith) in
-    let e : loop.share-index ≡ c.args.owner = omega arith in
-    loop.invariant ∙ ap (λ (m : ℕ). share_sizes (take m s)) e

@@ -6,7 +6,6 @@ use native.Mathlib.Omega.{arith}
 use lib.ListN.{get_or}
 use Rattle.store.proofs.ShareCallLaws.{stocked, told_unsound, told_sound}
 use Rattle.store.proofs.SurveyLaws.{stock_refused}
-use Rattle.store.proofs.UseLaws.{use_most}
 use Rattle.store.proofs.sharing.share_of.Goals as goal
 
 pub returns-in_err-stock : goal.returns-in_err-stock
@@ -26,15 +25,6 @@ add_uses-requires c =
       uses_value = refl;
       addable = w.addable;
     }
-
-pub overflow_cast-used : goal.overflow_cast-used
-overflow_cast-used c =
-    let args = c.args in
-    let known = c.shared_slice_known-1 in
-    let stock = c.in_ok-stock in
-    let w = stocked args.index.now args.text.now _ stock.stock (λ k. omega (arith, known.given k))
-    (rw stock.ensures.ok_part at c.take_stock.ensures) in
-    omega (arith, use_most _ _ w.addable _ c.add_uses.ensures args.owner (omega (arith, c.ranges)))
 
 pub returns : goal.returns
 returns c =

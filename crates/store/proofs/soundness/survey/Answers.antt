@@ -1,5 +1,5 @@
 use native.Mathlib.Omega.{arith}
-use Rattle.store.proofs.SurveyLaws.{survey_first, survey_less, survey_tail, survey_end, survey_bad, survey_on}
+use Rattle.store.proofs.SurveyLaws.{survey_first, survey_tail, survey_end, survey_bad, survey_on}
 use Rattle.store.proofs.SurveyLaws.{some_size, survey_turn}
 use Rattle.store.proofs.soundness.survey.Goals as goal
 
@@ -10,38 +10,9 @@ loop-head-init c =
     survey_first args.index.now args.text.now _ args.table.now.heads args.table.now.next pre.index_len_bound.0 pre.long
     pre.chained
 
-pub slice_bounds-stands-count : goal.slice_bounds-stands-count
-slice_bounds-stands-count c = omega (arith, c.loop-head.invariant.walks.index)
-
-pub slice_bounds-stands-start : goal.slice_bounds-stands-start
-slice_bounds-stands-start c = omega (arith, c.loop-head.invariant.walks.index)
-
-pub slice_bounds-stands-end : goal.slice_bounds-stands-end
-slice_bounds-stands-end c = omega (arith, c.loop-head.invariant.walks.index)
-
-pub slice_bounds-whole_head-count : goal.slice_bounds-whole_head-count
-slice_bounds-whole_head-count c = omega (arith, c.loop-head.invariant.walks.index)
-
-pub slice_bounds-whole_head-start : goal.slice_bounds-whole_head-start
-slice_bounds-whole_head-start c = omega (arith, c.loop-head.invariant.walks.index)
-
-pub slice_bounds-whole_head-end : goal.slice_bounds-whole_head-end
-slice_bounds-whole_head-end c = omega (arith, c.loop-head.invariant.walks.index)
-
-pub whole_head-head-requires : goal.whole_head-head-requires
-whole_head-head-requires c = c.stands.ensures.0 c.loop-head-test.true
-
-pub overflow_sub-text : goal.overflow_sub-text
-overflow_sub-text c = omega (arith, c.loop-head.invariant.walks.text)
-
 pub returns-then-not-head_fits : goal.returns-then-not-head_fits
 returns-then-not-head_fits c =
     survey_bad c.loop-head.invariant (c.stands.ensures.0 c.loop-head-test.true) _ c.whole_head-head.ensures _ c.head_fits.ensures c.if-not-head_fits.true
-
-pub add_row-r-requires : goal.add_row-r-requires
-add_row-r-requires c =
-    let w = c.loop-head.invariant in
-    record { n_lt_rows_max = survey_less w; chained = w.loading.chained }
 
 pub overflow_add-at : goal.overflow_add-at
 overflow_add-at c =
@@ -52,9 +23,6 @@ pub overflow_add-used : goal.overflow_add-used
 overflow_add-used c =
     let on = survey_on c.loop-head.invariant (c.stands.ensures.0 c.loop-head-test.true) _ c.whole_head-head.ensures _ c.head_fits.ensures c.if-not-head_fits.false in
     omega (arith, on.text, c.requires.index_len_bound.1)
-
-pub overflow_add-n : goal.overflow_add-n
-overflow_add-n c = omega (arith, survey_less c.loop-head.invariant)
 
 pub loop-head-smaller : goal.loop-head-smaller
 loop-head-smaller c =
@@ -68,11 +36,6 @@ loop-head-preserved c =
     survey_turn c.loop-head.invariant (c.stands.ensures.0 c.loop-head-test.true) _ c.whole_head-head.ensures _ c.head_fits.ensures
     c.if-not-head_fits.false _ put.ensures.rows_after _ _ put.ensures.chained_2 put.result
     put.ensures.sought.0 _ c.told-verdict.ensures
-
-pub zero_behind-requires : goal.zero_behind-requires
-zero_behind-requires c =
-    let w = c.loop-head.invariant in
-    (w.walks.index, w.walks.text)
 
 pub returns-then-not-zero_behind : goal.returns-then-not-zero_behind
 returns-then-not-zero_behind c =

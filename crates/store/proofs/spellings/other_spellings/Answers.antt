@@ -5,25 +5,9 @@ use lib.ListN.{take, drop}
 use Rattle.text.specs.Bytes.{first_of}
 use Rattle.text.specs.Search.{lf}
 use Rattle.text.proofs.ListLaws.{part_to_end}
-use Rattle.text.proofs.LentLaws.{tail_length}
 use Rattle.store.proofs.BatchLaws.{line_part, end_within}
-use Rattle.store.proofs.OtherLaws.{Othering, other_first, other_turn, other_end, other_all, other_part}
+use Rattle.store.proofs.OtherLaws.{Othering, other_turn, other_end, other_all, other_part}
 use Rattle.store.proofs.spellings.other_spellings.Goals as goal
-
-pub loop-init : goal.loop-init
-loop-init c =
-    let e : c.args.count ≡ c.args.count - 0 = omega arith in
-    subst (λ (n : ℕ). Othering c.args.lines.now c.args.count 0 n 0) e (other_first c.args.lines.now c.args.count)
-
-pub line_length-len-requires : goal.line_length-len-requires
-line_length-len-requires c = c.find_far-end.ensures
-
-pub slice_bounds-other_spelling-end : goal.slice_bounds-other_spelling-end
-slice_bounds-other_spelling-end c =
-    omega (arith, tail_length c.loop.at c.args.lines.now, c.line_length-len.ensures.0)
-
-pub overflow_add-other : goal.overflow_add-other
-overflow_add-other c = omega (arith, c.loop.invariant.few, c.other_spelling-other.ensures.1, c.well_formed.0)
 
 pub overflow_add-at : goal.overflow_add-at
 overflow_add-at c = omega (arith, end_within c.loop.at c.args.lines.now _ c.find_far-end.ensures, c.well_formed.0)

@@ -20,18 +20,6 @@ pub returns-then-text-gt-TEXT_MAX : goal.returns-then-text-gt-TEXT_MAX
 returns-then-text-gt-TEXT_MAX c =
     stock_text c.args.index.now c.args.text.now c.if-index-gt-INDEX_MAX.false c.if-text-gt-TEXT_MAX.true
 
-pub read_shares-front-requires : goal.read_shares-front-requires
-read_shares-front-requires c = c.requires.shares
-
-pub slice_bounds-survey-count : goal.slice_bounds-survey-count
-slice_bounds-survey-count c = omega (arith, c.read_shares-front.ensures.within)
-
-pub slice_bounds-survey-start : goal.slice_bounds-survey-start
-slice_bounds-survey-start c = omega (arith, c.read_shares-front.ensures.within)
-
-pub slice_bounds-survey-end : goal.slice_bounds-survey-end
-slice_bounds-survey-end c = omega (arith, c.read_shares-front.ensures.within)
-
 pub survey-requires : goal.survey-requires
 survey-requires c =
     let args = c.args in
@@ -61,17 +49,6 @@ returns-in_err-seen c =
     rw c.from_residual.ensures (sym (stock_part i args.text.now _ p read.ensures if1.false q (tail_part p i))
     ∙ sound_walk q args.text.now
     (part_most i args.text.now _ p read.ensures if1.false q (tail_part p i)) if2.false c.in_err-seen.ensures)
-
-pub invariant_of-keys : goal.invariant_of-keys
-invariant_of-keys c =
-    let seen = c.in_ok-seen in
-    record {
-      few = omega (arith, seen.ensures.most);
-      linked = seen.ensures.chained.links;
-    }
-
-pub each_once-requires : goal.each_once-requires
-each_once-requires c = c.in_ok-seen.ensures.says
 
 pub returns-then-not-each_once : goal.returns-then-not-each_once
 returns-then-not-each_once c =
