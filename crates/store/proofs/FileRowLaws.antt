@@ -38,7 +38,8 @@ use Rattle.store.specs.declared.table.Full.TheVariants as R
 use Rattle.store.specs.declared.table.Full.{Full}
 
 module _ (g : List ℕ) (d : Dues) (i t s : List ℕ) (a : List Row) (heads next : List ℕ) (old : ℕ) (f : Fill)
-    (u : Key) (start len : ℕ) (hs : List Held) (w : Files' g d i t s a heads next old f u start len hs) (cl : f.count < rows_max)
+    (u : Key) (start len : ℕ) (hs : List Held) (w : Files' g d i t s a heads next old f u start len hs)
+    (cl : f.count < rows_max)
   where
     abbrev a' : List Row
     a' = row_put a f.count u start len
