@@ -1,5 +1,5 @@
 // The public calls of the parties' shares of the text (document 02, P10). Each takes any buffers and arguments.
-ghost use Rattle.std.specs.Prelude.{◌≡◌, ◌≤◌, length};
+ghost use Rattle.std.specs.Prelude.{◌≡◌};
 ghost use Rattle.store.specs.Claims.{Addable};
 ghost use Rattle.store.specs.Settings.{ClaimsWith, Weighed, Writable, Written};
 ghost use Rattle.store.specs.Store.{store_share, store_told};
@@ -58,12 +58,12 @@ fn share_room(
     ensures { Weighed rows.now count shares.now text index end result }
 {
     if text < claims_with(rows, count, shares) {
-        return Err(StoreError::ShareTooLarge);
+        Err(StoreError::ShareTooLarge)
+    } else if index < end {
+        Err(StoreError::NoRoom)
+    } else {
+        Ok(())
     }
-    if index < end {
-        return Err(StoreError::NoRoom);
-    }
-    Ok(())
 }
 
 // Writes the share of an owner into the index, which had another one; it stands among those shares already.
