@@ -44,7 +44,7 @@ full_refusal f = refusal 11
 
 abbrev pub put_outcome : Result ⊤ MapFull → Result ⊤ Refusal
 put_outcome (Ok u) = Ok tt
-put_outcome (Err f) = Err (refusal 11)
+put_outcome (Err f) = Err (full_refusal f)
 
 -- the table back
 abbrev pub put_result_of : Result ⊤ Refusal → Result ⊤ MapFull
