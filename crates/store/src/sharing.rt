@@ -75,8 +75,7 @@ fn write_share(index: &mut [u8], shares: &[u16; OWNERS], owner: u8, had: usize, 
     change_share(&mut index[at..], owner, had, bytes);
 }
 
-// Sets the share of the party with that owner byte, 0 being the hall; share 0 takes it away. A share above the whole
-// text is told first: it may be too large for two bytes.
+// Sets the share of the party with that owner byte, 0 being the hall; share 0 takes it away.
 pub fn set_share(index: &mut [u8], text: &[u8], owner: u8, bytes: usize) -> Result<(), StoreError>
     ensures { record { answer = result; index = index.new; text = text.now }
         ≡ store_share index.old text.now owner bytes }
@@ -84,6 +83,7 @@ pub fn set_share(index: &mut [u8], text: &[u8], owner: u8, bytes: usize) -> Resu
     let mut ledger = Ledger::new();
     let stock = ledger.take_stock(index, text).ok_or(StoreError::Unsound)?;
     let room = text.len();
+    // Told before the share is put among the others, whose numbers have two bytes.
     if room < bytes {
         return Err(StoreError::ShareTooLarge);
     }
