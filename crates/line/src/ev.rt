@@ -91,7 +91,8 @@ impl Button {
         )
     }
 
-    // Whether a button is one of the DPad.
+    // Whether a button is one of the DPad. Like `is_stick` but for its buttons: gilrs has a method for each, and one match
+    // for both would hand the buttons over as a list.
     #[tactic(auto, unfolding(crate::specs::Elements::is_dpad_of))]
     pub fn is_dpad(self) -> bool
         ensures { result ≡ is_dpad_of self }

@@ -1,23 +1,23 @@
--- Laws of entries that are put one after the other, as entries and as numbers.
--- Assumes nothing.
-use Prim.Native.Nat.{ℕ, ◌+◌, ◌≤◌}
+-- Laws of entries that are put one after the other. Assumes nothing.
+use Prim.Native.Nat.{ℕ, ◌+◌, ◌<◌, ◌≤◌}
 use mathlib.Core.Path.{◌≡◌, refl, sym, ap, ◌∙◌}
+use mathlib.Core.Bool.{false}
 use mathlib.Core.List.{List, [], ◌∷◌, ◌++◌, map, map-append}
 use native.Mathlib.Omega.{arith}
-use lib.ListN.{length, take, length-take, length-append, length-map}
-use lib.Seq.{take_all}
-use Rattle.std.proofs.lemmas.Slice.{take-put_mid}
-use borrow.Rule.Slice.PartMut.{put_mid}
+use native.Mathlib.Numerals.{add-one}
+use lib.ListN.{length, take, get_or, length-take, length-map}
+use lib.Seq.{take_all, take-suc}
 use Rattle.line.specs.declared.mapping.Entry.{Entry}
-use Rattle.line.specs.Maps.{codes_max, Ascending, put_entry, to_map, puts_into}
-use Rattle.line.specs.Numbers.{entry_in, puts_view}
+use Rattle.line.specs.declared.mapping.Mapping.{Mapping}
+use Rattle.line.specs.Maps.{codes_max, MapView, Ascending, put_entry, put_of, to_map, puts_into}
 use Rattle.line.proofs.PutLaws.{put_ascending}
-use Rattle.line.proofs.ViewLaws.{put_adds}
+use Rattle.line.proofs.FoldLaws.{puts_append}
+use Rattle.line.proofs.ViewLaws.{put_adds, put_map}
 use Rattle.map.specs.declared.from_data.filled.Pairs.{Pairs}
 use Rattle.map.specs.declared.from_data.filled.Placed.{Placed}
 use Rattle.map.specs.declared.mapping_data.MappingData.{MappingData}
 use Rattle.map.specs.Build.{filled_buttons, filled_axes, name_start_of, built_view, built_map}
-use Rattle.map.specs.Inner.{placed_in, Gathered, put_map_of}
+use Rattle.map.specs.Inner.{placed_in, Gathered, with_puts, PutsSlots, put_map_of}
 
 -- as many as before and one for each at most
 pub puts_few : (es zs : List Entry) → length (puts_into es zs) ≤ length zs + length es
@@ -38,36 +38,64 @@ none_ascending = tt
 pub built_ascending : (d : MappingData) (name : List ℕ) → Ascending (built_view d name).list
 built_ascending d name = puts_ascending (filled_buttons d ++ filled_axes d) [] none_ascending
 
--- ---- slots as numbers, the first i of which are written
-abbrev pub Written : List Placed → ℕ → List ℕ → Type 0
-Written ss i ys = map entry_in (take i ys) ≡ map (λ s. s.entry) (take i ss)
+-- no entries, and a name of so many bytes
+abbrev pub named_view : ℕ → MapView
+named_view len =
+    record { list = []; name_start_of = name_start_of; name_len_of = len; is_default = false; hat_flags = 0 }
 
--- those of the buttons, and behind them those of the axes
-both_written : (xs ys zs : List ℕ) (n k m : ℕ) → length ys ≡ n → length zs ≡ m → n + m ≤ length xs
-    → take (n + m) (put_mid n k (put_mid 0 n xs ys) zs) ≡ ys ++ zs
-both_written xs ys zs n k m e f h =
-    let r : take n (put_mid 0 n xs ys) ≡ ys = take-put_mid 0 n xs ys n (omega arith) (omega arith) in
-    let l : n ≤ length (put_mid 0 n xs ys) = omega (arith, ap length r, length-take n (put_mid 0 n xs ys)) in
-    take-put_mid n k (put_mid 0 n xs ys) zs (n + m) (omega arith) l ∙ ap (λ (t : List ℕ). t ++ zs) r
+-- ---- the entries of slots are put, one after the other
+-- those of the first i
+abbrev pub Putting : List Placed → Mapping → ℕ → Mapping → Type 0
+Putting ss before i m =
+    (v : MapView) → before ≡ to_map v → length v.list + length ss ≤ codes_max
+    → m ≡ to_map (with_puts v (map (λ s. s.entry) (take i ss)))
 
-as_many : (ys : List ℕ) (fs : List Placed) → map entry_in ys ≡ map (λ s. s.entry) fs → length ys ≡ length fs
-as_many ys fs h =
-    sym (length-map ys entry_in) ∙ ap (λ (l : List Entry). length l) h ∙ length-map fs (λ s. s.entry)
+pub putting_first : (ss : List Placed) (m : Mapping) → Putting ss m 0 m
+unfolding puts_into
+putting_first ss m v e h = e
 
--- the map of those numbers is that of the pairs
-pub map_written : (p : Pairs) (fs ls : List Placed) (xs ys zs : List ℕ) (k len : ℕ) → fs ≡ p.buttons.items
-    → ls ≡ p.axes.items → length fs + length ls ≤ length xs → length xs ≤ codes_max
-    → map entry_in ys ≡ map (λ s. s.entry) fs → map entry_in zs ≡ map (λ s. s.entry) ls
-    → to_map (puts_view (take (length fs + length ls) (put_mid (length fs) k (put_mid 0 (length fs) xs ys) zs)) name_start_of len)
-    ≡ put_map_of p len
-unfolding put_map_of puts_view
-map_written p fs ls xs ys zs k len b a h c s t =
-    let e : length ys ≡ length fs = as_many ys fs s in
-    let f : length zs ≡ length ls = as_many zs ls t in
-    let w : map entry_in (ys ++ zs) ≡ map (λ s. s.entry) p.buttons.items ++ map (λ s. s.entry) p.axes.items =
-    map-append entry_in ys zs ∙ rw (s, t, b, a) in
-    let few : length (map entry_in (ys ++ zs)) ≤ codes_max = simp (length-map, length-append) (omega arith) in
-    rw (both_written xs ys zs (length fs) k (length ls) e f h, take_all codes_max (map entry_in (ys ++ zs)) few, w)
+pub putting_turn : (ss : List Placed) (before m n : Mapping) (i : ℕ) (d : Placed) → i < length ss
+    → Putting ss before i m → n ≡ (put_of m (get_or ss i d).entry).map → Putting ss before (i + 1) n
+unfolding puts_into
+putting_turn ss before m n i d l p w v e h =
+    let es : List Entry = map (λ s. s.entry) (take i ss) in
+    let s : Placed = get_or ss i d in
+    let few : length (puts_into es v.list) < codes_max =
+    omega (arith, puts_few es v.list, length-map (take i ss) (λ (s : Placed). s.entry), length-take i ss) in
+    let more : map (λ s. s.entry) (take (i + 1) ss) ≡ es ++ (s.entry ∷ []) =
+    rw (add-one, take-suc ss i d l) (map-append (λ (s : Placed). s.entry) (take i ss) (s ∷ [])) in
+    w ∙ rw (p v e h) (put_map (with_puts v es) s.entry few)
+    ∙ ap (λ (xs : List Entry). to_map (record {
+      list = xs;
+      name_start_of = v.name_start_of;
+      name_len_of = v.name_len_of;
+      is_default = v.is_default;
+      hat_flags = v.hat_flags;
+    })) (sym (puts_append es (s.entry ∷ []) v.list) ∙ ap (λ (xs : List Entry). puts_into xs v.list) (sym more))
+
+pub putting_all : (ss : List Placed) (before m : Mapping) (i : ℕ) → length ss ≤ i → Putting ss before i m
+    → PutsSlots ss before m
+putting_all ss before m i l p v e h =
+    p v e h ∙ ap (λ (xs : List Placed). to_map (with_puts v (map (λ s. s.entry) xs))) (take_all i ss l)
+
+-- the buttons' first, then the axes', into a map that only has a name
+pub both_put : (p : Pairs) (len : ℕ) (x m n : Mapping) (fs ls : List Placed) → x ≡ to_map (named_view len)
+    → fs ≡ p.buttons.items → ls ≡ p.axes.items → length fs + length ls ≤ codes_max
+    → PutsSlots fs x m → PutsSlots ls m n → n ≡ put_map_of p len
+unfolding put_map_of puts_into
+both_put p len x m n fs ls named b a h f g =
+    let bs : List Entry = map (λ s. s.entry) fs in
+    let axs : List Entry = map (λ s. s.entry) ls in
+    let few : length (puts_into bs []) + length ls ≤ codes_max =
+    omega (arith, puts_few bs [], length-map fs (λ (s : Placed). s.entry)) in
+    g (with_puts (named_view len) bs) (f (named_view len) named (omega arith)) few
+    ∙ ap (λ (xs : List Entry). to_map (record {
+      list = xs;
+      name_start_of = name_start_of;
+      name_len_of = len;
+      is_default = false;
+      hat_flags = 0;
+    })) (sym (puts_append bs axs []) ∙ rw (b, a) refl)
 
 -- ---- the map of a build
 entries_placed : (codes : List ℕ) (es : List Entry) → map (λ s. s.entry) (placed_in codes es) ≡ es

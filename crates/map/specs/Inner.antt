@@ -9,7 +9,7 @@ use Rattle.text.specs.declared.uuid.Uuid.{Uuid}
 use Rattle.line.specs.declared.ev.Code.{Code}
 use Rattle.line.specs.declared.mapping.Entry.{Entry}
 use Rattle.line.specs.declared.mapping.Mapping.{Mapping}
-use Rattle.line.specs.Maps.{codes_max, puts_into, to_map}
+use Rattle.line.specs.Maps.{MapView, codes_max, puts_into, to_map}
 use Rattle.line.specs.Reading.{list_max}
 use Rattle.line.specs.declared.ev.AxisOrBtn.{AxisOrBtn}
 use Rattle.line.specs.Tables.{ident_text, as_button, as_axis}
@@ -138,6 +138,23 @@ abbrev pub short_of : ℕ → ℕ → Bool
 short_of room n = pick (leb built_line_max room) false (ltb room n)
 
 -- ---- the map of both
+-- entries put into a view of a map
+abbrev pub with_puts : MapView → List Entry → MapView
+with_puts v es =
+    record {
+      list = puts_into es v.list;
+      name_start_of = v.name_start_of;
+      name_len_of = v.name_len_of;
+      is_default = v.is_default;
+      hat_flags = v.hat_flags;
+    }
+
+-- into a map that has room for them, the entries of slots are put
+abbrev pub PutsSlots : List Placed → Mapping → Mapping → Type 0
+PutsSlots ss before after =
+    (v : MapView) → before ≡ to_map v → length v.list + length ss ≤ codes_max
+    → after ≡ to_map (with_puts v (map (λ s. s.entry) ss))
+
 unfoldable pub put_map_of : Pairs → ℕ → Mapping
 put_map_of p n =
     to_map (record {

@@ -36,7 +36,7 @@ pub enum StoreError {
     ShareTooLarge,
 }
 
-// What an insert says where there is no room.
+// What an insert says where there is no room. Beside that of a save: each names cases of its own error.
 impl From<Full> for StoreError {
     ghost from_gives = { λ full error. error ≡ insert_full full };
 

@@ -1,10 +1,11 @@
--- The numbers are those of the buttons and of the axes. Assumes nothing.
-use Rattle.std.proofs.Common.{◌∙◌, arith, rules}
-use Rattle.map.proofs.PutsLaws.{map_written}
+-- The buttons' slots, then the axes'. Assumes nothing.
+use Rattle.std.proofs.Common.{refl, arith}
+use Rattle.line.specs.Maps.{to_map, empty_map}
+use Rattle.map.proofs.PutsLaws.{both_put}
 use Rattle.map.proofs.from_data.puts.built_map.Goals as goal
 
 pub returns : goal.returns
+unfolding to_map empty_map
 returns c =
-    c.of_numbers.ensures
-    ∙ map_written c.args.pairs.now _ _ _ _ _ _ c.args.name_len c.as_slice-first.ensures.value c.as_slice-last.ensures.value (search rules) (omega arith)
-    c.put_numbers.ensures c.put_numbers-2.ensures
+    both_put c.args.pairs.now c.args.name_len _ _ _ _ _ (rw c.new-map.ensures refl) c.as_slice.ensures.value
+    c.as_slice-2.ensures.value (omega arith) c.put_slots.ensures c.put_slots-2.ensures
