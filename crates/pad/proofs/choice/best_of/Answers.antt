@@ -1,5 +1,5 @@
 -- One held code more, from the last one on. Assumes nothing.
-use Rattle.std.proofs.Common.{ℕ, ◌≡◌, ◌+◌, ◌-◌, ◌<◌, length, map, arith, rules, sym, ap, ◌∙◌}
+use Rattle.std.proofs.Common.{ℕ, ◌≡◌, ◌+◌, ◌-◌, ◌%◌, ◌<◌, false, get_or, length, map, arith, rules, sym, ap, ◌∙◌}
 use lib.IntN.{ℤ}
 use mir.Syntax.{w16}
 use mir.Val.{SFits}
@@ -28,8 +28,8 @@ loop-i-preserved-in-Some c =
           c.held_of-h.ensures _ c.loop-i.invariant.1 c.in-Some.value (sym c.given.ensures ∙ c.in-Some.is),
     )
 
-pub loop-i-preserved : goal.loop-i-preserved
-loop-i-preserved c =
+pub loop-i-preserved-in_default : goal.loop-i-preserved-in_default
+loop-i-preserved-in_default c =
     let i = c.loop-i.i in
     let k : ℕ = i - 1 in
     let one : i ≡ k + 1 = omega arith in
@@ -37,4 +37,18 @@ loop-i-preserved c =
       omega (arith, c.loop-i.invariant.0),
       none_more c.args.held.now i k (map entry_in c.args.entries.now) c.args.el c.held_of-h.result l one
           c.held_of-h.ensures _ c.loop-i.invariant.1 (sym c.given.ensures ∙ c.in_default.is),
+    )
+
+pub loop-i-preserved : goal.loop-i-preserved
+loop-i-preserved c =
+    let i = c.loop-i.i in
+    let k : ℕ = i - 1 in
+    let one : i ≡ k + 1 = omega arith in
+    let l : k < length c.args.held.now = omega (arith, c.loop-i.invariant.0) in
+    let h = c.held_of-h.result in
+    let q : get_or c.marked-marks.result (h.code.0 % 256) false ≡ false =
+    ap (λ (j : ℕ). get_or c.marked-marks.result j false) (sym c.mark_of.ensures) ∙ c.if-marks-mark_of.false in (
+      omega (arith, c.loop-i.invariant.0),
+      none_more c.args.held.now i k (map entry_in c.args.entries.now) c.args.el h l one c.held_of-h.ensures _
+          c.loop-i.invariant.1 (c.marked-marks.ensures h q),
     )
