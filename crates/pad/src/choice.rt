@@ -82,19 +82,17 @@ fn prefer(first: Best, rest: Option<Best>) -> Best
     rest.map_or(first, |other| farther(first, other))
 }
 
-// The codes that may give to an element, by what is left of them over 256: a code that is not marked has no entry of the
-// element. Most held codes are passed over by one look at these, and not looked up in the map.
-fn marked(entries: &[u64], el: AxisOrBtn) -> [bool; MARKS]
-    ensures { Marked el entries.now result }
+// The codes that may give to an element are marked, by what is left of them over 256: a code that is not marked has no
+// entry of the element. Most held codes are passed over by one look at these, and not looked up in the map.
+fn mark(marks: &mut [bool; MARKS], entries: &[u64], el: AxisOrBtn)
+    ensures { Marked el entries.now marks.new }
 {
-    let mut marks = [false; MARKS];
     for i in (0..entries.len()).rev() {
         let e = Entry::of_number(entries[i]);
         if e.element == el {
             marks[mark_of(e.code)] = true;
         }
     }
-    marks
 }
 
 // The place of a code among the marks.
@@ -108,7 +106,8 @@ fn mark_of(code: Code) -> usize
 fn best_of(held: &[u64], entries: &[u64], el: AxisOrBtn) -> Option<Best>
     ensures { chosen_by result ≡ choose (map held_in held.now) (map entry_in entries.now) el }
 {
-    let marks = marked(entries, el);
+    let mut marks = [false; MARKS];
+    mark(&mut marks, entries, el);
     let mut best = None;
     for i in (0..held.len()).rev() {
         let h = held_of(held[i]);

@@ -46,9 +46,9 @@ loop-i-preserved c =
     let one : i ≡ k + 1 = omega arith in
     let l : k < length c.args.held.now = omega (arith, c.loop-i.invariant.0) in
     let h = c.held_of-h.result in
-    let q : get_or c.marked-marks.result (h.code.0 % 256) false ≡ false =
-    ap (λ (j : ℕ). get_or c.marked-marks.result j false) (sym c.mark_of.ensures) ∙ c.if-marks-mark_of.false in (
+    let q : get_or c.mark.new.marks (h.code.0 % 256) false ≡ false =
+    ap (λ (j : ℕ). get_or c.mark.new.marks j false) (sym c.mark_of.ensures) ∙ c.if-marks-mark_of.false in (
       omega (arith, c.loop-i.invariant.0),
       none_more c.args.held.now i k (map entry_in c.args.entries.now) c.args.el h l one c.held_of-h.ensures _
-          c.loop-i.invariant.1 (c.marked-marks.ensures h q),
+          c.loop-i.invariant.1 (c.mark.ensures h q),
     )

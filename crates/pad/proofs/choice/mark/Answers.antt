@@ -4,10 +4,10 @@ use borrow.Author.Tests.{tests}
 use lib.ListN.{length-set}
 use Rattle.line.specs.Elements.{same_element}
 use Rattle.pad.proofs.MarkLaws.{none_marked, all_marked, marked_passed, marked_taken}
-use Rattle.pad.proofs.choice.marked.Goals as goal
+use Rattle.pad.proofs.choice.mark.Goals as goal
 
 pub loop-i-init : goal.loop-i-init
-loop-i-init c = (omega arith, refl, none_marked c.args.el c.args.entries.now (replicate 256 false))
+loop-i-init c = (omega arith, search rules, none_marked c.args.el c.args.entries.now c.args.marks.now)
 
 pub loop-i-preserved-then-eq : goal.loop-i-preserved-then-eq
 loop-i-preserved-then-eq c =
