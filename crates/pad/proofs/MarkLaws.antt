@@ -1,6 +1,6 @@
 -- A code that is not marked gives nothing, from the last entry on. Assumes nothing.
 use Rattle.std.specs.Prelude.{Option, Some, None, get_or}
-use Prim.Native.Nat.{ℕ, suc, ◌+◌, ◌%◌, ◌<◌, ◌≤◌}
+use Prim.Native.Nat.{ℕ, suc, ◌+◌, ◌/◌, ◌%◌, ◌<◌, ◌≤◌}
 use mathlib.Core.Path.{◌≡◌, refl, sym, ap, ◌∙◌}
 use mathlib.Core.Bool.{Bool, true, false}
 use mathlib.Core.List.{List, map}
@@ -16,10 +16,11 @@ use Rattle.line.specs.declared.ev.AxisOrBtn.{AxisOrBtn}
 use Rattle.line.specs.declared.mapping.Entry.{Entry}
 use Rattle.line.specs.Elements.{same_element}
 use Rattle.line.specs.Maps.{entry_at}
-use Rattle.line.specs.Numbers.{entry_in}
+use Rattle.line.specs.Numbers.{code_unit, shaped_entry, entry_in}
 use Rattle.pad.specs.declared.events.Raw.{Raw}
 use Rattle.pad.specs.declared.events.Held.{Held}
 use Rattle.pad.specs.Pads.{given_by, gives}
+use Rattle.pad.specs.States.{held_in}
 use Rattle.pad.specs.Inner.{Marked}
 
 pub none_marked : (el : AxisOrBtn) (xs : List ℕ) (marks : List Bool) → Marked el (drop (length xs) xs) marks
@@ -51,24 +52,29 @@ module _ (el : AxisOrBtn) (xs : List ℕ) (i k : ℕ) (marks : List Bool) (e : E
   marked_passed s h q = next h (λ t. rw s) q
 
   -- an entry of the element: its code is marked
-  pub marked_taken : length marks ≡ 256 → e.code.0 % 256 < 256 → Marked el (drop k xs) (set marks (e.code.0 % 256) true)
-  marked_taken n b h q = next h this (by (eqb (h.code.0 % 256) (e.code.0 % 256)) refl)
+  pub marked_taken : (j : ℕ) → j ≡ e.code.0 % 256 → j < length marks → Marked el (drop k xs) (set marks j true)
+  marked_taken j at b h q = next h this (by (eqb (h.code.0 % 256) j) refl)
     where
-      set_here : h.code.0 % 256 ≡ e.code.0 % 256 → get_or (set marks (e.code.0 % 256) true) (h.code.0 % 256) false ≡ true
-      set_here w =
-          ap (λ (j : ℕ). get_or (set marks (e.code.0 % 256) true) j false) w
-          ∙ get_or-set_same marks (e.code.0 % 256) true false (omega (arith, n, b))
-
-      clash : {A : Type 0} → h.code.0 % 256 ≡ e.code.0 % 256 → A
-      clash w = let z : true ≡ false = sym (set_here w) ∙ q in absurd cc
+      clash : {A : Type 0} → h.code.0 % 256 ≡ j → A
+      clash w =
+          let z : true ≡ false =
+          sym (ap (λ (n : ℕ). get_or (set marks j true) n false) w ∙ get_or-set_same marks j true false b) ∙ q in
+          absurd cc
 
       this : eqb e.code.0 h.code.0 ≡ true → given_by (Some e) h.raw el ≡ None
-      this t = clash (ap (λ (j : ℕ). j % 256) (sym (eqb-true e.code.0 h.code.0 t)))
+      this t = clash (ap (λ (n : ℕ). n % 256) (sym (eqb-true e.code.0 h.code.0 t)) ∙ sym at)
 
-      by : (t : Bool) → eqb (h.code.0 % 256) (e.code.0 % 256) ≡ t → get_or marks (h.code.0 % 256) false ≡ false
-      by true t = clash (eqb-true (h.code.0 % 256) (e.code.0 % 256) t)
+      by : (t : Bool) → eqb (h.code.0 % 256) j ≡ t → get_or marks (h.code.0 % 256) false ≡ false
+      by true t = clash (eqb-true (h.code.0 % 256) j t)
       by false t =
-          sym
-          (get_or-set_other marks (e.code.0 % 256) (h.code.0 % 256) true false
-          (eqb-false (h.code.0 % 256) (e.code.0 % 256) t))
-          ∙ q
+          sym (get_or-set_other marks j (h.code.0 % 256) true false (eqb-false (h.code.0 % 256) j t)) ∙ q
+
+-- the code of a number
+pub code_marked : (x : ℕ) (e : Entry) → e ≡ entry_in x → x / code_unit % 256 ≡ e.code.0 % 256
+unfolding entry_in shaped_entry
+code_marked x e is = ap (λ (y : Entry). y.code.0 % 256) (sym is)
+
+pub held_passed : (el : AxisOrBtn) (ys : List ℕ) (marks : List Bool) → Marked el ys marks → (x : ℕ)
+    → get_or marks (x / code_unit % 256) false ≡ false → gives (map entry_in ys) (held_in x) el ≡ None
+unfolding held_in
+held_passed el ys marks m x q = m (held_in x) q

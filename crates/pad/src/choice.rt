@@ -88,18 +88,19 @@ fn mark(marks: &mut [bool; MARKS], entries: &[u64], el: AxisOrBtn)
     ensures { Marked el entries.now marks.new }
 {
     for i in (0..entries.len()).rev() {
-        let e = Entry::of_number(entries[i]);
+        let x = entries[i];
+        let e = Entry::of_number(x);
         if e.element == el {
-            marks[mark_of(e.code)] = true;
+            marks[mark_of(x)] = true;
         }
     }
 }
 
-// The place of a code among the marks.
-fn mark_of(code: Code) -> usize
-    ensures { result ≡ code.0 % 256 }
+// The place of a number's code among the marks.
+fn mark_of(x: u64) -> usize
+    ensures { result ≡ x / code_unit % 256 }
 {
-    code.0 as usize % MARKS
+    (x / CODE_UNIT) as usize % MARKS
 }
 
 // The code and the value that an element has. From the last code on, as the definition chooses.
@@ -110,8 +111,9 @@ fn best_of(held: &[u64], entries: &[u64], el: AxisOrBtn) -> Option<Best>
     mark(&mut marks, entries, el);
     let mut best = None;
     for i in (0..held.len()).rev() {
-        let h = held_of(held[i]);
-        if marks[mark_of(h.code)] {
+        let x = held[i];
+        if marks[mark_of(x)] {
+            let h = held_of(x);
             if let Some(value) = given(entries, h, el) {
                 let code = h.code.0;
                 best = Some(prefer(Best { code, value }, best));

@@ -1,9 +1,9 @@
 -- One entry more, from the last one on. Assumes nothing.
-use Rattle.std.proofs.Common.{ℕ, ◌≡◌, ◌+◌, ◌-◌, ◌<◌, false, length, replicate, arith, rules, refl, sym, ◌∙◌}
+use Rattle.std.proofs.Common.{ℕ, ◌≡◌, ◌+◌, ◌-◌, ◌<◌, length, arith, rules, sym, ◌∙◌}
 use borrow.Author.Tests.{tests}
 use lib.ListN.{length-set}
 use Rattle.line.specs.Elements.{same_element}
-use Rattle.pad.proofs.MarkLaws.{none_marked, all_marked, marked_passed, marked_taken}
+use Rattle.pad.proofs.MarkLaws.{none_marked, all_marked, marked_passed, marked_taken, code_marked}
 use Rattle.pad.proofs.choice.mark.Goals as goal
 
 pub loop-i-init : goal.loop-i-init
@@ -17,9 +17,10 @@ loop-i-preserved-then-eq c =
     let l : k < length c.args.entries.now = omega (arith, c.loop-i.invariant.0) in (
       omega (arith, c.loop-i.invariant.0),
       length-set c.loop-i.marks _ _ ∙ c.loop-i.invariant.1,
-      rw c.mark_of.ensures
-          (marked_taken c.args.el c.args.entries.now i k c.loop-i.marks c.of_number-e.result l one c.of_number-e.ensures
-          c.loop-i.invariant.2 c.loop-i.invariant.1 (omega arith)),
+      marked_taken c.args.el c.args.entries.now i k c.loop-i.marks c.of_number-e.result l one c.of_number-e.ensures
+          c.loop-i.invariant.2 c.mark_of.result
+          (c.mark_of.ensures ∙ code_marked _ c.of_number-e.result c.of_number-e.ensures)
+          (omega (arith, c.mark_of.ensures, c.loop-i.invariant.1)),
     )
 
 pub loop-i-preserved : goal.loop-i-preserved

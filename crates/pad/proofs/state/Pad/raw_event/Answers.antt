@@ -14,7 +14,8 @@ returns c =
     let events = c.events_of.ensures ∙ ap (λ (v : Option Event). events_in (caught v [])) c.change_event.ensures in
     elim c.match-put_code.branch [
       | in-Ok w ↦ (rw (w.answer-is, events, w.answer-is) (sym w.in-Ok.ensures.told.0), c.put_code.ensures.within)
-      | in-Err w ↦
-          (rw (w.answer-is, events, w.answer-is, w.in-Err.ensures.told.1) (sym w.in-Err.ensures.told.0),
-          c.put_code.ensures.within)
+      | in-Err w ↦ (
+        rw (w.answer-is, events, w.answer-is, w.in-Err.ensures.told.1) (sym w.in-Err.ensures.told.0),
+        c.put_code.ensures.within,
+      )
     ]
