@@ -12,7 +12,7 @@ LIMITS = ["CODES_MAX", "LIST_MAX", "NAME_MAX", "LINE_MAX", "INDEX_MAX", "TEXT_MA
 PLAIN = {ctypes.c_uint8: "uint8_t", ctypes.c_uint16: "uint16_t", ctypes.c_uint32: "uint32_t", ctypes.c_int16: "int16_t"}
 
 # Structs whose C name is not their own: a map with a refusal is one struct in C.
-RATTLE = {name: "answer" for name in ("FlatPut", "FlatReading", "FlatDefault", "FlatSaved")}
+RATTLE = {name: "answer" for name in ("FlatPut", "FlatReading", "FlatDefault", "FlatSaved")} | {"KeyTable": "keys"}
 
 # The crates whose structs C programs hold: exports, and the layers that it stands on.
 CROSSING = ("text", "line", "map", "pad", "store", "exports")
