@@ -12,7 +12,10 @@ LIMITS = ["CODES_MAX", "LIST_MAX", "NAME_MAX", "LINE_MAX", "INDEX_MAX", "TEXT_MA
 PLAIN = {ctypes.c_uint8: "uint8_t", ctypes.c_uint16: "uint16_t", ctypes.c_uint32: "uint32_t", ctypes.c_int16: "int16_t"}
 
 # Structs whose C name is not their own: a map with a refusal is one struct in C.
-RATTLE = {name: "answer" for name in ("FlatPut", "FlatReading", "FlatDefault", "FlatSaved")}
+RATTLE = {name: "answer" for name in ("FlatPut", "FlatReading", "FlatDefault", "FlatSaved")} | {"KeyTable": "keys"}
+
+# The crates whose structs C programs hold: exports, and the layers that it stands on.
+CROSSING = ("text", "line", "map", "pad", "store", "exports")
 RUST = {"AxisNumber": "axis", "MappingData": "data"}
 
 
@@ -47,7 +50,8 @@ def named(text):
 
 
 def rattle():
-    text = "\n".join(path.read_text() for path in sorted(Path("crates/exports/src").glob("*.rt")))
+    sources = [path for crate in CROSSING for path in sorted(Path(f"crates/{crate}/src").rglob("*.rt"))]
+    text = "\n".join(path.read_text() for path in sources)
     structs, calls = {}, {}
     for m in re.finditer(r"#\[repr\(C\)\]\n(?:#\[derive[^\n]*\n)?pub struct (\w+) \{(.*?)\n\}", text, re.S):
         fields = [(name, plain_type(kind, RATTLE)) for name, kind in named(m[2])]

@@ -2,7 +2,6 @@
 -- The contracts of the exports rest on these definitions; they assume nothing.
 use Rattle.std.specs.Prelude.{ℕ, Bool, true, false, Option, Some, None, Result, Ok, Err, ⊤}
 use Rattle.text.specs.Bytes.{pick}
-use Rattle.text.specs.declared.uuid.Uuid.{Uuid}
 use Rattle.text.specs.declared.uuid.Form.{Form}
 use Rattle.text.specs.declared.uuid.Form.TheVariants as Fm
 use Rattle.line.specs.declared.ev.Button.{Button}
@@ -15,7 +14,6 @@ use Rattle.line.specs.declared.refusal.Refusal.{Refusal}
 use Rattle.text.specs.declared.uuid.Spelled.{Spelled}
 use Rattle.exports.specs.declared.flat.FlatRefusal.{FlatRefusal}
 use Rattle.exports.specs.declared.flat.FlatWritten.{FlatWritten}
-use Rattle.exports.specs.declared.flat.FlatUuid.{FlatUuid}
 use Rattle.exports.specs.declared.flat.FlatElement.{FlatElement}
 use Rattle.exports.specs.declared.text_calls.FlatUuidParse.{FlatUuidParse}
 use Rattle.exports.specs.declared.text_calls.FlatIndexParse.{FlatIndexParse}
@@ -26,12 +24,6 @@ use Rattle.exports.specs.declared.line_calls.FlatAxis.{FlatAxis}
 abbrev pub flat_written : Option ℕ → FlatWritten
 flat_written (Some n) = record { fits = true; next = n }
 flat_written None = record { fits = false; next = 0 }
-
-abbrev pub flat_uuid : Uuid → FlatUuid
-flat_uuid u = record { high = u.high; low = u.low }
-
-abbrev pub uuid_in : FlatUuid → Uuid
-uuid_in u = record { high = u.high; low = u.low }
 
 -- the forms: 1 simple, 2 with hyphens, 3 in braces, 4 after `urn:uuid:`, 5 `xinput`; 0 where there is no UUID
 abbrev pub form_number : Form → ℕ
@@ -46,7 +38,7 @@ first_form_number (Some f) = form_number f
 first_form_number None = 0
 
 abbrev pub flat_uuid_parse : Option Spelled → FlatUuidParse
-flat_uuid_parse (Some g) = record { valid = true; id = flat_uuid g.id; form = form_number g.form }
+flat_uuid_parse (Some g) = record { valid = true; id = g.id; form = form_number g.form }
 flat_uuid_parse None = record { valid = false; id = record { high = 0; low = 0 }; form = 0 }
 
 abbrev pub flat_index_parse : Option ℕ → FlatIndexParse

@@ -12,7 +12,6 @@ use Rattle.line.specs.Elements.{code_of}
 use Rattle.map.specs.declared.mapping_data.MappingData.{MappingData}
 use Rattle.map.specs.declared.default.DefaultMap.{DefaultMap}
 use Rattle.map.specs.declared.from_data.Built.{Built}
-use Rattle.map.specs.declared.keys.KeyTable.{KeyTable}
 use Rattle.map.specs.Refusals.{mapping_outcome}
 use Rattle.map.specs.Slots.{button_slots, axis_slots, button_of, axis_of}
 use Rattle.exports.specs.declared.flat.FlatRefusal.{FlatRefusal}
@@ -21,7 +20,6 @@ use Rattle.exports.specs.declared.flat_data.FlatData.{FlatData}
 use Rattle.exports.specs.declared.data_calls.FlatChanged.{FlatChanged}
 use Rattle.exports.specs.declared.build_calls.FlatDefault.{FlatDefault}
 use Rattle.exports.specs.declared.build_calls.FlatBuilt.{FlatBuilt}
-use Rattle.exports.specs.declared.build_calls.FlatKeys.{FlatKeys}
 use Rattle.exports.specs.Flat.{flat_outcome, flat_code}
 use Rattle.exports.specs.FlatMaps.{flat_mapping}
 
@@ -76,7 +74,3 @@ flat_default d = record { refusal = flat_answer d.answer; map = flat_mapping d.m
 
 abbrev pub flat_built : Built → FlatBuilt
 flat_built b = record { refusal = flat_answer b.answer; map = flat_mapping b.map; len = b.len }
-
--- ---- the table of key codes
-abbrev pub flat_keys : KeyTable → FlatKeys
-flat_keys t = record { buttons = t.buttons }

@@ -2,6 +2,7 @@
 -- The contracts of the exports rest on these definitions; they assume nothing.
 use Rattle.std.specs.Prelude.{ℕ, false, eqb, Option, Some, None, Result, Ok, Err, ⊤}
 use Rattle.text.specs.Bytes.{pick}
+use Rattle.text.specs.declared.uuid.Uuid.{Uuid}
 use Rattle.line.specs.declared.ev.AxisOrBtn.{AxisOrBtn}
 use Rattle.line.specs.declared.parser.AxisRange.{AxisRange}
 use Rattle.line.specs.declared.parser.AxisRange.TheVariants as Ar
@@ -15,12 +16,11 @@ use Rattle.line.specs.declared.parser.Stepped.{Stepped}
 use Rattle.line.specs.declared.refusal.Refusal.{Refusal}
 use Rattle.line.specs.declared.parser.tokens.Tokens.{Tokens}
 use Rattle.line.specs.Refusals.{error_refusal, last_outcome}
-use Rattle.exports.specs.declared.flat.FlatUuid.{FlatUuid}
 use Rattle.exports.specs.declared.flat_token.FlatPair.{FlatPair}
 use Rattle.exports.specs.declared.flat_token.FlatToken.{FlatToken}
 use Rattle.exports.specs.declared.parser_calls.FlatStep.{FlatStep}
 use Rattle.exports.specs.declared.parser_calls.FlatTokens.{FlatTokens}
-use Rattle.exports.specs.Flat.{flat_element, flat_uuid, flat_outcome}
+use Rattle.exports.specs.Flat.{flat_element, flat_outcome}
 
 abbrev pub range_number : AxisRange → ℕ
 range_number Ar.LowerHalf = 0
@@ -65,11 +65,11 @@ no_pair =
       inverted = false;
     }
 
-abbrev pub token_of : ℕ → Result ⊤ Refusal → FlatUuid → ℕ → ℕ → FlatPair → FlatToken
+abbrev pub token_of : ℕ → Result ⊤ Refusal → Uuid → ℕ → ℕ → FlatPair → FlatToken
 token_of kind o id start len pair =
     record { kind = kind; refusal = flat_outcome o; id = id; start = start; len = len; pair = pair }
 
-abbrev pub no_uuid_of : FlatUuid
+abbrev pub no_uuid_of : Uuid
 no_uuid_of = record { high = 0; low = 0 }
 
 abbrev pub bare_token : ℕ → FlatToken
@@ -83,7 +83,7 @@ pair_token kind pair = token_of kind (Ok tt) no_uuid_of 0 0 pair
 
 -- the kinds: 0 end, 1 refused, 2 UUID, 3 platform, 4 name, 5 axis, 6 button, 7 hat
 abbrev pub flat_token : Token → FlatToken
-flat_token (Tk.Uuid u) = token_of 2 (Ok tt) (flat_uuid u) 0 0 no_pair
+flat_token (Tk.Uuid u) = token_of 2 (Ok tt) u 0 0 no_pair
 flat_token (Tk.Platform start len) = text_token 3 start len
 flat_token (Tk.Name start len) = text_token 4 start len
 flat_token (Tk.AxisMapping from to r) = pair_token 5 (flat_pair from 0 to r)

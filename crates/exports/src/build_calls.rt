@@ -4,17 +4,17 @@ ghost use Rattle.line.specs.Elements.{code_of};
 ghost use Rattle.map.specs.Default.{default_of};
 ghost use Rattle.map.specs.Keys.{key_button, key_table};
 ghost use Rattle.map.specs.Build.{build_of, output_of};
-ghost use Rattle.exports.specs.Flat.{uuid_in};
 ghost use Rattle.exports.specs.FlatMaps.{Unused};
-ghost use Rattle.exports.specs.FlatSlots.{data_in, flat_default, flat_built, flat_keys};
+ghost use Rattle.exports.specs.FlatSlots.{data_in, flat_default, flat_built};
 
-use crate::flat::{FlatRefusal, FlatUuid};
+use crate::flat::FlatRefusal;
 use crate::flat_data::FlatData;
 use crate::flat_mapping::{FlatMapping, flat_made};
 use line::ev::Code;
 use map::error::mapping_outcome;
 use map::from_data::Built;
-use map::keys::{KEYS, KeyTable, key_button, key_table};
+use map::keys::{KeyTable, key_button, key_table};
+use text::uuid::Uuid;
 
 // A refused one has the empty map.
 #[repr(C)]
@@ -22,13 +22,6 @@ use map::keys::{KEYS, KeyTable, key_button, key_table};
 pub struct FlatDefault {
     pub refusal: FlatRefusal,
     pub map: FlatMapping,
-}
-
-// The table of key codes, as numbers.
-#[repr(C)]
-#[derive(Clone, Copy)]
-pub struct FlatKeys {
-    pub buttons: [u8; KEYS],
 }
 
 // A refused build has the empty map and length 0.
@@ -48,11 +41,10 @@ pub extern "C" fn raspteal_key_button(code: u32) -> u16
 }
 
 #[unsafe(no_mangle)]
-pub extern "C" fn raspteal_key_table() -> FlatKeys
-    ensures { result ≡ flat_keys key_table }
+pub extern "C" fn raspteal_key_table() -> KeyTable
+    ensures { result ≡ key_table }
 {
-    let KeyTable { buttons } = key_table();
-    FlatKeys { buttons }
+    key_table()
 }
 
 #[unsafe(no_mangle)]
@@ -83,11 +75,11 @@ pub extern "C" fn raspteal_from_data(
     buttons: &[u32],
     axes: &[u32],
     name: &[u8],
-    id: FlatUuid,
+    id: Uuid,
     out: &mut [u8],
 ) -> FlatBuilt
-    ensures value { result ≡ flat_built (build_of (data_in «data») buttons.now axes.now name.now (uuid_in id) (length out.old)) }
-    ensures out_after { out.new ≡ output_of (data_in «data») buttons.now axes.now name.now (uuid_in id) out.old }
+    ensures value { result ≡ flat_built (build_of (data_in «data») buttons.now axes.now name.now id (length out.old)) }
+    ensures out_after { out.new ≡ output_of (data_in «data») buttons.now axes.now name.now id out.old }
 {
-    flat_built(map::from_data::from_data(data.into(), buttons, axes, name, id.into(), out))
+    flat_built(map::from_data::from_data(data.into(), buttons, axes, name, id, out))
 }

@@ -1,8 +1,9 @@
 // What crosses the boundary, and how the answers of the layers are laid out as numbers. C has no Option and no enum with
-// values: a flag stands beside each value that may be missing. C has no generic structs either, and the layers' structs
-// are not laid out for it: each struct for C has a From of its own, each way that it crosses, also where two look alike.
+// values: a flag stands beside each value that may be missing. C has no generic structs either: each struct for C has a
+// From of its own, each way that it crosses, also where two look alike. A layer's struct of nothing but numbers (Uuid,
+// KeyTable, Pad, Pads) crosses as it is.
 ghost use Rattle.std.specs.Prelude.{◌≡◌, Err};
-ghost use Rattle.exports.specs.Flat.{flat_written, flat_uuid, form_number, uuid_in, flat_element, element_of, place_number, code_number, flat_outcome};
+ghost use Rattle.exports.specs.Flat.{flat_written, form_number, flat_element, element_of, place_number, code_number, flat_outcome};
 
 use line::ev::{Axis, AxisOrBtn, Button, Code};
 use line::refusal::Refusal;
@@ -14,13 +15,6 @@ use text::uuid::{Form, Uuid};
 pub struct FlatWritten {
     pub fits: bool,
     pub next: usize,
-}
-
-#[repr(C)]
-#[derive(Clone, Copy)]
-pub struct FlatUuid {
-    pub high: u64,
-    pub low: u64,
 }
 
 // A button, or an axis, by its number.
@@ -42,10 +36,8 @@ pub struct FlatRefusal {
     pub code: u32,
 }
 
-impl FlatUuid {
-    // What stands where there is no UUID.
-    pub const NIL: FlatUuid = FlatUuid { high: 0, low: 0 };
-}
+// What stands where there is no UUID.
+pub const NO_UUID: Uuid = Uuid { high: 0, low: 0 };
 
 impl FlatElement {
     // What stands where there is no element.
@@ -72,29 +64,6 @@ impl From<Option<usize>> for FlatWritten {
         FlatWritten {
             fits: end.is_some(),
             next: end.unwrap_or(0),
-        }
-    }
-}
-
-impl From<Uuid> for FlatUuid {
-    ghost from_gives = { λ id f. f ≡ flat_uuid id };
-
-    fn from(id: Uuid) -> FlatUuid {
-        FlatUuid {
-            high: id.high,
-            low: id.low,
-        }
-    }
-}
-
-// The way back: C's struct of a UUID is not the layer's.
-impl From<FlatUuid> for Uuid {
-    ghost from_gives = { λ f id. id ≡ uuid_in f };
-
-    fn from(f: FlatUuid) -> Uuid {
-        Uuid {
-            high: f.high,
-            low: f.low,
         }
     }
 }

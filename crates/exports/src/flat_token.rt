@@ -2,9 +2,10 @@
 ghost use Rattle.std.specs.Prelude.{◌≡◌};
 ghost use Rattle.exports.specs.FlatTokens.{range_number, range_in, state_number, state_in, flat_pair, text_token, pair_token, flat_token, flat_answer, bare_token};
 
-use crate::flat::{FlatElement, FlatRefusal, FlatUuid};
+use crate::flat::{FlatElement, FlatRefusal, NO_UUID};
 use line::ev::AxisOrBtn;
 use line::parser::{AxisRange, Error, Ranges, State, Token};
+use text::uuid::Uuid;
 
 // What a pair says. `from` is the index, or the hat's number.
 #[repr(C)]
@@ -25,7 +26,7 @@ pub struct FlatPair {
 pub struct FlatToken {
     pub kind: u8,
     pub refusal: FlatRefusal,
-    pub id: FlatUuid,
+    pub id: Uuid,
     pub start: usize,
     pub len: usize,
     pub pair: FlatPair,
@@ -129,7 +130,7 @@ fn bare_token(kind: u8) -> FlatToken
     FlatToken {
         kind,
         refusal: FlatRefusal::NONE,
-        id: FlatUuid::NIL,
+        id: NO_UUID,
         start: 0,
         len: 0,
         pair: FlatPair::NONE,
@@ -161,7 +162,7 @@ impl From<Token> for FlatToken {
     fn from(t: Token) -> FlatToken {
         match t {
             Token::Uuid(u) => FlatToken {
-                id: u.into(),
+                id: u,
                 ..bare_token(UUID)
             },
             Token::Platform { start, len } => text_token(PLATFORM, start, len),

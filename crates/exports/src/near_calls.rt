@@ -2,16 +2,17 @@
 ghost use Rattle.std.specs.Prelude.{◌≡◌};
 ghost use Rattle.text.specs.Bytes.{write_answer, write_buffer};
 ghost use Rattle.store.specs.Near.{near_up, near_says, near_line};
-ghost use Rattle.exports.specs.Flat.{uuid_in, flat_written};
+ghost use Rattle.exports.specs.Flat.{flat_written};
 ghost use Rattle.exports.specs.FlatNear.{near_how, flat_near_look};
 ghost use Rattle.exports.specs.FlatStore.{party_in};
 
-use crate::flat::{FlatRefusal, FlatUuid, FlatWritten};
+use crate::flat::{FlatRefusal, FlatWritten};
 use crate::flat_party::FlatParty;
 use store::calls::LookError;
 use store::near::Nearness;
 use store::refusal::near_outcome;
 use text::bytes::write_bytes;
+use text::uuid::Uuid;
 
 // What is held, or 19 or 24: 0 nothing, 1 a line under the whole UUID, 2 one under that without its checksum alone.
 #[repr(C)]
@@ -47,11 +48,11 @@ pub extern "C" fn raspteal_store_found_near(
     index: &[u8],
     text: &[u8],
     party: FlatParty,
-    id: FlatUuid,
+    id: Uuid,
 ) -> FlatNearLook
-    ensures { result ≡ flat_near_look (near_says (near_up (party_in party) (uuid_in id) index.now text.now)) }
+    ensures { result ≡ flat_near_look (near_says (near_up (party_in party) id index.now text.now)) }
 {
-    store::near::found_near(index, text, party.into(), id.into()).into()
+    store::near::found_near(index, text, party.into(), id).into()
 }
 
 // A reference can't be returned to C: the line is copied to the start of `out`. C calls this and `raspteal_store_get`
@@ -61,12 +62,12 @@ pub extern "C" fn raspteal_store_get_near(
     index: &[u8],
     text: &[u8],
     party: FlatParty,
-    id: FlatUuid,
+    id: Uuid,
     out: &mut [u8],
 ) -> FlatWritten
-    ensures value { result ≡ flat_written (write_answer out.old 0 (near_line (near_up (party_in party) (uuid_in id) index.now text.now))) }
-    ensures out_after { out.new ≡ write_buffer out.old 0 (near_line (near_up (party_in party) (uuid_in id) index.now text.now)) }
+    ensures value { result ≡ flat_written (write_answer out.old 0 (near_line (near_up (party_in party) id index.now text.now))) }
+    ensures out_after { out.new ≡ write_buffer out.old 0 (near_line (near_up (party_in party) id index.now text.now)) }
 {
-    let line = store::near::get_near(index, text, party.into(), id.into());
+    let line = store::near::get_near(index, text, party.into(), id);
     write_bytes(out, 0, line).into()
 }

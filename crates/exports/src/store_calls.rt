@@ -3,17 +3,18 @@ ghost use Rattle.std.specs.Prelude.{◌≡◌};
 ghost use Rattle.text.specs.Bytes.{write_answer, write_buffer};
 ghost use Rattle.store.specs.Store.{store_clear, store_insert, look_up, says_of, line_of};
 ghost use Rattle.store.specs.Saves.{save_args, store_save};
-ghost use Rattle.exports.specs.Flat.{uuid_in, flat_written};
+ghost use Rattle.exports.specs.Flat.{flat_written};
 ghost use Rattle.exports.specs.FlatSlots.{data_in};
 ghost use Rattle.exports.specs.FlatStore.{party_in, flat_store_answer, flat_inserted, flat_look, flat_saved};
 
-use crate::flat::{FlatRefusal, FlatUuid, FlatWritten};
+use crate::flat::{FlatRefusal, FlatWritten};
 use crate::flat_data::FlatData;
 use crate::flat_mapping::FlatMapping;
 use crate::flat_party::FlatParty;
 use store::calls::{Inserted, LookError, Saved};
 use store::refusal::{save_outcome, store_outcome};
 use text::bytes::write_bytes;
+use text::uuid::Uuid;
 
 // An insert's refusal, the lines walked, and how many of them were filed in another form than 32 digits.
 #[repr(C)]
@@ -112,11 +113,11 @@ pub extern "C" fn raspteal_store_save(
     buttons: &[u32],
     axes: &[u32],
     name: &[u8],
-    id: FlatUuid,
+    id: Uuid,
 ) -> FlatSaved
-    ensures value { result ≡ flat_saved (store_save index.old text.old (party_in party) (save_args (data_in «data») buttons.now axes.now name.now (uuid_in id))).answer }
-    ensures index_after { index.new ≡ (store_save index.old text.old (party_in party) (save_args (data_in «data») buttons.now axes.now name.now (uuid_in id))).index }
-    ensures text_after { text.new ≡ (store_save index.old text.old (party_in party) (save_args (data_in «data») buttons.now axes.now name.now (uuid_in id))).text }
+    ensures value { result ≡ flat_saved (store_save index.old text.old (party_in party) (save_args (data_in «data») buttons.now axes.now name.now id)).answer }
+    ensures index_after { index.new ≡ (store_save index.old text.old (party_in party) (save_args (data_in «data») buttons.now axes.now name.now id)).index }
+    ensures text_after { text.new ≡ (store_save index.old text.old (party_in party) (save_args (data_in «data») buttons.now axes.now name.now id)).text }
 {
     store::calls::save(
         index,
@@ -126,7 +127,7 @@ pub extern "C" fn raspteal_store_save(
         buttons,
         axes,
         name,
-        id.into(),
+        id,
     )
     .into()
 }
@@ -136,11 +137,11 @@ pub extern "C" fn raspteal_store_found(
     index: &[u8],
     text: &[u8],
     party: FlatParty,
-    id: FlatUuid,
+    id: Uuid,
 ) -> FlatLook
-    ensures { result ≡ flat_look (says_of (look_up (party_in party) (uuid_in id) index.now text.now)) }
+    ensures { result ≡ flat_look (says_of (look_up (party_in party) id index.now text.now)) }
 {
-    store::calls::found(index, text, party.into(), id.into()).into()
+    store::calls::found(index, text, party.into(), id).into()
 }
 
 // A reference can't be returned to C: the line is copied to the start of `out`.
@@ -149,12 +150,12 @@ pub extern "C" fn raspteal_store_get(
     index: &[u8],
     text: &[u8],
     party: FlatParty,
-    id: FlatUuid,
+    id: Uuid,
     out: &mut [u8],
 ) -> FlatWritten
-    ensures value { result ≡ flat_written (write_answer out.old 0 (line_of (look_up (party_in party) (uuid_in id) index.now text.now))) }
-    ensures out_after { out.new ≡ write_buffer out.old 0 (line_of (look_up (party_in party) (uuid_in id) index.now text.now)) }
+    ensures value { result ≡ flat_written (write_answer out.old 0 (line_of (look_up (party_in party) id index.now text.now))) }
+    ensures out_after { out.new ≡ write_buffer out.old 0 (line_of (look_up (party_in party) id index.now text.now)) }
 {
-    let line = store::calls::get(index, text, party.into(), id.into());
+    let line = store::calls::get(index, text, party.into(), id);
     write_bytes(out, 0, line).into()
 }

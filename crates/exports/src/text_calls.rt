@@ -4,16 +4,16 @@ ghost use Rattle.text.specs.Bytes.{same, first_of, fits_at, write_answer, write_
 ghost use Rattle.text.specs.Utf8.{valid_run, is_utf8};
 ghost use Rattle.text.specs.Uuid.{uuid_of, uuid_text, without_checksum};
 ghost use Rattle.text.specs.Decimal.{index_number, decimal};
-ghost use Rattle.exports.specs.Flat.{flat_written, flat_uuid, flat_uuid_parse, flat_index_parse, uuid_in};
+ghost use Rattle.exports.specs.Flat.{flat_written, flat_uuid_parse, flat_index_parse};
 
-use crate::flat::{FlatUuid, FlatWritten, form_number};
+use crate::flat::{FlatWritten, NO_UUID, form_number};
 use text::uuid::{Spelled, Uuid};
 
 #[repr(C)]
 #[derive(Clone, Copy)]
 pub struct FlatUuidParse {
     pub valid: bool,
-    pub id: FlatUuid,
+    pub id: Uuid,
     pub form: u8,
 }
 
@@ -82,12 +82,12 @@ impl From<Option<Spelled>> for FlatUuidParse {
         match parsed {
             Some(spelled) => FlatUuidParse {
                 valid: true,
-                id: spelled.id.into(),
+                id: spelled.id,
                 form: form_number(spelled.form),
             },
             None => FlatUuidParse {
                 valid: false,
-                id: FlatUuid::NIL,
+                id: NO_UUID,
                 form: 0,
             },
         }
@@ -95,18 +95,18 @@ impl From<Option<Spelled>> for FlatUuidParse {
 }
 
 #[unsafe(no_mangle)]
-pub extern "C" fn raspteal_uuid_write_simple(id: FlatUuid, out: &mut [u8], at: usize) -> FlatWritten
-    ensures value { result ≡ flat_written (write_answer out.old at (uuid_text (uuid_in id))) }
-    ensures out_after { out.new ≡ write_buffer out.old at (uuid_text (uuid_in id)) }
+pub extern "C" fn raspteal_uuid_write_simple(id: Uuid, out: &mut [u8], at: usize) -> FlatWritten
+    ensures value { result ≡ flat_written (write_answer out.old at (uuid_text id)) }
+    ensures out_after { out.new ≡ write_buffer out.old at (uuid_text id) }
 {
-    Uuid::from(id).write_simple(out, at).into()
+    id.write_simple(out, at).into()
 }
 
 #[unsafe(no_mangle)]
-pub extern "C" fn raspteal_uuid_without_checksum(id: FlatUuid) -> FlatUuid
-    ensures { result ≡ flat_uuid (without_checksum (uuid_in id)) }
+pub extern "C" fn raspteal_uuid_without_checksum(id: Uuid) -> Uuid
+    ensures { result ≡ without_checksum id }
 {
-    Uuid::from(id).without_checksum().into()
+    id.without_checksum()
 }
 
 #[unsafe(no_mangle)]

@@ -7,7 +7,8 @@ ghost use Rattle.text.specs.Bytes.{written, Wrote};
 
 use crate::bytes::fits;
 
-// A UUID: its first eight bytes and its last eight, high byte first.
+// A UUID: its first eight bytes and its last eight, high byte first. repr(C): C programs hold the same struct.
+#[repr(C)]
 #[derive(Clone, Copy, PartialEq, Eq, PartialOrd, Ord)]
 pub struct Uuid {
     pub high: u64,
