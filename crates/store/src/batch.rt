@@ -7,15 +7,14 @@ ghost use Rattle.store.specs.Table.{SomeRows, ReachesRow, TakesLines, Went, Batc
 
 use crate::calls::StoreError;
 use crate::chains::Table;
-use crate::claims::{Dues, dues_of};
+use crate::claims::dues_of;
 use crate::lines::{line_length, wanted};
-use crate::parties::Key;
 use crate::rows::ROWS;
 use crate::search::find_far;
 use crate::settle::settle;
 use crate::shares::OWNERS;
 use crate::soundness::{LINE_MAX, survey};
-use crate::table::{Fill, file_row};
+use crate::table::{Filing, Fill};
 
 // How far lines were walked: what stops the insert, if anything does, the place, the lines walked, and how many numbers
 // are taken.
@@ -27,88 +26,78 @@ pub struct Walked {
     pub filled: usize,
 }
 
-// One line of an owner's insert: what is filled after it, or why it stops the insert.
-fn reach_row(
-    index: &[u8],
-    text: &[u8],
-    lines: &[u8],
-    table: &mut Table,
-    fill: Fill,
-    dues: Dues,
-    owner: u8,
-    at: usize,
-    len: usize,
-) -> Result<Fill, StoreError>
-    requires count_lt_rows_max { (fill.count < rows_max) × (at + len ≤ length lines.now) }
-    requires some_rows { SomeRows dues owner index.now text.now lines.now
-        table.old.rows table.old.heads table.old.next
-        fill }
-    ensures { ReachesRow dues index.now text.now
-        lines.now
-        table.old.rows table.old.heads table.old.next fill owner
-        (take len (drop at lines.now))
-        table.new.rows table.new.heads table.new.next result }
-{
-    let Some(spelled) = wanted(&lines[at..at + len]) else {
-        return Ok(fill);
-    };
-    if LINE_MAX < len {
-        return Err(StoreError::LineTooLong);
-    }
-    let uuid = spelled.id;
-    let key = Key { owner, uuid };
-    let filled = file_row(index, text, table, fill, dues, key, at, len)?;
-    Ok(filled)
-}
-
-// Walks the lines from a place on, while there are numbers for them.
-fn take_lines(
-    index: &[u8],
-    text: &[u8],
-    lines: &[u8],
-    table: &mut Table,
-    first: Fill,
-    dues: Dues,
-    owner: u8,
-    from: usize,
-) -> Walked
-    requires from_in_bounds { from ≤ length lines.now + 1 }
-    requires some_rows { SomeRows dues owner index.now text.now lines.now
-        table.old.rows table.old.heads table.old.next
-        first }
-    ensures takes_lines { TakesLines dues index.now text.now
-        lines.now
-        table.old.rows table.old.heads table.old.next owner from first
-        table.new.rows result }
-    ensures went { Went lines.now from first.count result }
-{
-    let mut at = from;
-    let mut count = 0;
-    let mut fill = first;
-    // A `while`, since it may stop within the text and hands its place back, which no `split` tells.
-    while at < lines.len() && fill.count < ROWS {
-        let end = find_far(&lines[at..], b'\n');
-        let len = line_length(&lines[at..], end);
-        let start = at;
-        match reach_row(index, text, lines, table, fill, dues, owner, start, len) {
-            Ok(filled) => fill = filled,
-            Err(e) => {
-                return Walked {
-                    answer: Err(e),
-                    at,
-                    count,
-                    filled: fill.count,
-                };
-            }
+impl Filing<'_> {
+    // One line of an owner's insert: what is filled after it, or why it stops the insert.
+    fn reach_row(
+        &self,
+        table: &mut Table,
+        fill: Fill,
+        at: usize,
+        len: usize,
+    ) -> Result<Fill, StoreError>
+        requires count_lt_rows_max { (fill.count < rows_max) × (at + len ≤ length self.now.lines.now) }
+        requires some_rows { SomeRows self.now.dues self.now.owner self.now.index.now self.now.text.now
+            self.now.lines.now
+            table.old.rows table.old.heads table.old.next
+            fill }
+        ensures { ReachesRow self.now.dues self.now.index.now self.now.text.now
+            self.now.lines.now
+            table.old.rows table.old.heads table.old.next fill self.now.owner
+            (take len (drop at self.now.lines.now))
+            table.new.rows table.new.heads table.new.next result }
+    {
+        let Some(spelled) = wanted(&self.lines[at..at + len]) else {
+            return Ok(fill);
+        };
+        if LINE_MAX < len {
+            return Err(StoreError::LineTooLong);
         }
-        count += 1;
-        at += end + 1;
+        let uuid = spelled.id;
+        let filled = self.file_row(table, fill, uuid, at, len)?;
+        Ok(filled)
     }
-    Walked {
-        answer: Ok(()),
-        at,
-        count,
-        filled: fill.count,
+
+    // Walks the lines from a place on, while there are numbers for them.
+    fn take_lines(&self, table: &mut Table, first: Fill, from: usize) -> Walked
+        requires from_in_bounds { from ≤ length self.now.lines.now + 1 }
+        requires some_rows { SomeRows self.now.dues self.now.owner self.now.index.now self.now.text.now
+            self.now.lines.now
+            table.old.rows table.old.heads table.old.next
+            first }
+        ensures takes_lines { TakesLines self.now.dues self.now.index.now self.now.text.now
+            self.now.lines.now
+            table.old.rows table.old.heads table.old.next self.now.owner from first
+            table.new.rows result }
+        ensures went { Went self.now.lines.now from first.count result }
+    {
+        let mut at = from;
+        let mut count = 0;
+        let mut fill = first;
+        // A `while`, since it may stop within the text and hands its place back, which no `split` tells.
+        while at < self.lines.len() && fill.count < ROWS {
+            let end = find_far(&self.lines[at..], b'\n');
+            let len = line_length(&self.lines[at..], end);
+            let start = at;
+            match self.reach_row(table, fill, start, len) {
+                Ok(filled) => fill = filled,
+                Err(e) => {
+                    return Walked {
+                        answer: Err(e),
+                        at,
+                        count,
+                        filled: fill.count,
+                    };
+                }
+            }
+            count += 1;
+            at += end + 1;
+        }
+        Walked {
+            answer: Ok(()),
+            at,
+            count,
+            filled: fill.count,
+        }
     }
 }
 
@@ -132,7 +121,14 @@ pub fn insert_batch(
     let seen = survey(index, text, &mut table).unwrap();
     let fill = seen.fill;
     let dues = dues_of(&table.rows, fill, shares, owner);
-    let part = take_lines(index, text, lines, &mut table, fill, dues, owner, from);
+    let filing = Filing {
+        index,
+        text,
+        dues,
+        owner,
+        lines,
+    };
+    let part = filing.take_lines(&mut table, fill, from);
     let count = part.filled;
     settle(index, text, lines, &table.rows, fill, count);
     part

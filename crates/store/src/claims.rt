@@ -31,16 +31,25 @@ pub fn claimed(dues: Dues, used: usize) -> usize
     dues.others + larger_of(used - dues.theirs, dues.share)
 }
 
-// Adds up the bytes of each owner's lines, of the first `count` rows.
-pub fn add_uses(rows: &[Row; ROWS], count: usize, uses: &mut [u16; OWNERS])
-    requires uses_value { uses.old ≡ no_shares }
-    requires addable { Addable rows.now count }
-    ensures { Adds rows.now count uses.new }
-{
-    for k in 0..count {
-        let row = rows[k];
-        let o = row.key.owner as usize;
-        uses[o] += row.len as u16;
+// The lines that are written down under the first `count` numbers. Their bytes are no more than those of a text.
+#[derive(Clone, Copy)]
+pub struct Listed<'a> {
+    pub rows: &'a [Row; ROWS],
+    pub count: usize,
+    ghost addable: { Addable rows.now count },
+}
+
+impl Listed<'_> {
+    // Adds up the bytes of each owner's lines.
+    pub fn add_uses(&self, uses: &mut [u16; OWNERS])
+        requires { uses.old ≡ no_shares }
+        ensures { Adds self.now.rows.now self.now.count uses.new }
+    {
+        for k in 0..self.count {
+            let row = self.rows[k];
+            let o = row.key.owner as usize;
+            uses[o] += row.len as u16;
+        }
     }
 }
 
@@ -70,7 +79,11 @@ pub fn dues_of(rows: &[Row; ROWS], fill: Fill, shares: &[u16; OWNERS], owner: u8
         };
     }
     let mut uses = [0u16; OWNERS];
-    add_uses(rows, fill.count, &mut uses);
+    let listed = Listed {
+        rows,
+        count: fill.count,
+    };
+    listed.add_uses(&mut uses);
     let o = owner as usize;
     let used = uses[o] as usize;
     let share = shares[o] as usize;

@@ -10,7 +10,7 @@ use crate::chains::Table;
 use crate::claims::Dues;
 use crate::parties::Key;
 use crate::settle::settle;
-use crate::table::{Fill, Full, file_row};
+use crate::table::{Filing, Fill, Full};
 
 // Files a line under a key, if there is room: the one held under it is taken out, and the new one goes last. The lines
 // that are held are written down.
@@ -33,7 +33,14 @@ pub fn file_line(
         index.new text.new }
 {
     let len = line.len();
-    let filled = file_row(index, text, table, fill, dues, key, 0, len)?;
+    let filing = Filing {
+        index,
+        text,
+        dues,
+        owner: key.owner,
+        lines: line,
+    };
+    let filled = filing.file_row(table, fill, key.uuid, 0, len)?;
     settle(index, text, line, &table.rows, fill, filled.count);
     Ok(())
 }

@@ -1,12 +1,10 @@
 // The public calls of the parties' shares of the text (document 02, P10). Each takes any buffers and arguments.
 ghost use Rattle.std.specs.Prelude.{◌≡◌};
-ghost use Rattle.store.specs.Claims.{Addable};
 ghost use Rattle.store.specs.Settings.{ClaimsWith, Weighed, Writable, Written};
 ghost use Rattle.store.specs.Store.{store_share, store_told};
 
 use crate::calls::StoreError;
-use crate::claims::{add_uses, claims_of};
-use crate::rows::{ROWS, Row};
+use crate::claims::{Listed, claims_of};
 use crate::shares::{OWNERS, change_share, share_place, share_size};
 use crate::soundness::Ledger;
 
@@ -28,41 +26,44 @@ pub fn share_of(index: &[u8], text: &[u8], owner: u8) -> Result<ShareUse, Unsoun
     let mut ledger = Ledger::new();
     let stock = ledger.take_stock(index, text).ok_or(Unsound)?;
     let mut uses = [0u16; OWNERS];
-    add_uses(&ledger.table.rows, stock.fill.count, &mut uses);
+    let listed = Listed {
+        rows: &ledger.table.rows,
+        count: stock.fill.count,
+    };
+    listed.add_uses(&mut uses);
     let o = owner as usize;
     let share = ledger.shares[o] as usize;
     let used = uses[o] as usize;
     Ok(ShareUse { share, used })
 }
 
-// What all parties claim with those shares, by the lines that are written down.
-fn claims_with(rows: &[Row; ROWS], count: usize, shares: &[u16; OWNERS]) -> usize
-    requires { Addable rows.now count }
-    ensures { ClaimsWith rows.now count shares.now result }
-{
-    let mut uses = [0u16; OWNERS];
-    add_uses(rows, count, &mut uses);
-    claims_of(&uses, shares)
-}
+impl Listed<'_> {
+    // What all parties claim with those shares.
+    fn claims_with(&self, shares: &[u16; OWNERS]) -> usize
+        ensures { ClaimsWith self.now.rows.now self.now.count shares.now result }
+    {
+        let mut uses = [0u16; OWNERS];
+        self.add_uses(&mut uses);
+        claims_of(&uses, shares)
+    }
 
-// Whether there is room for those shares: in the text, and in an index of which so many bytes are then in use.
-fn share_room(
-    rows: &[Row; ROWS],
-    count: usize,
-    shares: &[u16; OWNERS],
-    text: usize,
-    index: usize,
-    end: usize,
-) -> Result<(), StoreError>
-    requires { Addable rows.now count }
-    ensures { Weighed rows.now count shares.now text index end result }
-{
-    if text < claims_with(rows, count, shares) {
-        Err(StoreError::ShareTooLarge)
-    } else if index < end {
-        Err(StoreError::NoRoom)
-    } else {
-        Ok(())
+    // Whether there is room for those shares: in the text, and in an index of which so many bytes are then in use.
+    fn share_room(
+        &self,
+        shares: &[u16; OWNERS],
+        text: usize,
+        index: usize,
+        end: usize,
+    ) -> Result<(), StoreError>
+        ensures { Weighed self.now.rows.now self.now.count shares.now text index end result }
+    {
+        if text < self.claims_with(shares) {
+            Err(StoreError::ShareTooLarge)
+        } else if index < end {
+            Err(StoreError::NoRoom)
+        } else {
+            Ok(())
+        }
     }
 }
 
@@ -92,14 +93,11 @@ pub fn set_share(index: &mut [u8], text: &[u8], owner: u8, bytes: usize) -> Resu
     let had = ledger.shares[o] as usize;
     ledger.shares[o] = bytes as u16;
     let end = stock.front + fill.end + share_size(bytes) - share_size(had);
-    share_room(
-        &ledger.table.rows,
-        fill.count,
-        &ledger.shares,
-        room,
-        index.len(),
-        end,
-    )?;
+    let listed = Listed {
+        rows: &ledger.table.rows,
+        count: fill.count,
+    };
+    listed.share_room(&ledger.shares, room, index.len(), end)?;
     write_share(index, &ledger.shares, owner, had, bytes);
     Ok(())
 }

@@ -10,6 +10,7 @@ use crate::claims::{Dues, claimed};
 use crate::parties::Key;
 use crate::records::record_size;
 use crate::rows::{ROWS, Row};
+use text::uuid::Uuid;
 
 // Why a line has no room: the index has none for its record, or the text none for the line.
 #[derive(Clone, Copy, PartialEq, Eq)]
@@ -75,41 +76,55 @@ fn end_with(end: usize, had: usize, key: Key) -> usize
     end
 }
 
-// Files a line of the inserted text under a key, if there is room, and answers what is filled then: the one held under
-// it is struck out.
-pub fn file_row(
-    index: &[u8],
-    text: &[u8],
-    table: &mut Table,
-    fill: Fill,
-    dues: Dues,
-    key: Key,
-    start: usize,
-    len: usize,
-) -> Result<Fill, Full>
-    requires count_lt_rows_max { fill.count < rows_max }
-    requires fileable { Fileable dues index.now text.now
-        table.old.rows table.old.heads table.old.next
-        fill key start len }
-    ensures { FilesRow dues index.now text.now
-        table.old.rows table.old.heads table.old.next fill key start len
-        table.new.rows table.new.heads table.new.next result }
-{
-    let n = fill.count;
-    let r = table.add_row(n, key, start, len, ROWS);
-    let had = len_before(&table.rows, r);
-    let used = fill.used - had + len;
-    let end = end_with(fill.end, had, key);
-    if index.len() < end {
-        return Err(Full::Index);
+// One party's filing: the buffers as they are before it, what is claimed of the text, the owner byte, and the lines that
+// are inserted. It is the same from the first line to the last.
+#[derive(Clone, Copy)]
+pub struct Filing<'a> {
+    pub index: &'a [u8],
+    pub text: &'a [u8],
+    pub dues: Dues,
+    pub owner: u8,
+    pub lines: &'a [u8],
+}
+
+impl Filing<'_> {
+    // Files a line of the inserted text under a UUID, if there is room, and answers what is filled then: the one held under
+    // it is struck out.
+    pub fn file_row(
+        &self,
+        table: &mut Table,
+        fill: Fill,
+        uuid: Uuid,
+        start: usize,
+        len: usize,
+    ) -> Result<Fill, Full>
+        requires count_lt_rows_max { fill.count < rows_max }
+        requires fileable { Fileable self.now.dues self.now.index.now self.now.text.now
+            table.old.rows table.old.heads table.old.next
+            fill (record { owner = self.now.owner; uuid = uuid }) start len }
+        ensures { FilesRow self.now.dues self.now.index.now self.now.text.now
+            table.old.rows table.old.heads table.old.next
+            fill (record { owner = self.now.owner; uuid = uuid }) start len
+            table.new.rows table.new.heads table.new.next result }
+    {
+        let n = fill.count;
+        let owner = self.owner;
+        let key = Key { owner, uuid };
+        let r = table.add_row(n, key, start, len, ROWS);
+        let had = len_before(&table.rows, r);
+        let used = fill.used - had + len;
+        let end = end_with(fill.end, had, key);
+        if self.index.len() < end {
+            return Err(Full::Index);
+        }
+        if self.text.len() < claimed(self.dues, used) {
+            return Err(Full::Text);
+        }
+        strike_before(&mut table.rows, r);
+        Ok(Fill {
+            count: n + 1,
+            end,
+            used,
+        })
     }
-    if text.len() < claimed(dues, used) {
-        return Err(Full::Text);
-    }
-    strike_before(&mut table.rows, r);
-    Ok(Fill {
-        count: n + 1,
-        end,
-        used,
-    })
 }

@@ -69,13 +69,13 @@ overflow_sub-end c =
     (omega (arith, c.ranges)) c.if-room-bytes.false
     c.share_size.result c.share_size-2.result c.share_size.ensures c.share_size-2.ensures
 
-pub share_room-requires : goal.share_room-requires
-share_room-requires c =
+pub invariant_of-listed : goal.invariant_of-listed
+invariant_of-listed c =
     let args = c.args in
     let i = args.index.now in
     let t = args.text.now in
     let s = rw c.in_ok-stock.ensures.ok_part at c.take_stock.ensures in
-    (stocked i t _ c.in_ok-stock.stock (λ k. omega (arith, c.slice_known-1.given k)) s).addable
+    record { addable = (stocked i t _ c.in_ok-stock.stock (λ k. omega (arith, c.slice_known-1.given k)) s).addable }
 
 pub returns-in_err-share_room : goal.returns-in_err-share_room
 returns-in_err-share_room c =

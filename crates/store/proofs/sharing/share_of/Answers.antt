@@ -1,5 +1,5 @@
 -- The shares are read and the uses added up: `told_sound`.
-use mathlib.Core.Path.{refl, ap, ◌∙◌}
+use mathlib.Core.Path.{ap, ◌∙◌}
 use mathlib.Core.List.{List}
 use Prim.Native.Nat.{ℕ}
 use native.Mathlib.Omega.{arith}
@@ -14,17 +14,14 @@ returns-in_err-stock c =
     let w = stock_refused _ _ _ _ c.take_stock.ensures _ _ c.in_err-stock.ensures.value _ c.from_residual.ensures.1 in
     rw w.0 (told_unsound args.index.now args.text.now args.owner w.1)
 
-pub add_uses-requires : goal.add_uses-requires
-add_uses-requires c =
+pub invariant_of-listed : goal.invariant_of-listed
+invariant_of-listed c =
     let args = c.args in
     let known = c.shared_slice_known-1 in
     let stock = c.in_ok-stock in
     let w = stocked args.index.now args.text.now _ stock.stock (λ k. omega (arith, known.given k))
     (rw stock.ensures.ok_part at c.take_stock.ensures) in
-    record {
-      uses_value = refl;
-      addable = w.addable;
-    }
+    record { addable = w.addable }
 
 pub returns : goal.returns
 returns c =

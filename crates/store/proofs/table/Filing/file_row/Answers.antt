@@ -5,7 +5,7 @@ use lib.ListN.{length, take, drop, length-drop}
 use lib.Seq.{length-take-le}
 use native.Mathlib.Omega.{arith}
 use Rattle.store.proofs.FileRowLaws.{had_less, dues_less, files_index, files_text, files_fit}
-use Rattle.store.proofs.table.file_row.Goals as goal
+use Rattle.store.proofs.table.Filing.file_row.Goals as goal
 
 pub len_before-had-requires : goal.len_before-had-requires
 len_before-had-requires c = omega (arith, c.add_row-r.ensures.sought.1 (omega arith))
@@ -16,9 +16,9 @@ overflow_sub-used c =
     let pre = c.requires in
     let put = c.add_row-r in
     let had = c.len_before-had in
-    had_less pre.fileable.0 args.dues args.index.now args.text.now pre.fileable.1 _ args.table.now.heads
+    had_less pre.fileable.0 args.self.now.dues args.self.now.index.now args.self.now.text.now pre.fileable.1 _ args.table.now.heads
     args.table.now.next pre.fileable.2.0
-    args.fill args.key args.start args.len pre.fileable.2.1.0 pre.fileable.2.1.1 pre.count_lt_rows_max
+    args.fill (record { owner = args.self.now.owner; uuid = args.uuid }) args.start args.len pre.fileable.2.1.0 pre.fileable.2.1.1 pre.count_lt_rows_max
     _ put.ensures.rows_after
     put.result put.ensures.sought.0 (put.ensures.sought.1 (omega arith)) had.result had.ensures
 
@@ -38,18 +38,18 @@ overflow_add-used c =
       line,
     )
 
-pub returns-then-index-end : goal.returns-then-index-end
-returns-then-index-end c =
+pub returns-then-self-end : goal.returns-then-self-end
+returns-then-self-end c =
     let args = c.args in
     let pre = c.requires in
     let put = c.add_row-r in
     let had = c.len_before-had in
     let ends = c.end_with-end in
     λ g s old hs w.
-    files_index g args.dues args.index.now args.text.now s _ args.table.now.heads args.table.now.next old
-    args.fill args.key args.start args.len hs w pre.count_lt_rows_max _ put.ensures.rows_after
+    files_index g args.self.now.dues args.self.now.index.now args.self.now.text.now s _ args.table.now.heads args.table.now.next old
+    args.fill (record { owner = args.self.now.owner; uuid = args.uuid }) args.start args.len hs w pre.count_lt_rows_max _ put.ensures.rows_after
     put.result put.ensures.sought.0 (put.ensures.sought.1 (omega arith)) had.result had.ensures
-    ends.result ends.ensures _ _ c.if-index-end.true
+    ends.result ends.ensures _ _ c.if-self-end.true
 
 pub claimed-requires : goal.claimed-requires
 claimed-requires c =
@@ -61,10 +61,10 @@ claimed-requires c =
     let line : length (take args.len (drop args.start pre.fileable.1)) ≡ args.len
     = length-take-le args.len (drop args.start pre.fileable.1)
     (omega (arith, length-drop args.start pre.fileable.1, w.inside)) in
-    let less : args.dues.theirs ≤ args.fill.used - had.result + args.len =
-    dues_less pre.fileable.0 args.dues args.index.now args.text.now pre.fileable.1 _ args.table.now.heads
+    let less : args.self.now.dues.theirs ≤ args.fill.used - had.result + args.len =
+    dues_less pre.fileable.0 args.self.now.dues args.self.now.index.now args.self.now.text.now pre.fileable.1 _ args.table.now.heads
     args.table.now.next pre.fileable.2.0
-    args.fill args.key args.start args.len pre.fileable.2.1.0 pre.fileable.2.1.1 pre.count_lt_rows_max
+    args.fill (record { owner = args.self.now.owner; uuid = args.uuid }) args.start args.len pre.fileable.2.1.0 pre.fileable.2.1.1 pre.count_lt_rows_max
     _ put.ensures.rows_after
     put.result put.ensures.sought.0 (put.ensures.sought.1 (omega arith)) had.result had.ensures in
     let most : args.fill.used - had.result + args.len ≤ 131070
@@ -81,8 +81,8 @@ claimed-requires c =
       others_bound = (w.owed.others_most, w.owed.share_most);
     }
 
-pub returns-then-text-claimed : goal.returns-then-text-claimed
-returns-then-text-claimed c =
+pub returns-then-self-claimed : goal.returns-then-self-claimed
+returns-then-self-claimed c =
     let args = c.args in
     let pre = c.requires in
     let put = c.add_row-r in
@@ -90,12 +90,12 @@ returns-then-text-claimed c =
     let ends = c.end_with-end in
     let all = c.claimed in
     λ g s old hs w.
-    files_text g args.dues args.index.now args.text.now s _ args.table.now.heads args.table.now.next old
-    args.fill args.key args.start args.len hs w pre.count_lt_rows_max _ put.ensures.rows_after
+    files_text g args.self.now.dues args.self.now.index.now args.self.now.text.now s _ args.table.now.heads args.table.now.next old
+    args.fill (record { owner = args.self.now.owner; uuid = args.uuid }) args.start args.len hs w pre.count_lt_rows_max _ put.ensures.rows_after
     put.result put.ensures.sought.0 (put.ensures.sought.1 (omega arith)) had.result had.ensures
-    ends.result ends.ensures _ _ (omega (arith, c.if-index-end.false)) all.result
+    ends.result ends.ensures _ _ (omega (arith, c.if-self-end.false)) all.result
     all.ensures
-    c.if-text-claimed.true
+    c.if-self-claimed.true
 
 pub strike_before-requires : goal.strike_before-requires
 strike_before-requires c = omega (arith, c.add_row-r.ensures.sought.1 (omega arith))
@@ -109,8 +109,8 @@ returns c =
     let ends = c.end_with-end in
     let all = c.claimed in
     λ g s old hs w.
-    files_fit g args.dues args.index.now args.text.now s _ args.table.now.heads args.table.now.next old
-    args.fill args.key args.start args.len hs w pre.count_lt_rows_max _ put.ensures.rows_after
+    files_fit g args.self.now.dues args.self.now.index.now args.self.now.text.now s _ args.table.now.heads args.table.now.next old
+    args.fill (record { owner = args.self.now.owner; uuid = args.uuid }) args.start args.len hs w pre.count_lt_rows_max _ put.ensures.rows_after
     put.result put.ensures.sought.0 (put.ensures.sought.1 (omega arith)) had.result had.ensures
-    ends.result ends.ensures _ _ (omega (arith, c.if-index-end.false)) all.result all.ensures
-    (omega (arith, c.if-text-claimed.false)) put.ensures.chained_2 _ c.strike_before.ensures
+    ends.result ends.ensures _ _ (omega (arith, c.if-self-end.false)) all.result all.ensures
+    (omega (arith, c.if-self-claimed.false)) put.ensures.chained_2 _ c.strike_before.ensures
