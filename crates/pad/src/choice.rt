@@ -10,7 +10,7 @@ ghost use Rattle.pad.specs.Inner.{chosen_by, place_in, Marked, AllChosen, Counts
 use crate::events::{ELEMENTS, Event, Held};
 use crate::numbers::{CODE_UNIT, held_of};
 use crate::telling::place_of;
-use crate::value::{entry_event, entry_value};
+use crate::value::entry_value;
 use line::ev::{AxisOrBtn, Code};
 use line::mapping::Entry;
 
@@ -136,7 +136,9 @@ fn told_by(entries: &[u64], h: Held) -> Option<Event>
     ensures { result ≡ event_of (map entry_in entries.now) h.code h.raw }
 {
     let e = first_entry(entries, h.code)?;
-    entry_event(e, h.raw)
+    let value = entry_value(e, h.raw)?;
+    let element = e.element;
+    Some(Event { element, value })
 }
 
 // One held code more, which counts for the element of its entry alone.
