@@ -1,4 +1,5 @@
--- Laws of `same`, `first_of`, `every` and `written`: a loop's turn and end, and what a writer of several parts leaves.
+-- Laws of `same`, `first_of`, `every` and `written`: what the library's methods say in these words, and what a writer of
+-- several parts leaves.
 -- Assumes nothing.
 use borrow.Rule.Slice.PartMut.{put_mid}
 use lib.Pointwise.{pointwise}
@@ -8,14 +9,13 @@ use mathlib.Core.Path.{◌≡◌, refl, ap, sym, ◌∙◌}
 use mathlib.Core.Bool.{Bool, true, false}
 use mathlib.Core.List.{List, [], ◌∷◌, ◌++◌, append_assoc, append-nil}
 use Prim.Native.Nat.{ℕ, suc, ◌+◌, ◌<◌, ◌≤◌}
-use native.Mathlib.Nat.{add_assoc}
 use native.Mathlib.Numerals.{add-one}
 use native.Mathlib.Omega.{arith}
 use borrow.Author.Tests.{eq-eqb, ne_eqb, eqb-true, le-leb, lt-leb, leb-true, leb-false, ltb-false, eqb-false}
 use lib.Dec.{eqb, leb}
 use lib.ListN.{length, take, drop, get_or, set, length-append, length-take, length-drop}
 use lib.ListN.{take-append-drop, drop_of_length-le}
-use lib.Seq.{set_split, drop-cons, set_at, length-take-le, take-suc, take_at, drop_at, drop-drop}
+use lib.Seq.{set_at, length-take-le, take-suc, take_at, drop_at, drop-drop}
 use Rattle.text.specs.Bytes.{pick, both, same, first_of, written, write_answer, write_buffer}
 use Rattle.text.specs.Inner.{every}
 use Rattle.text.proofs.ListLaws.{off, both_parts, at_next}
@@ -160,26 +160,6 @@ pub written-length : (l : List ℕ) (at : ℕ) (v : List ℕ) → at + length v 
 unfolding written
 written-length l at v h = simp (length-append, length-take, length-drop) (omega arith)
 
--- one byte
-pub written_one : (l : List ℕ) (at d : ℕ) → at < length l → set l at d ≡ written l at (d ∷ [])
-unfolding written
-written_one l at d h = set_split l at d h ∙ rw (add-one)
-
--- a byte more after those that are written
-pub written_more : (l : List ℕ) (at : ℕ) (v : List ℕ) (d : ℕ) → at + length v < length l
-    → set (written l at v) (at + length v) d ≡ written l at (v ++ (d ∷ []))
-unfolding written
-written_more l at v d h =
-    let n = at + length v in
-    let e : length (take at l ++ v) ≡ n = simp length-append (rw (length-take-le at l (omega arith))) in
-    rw (
-      drop-cons l n 0 h,
-      ← append_assoc (take at l) v (get_or l n 0 ∷ drop (suc n) l),
-      set_at (take at l ++ v)
-          (get_or l n 0) (drop (suc n) l) d n e,
-    )
-    (simp (append_assoc, length-append, ← add_assoc, add-one))
-
 -- nothing written
 pub written_none : (l : List ℕ) (at : ℕ) → l ≡ written l at []
 unfolding written
@@ -265,12 +245,6 @@ backward_none l at text h =
 module _ (l m : List ℕ) (at : ℕ) (text left : List ℕ) (p : Backward l m at text left) where
   backward_room : at + length left + length p.done ≤ length l
   backward_room = omega (arith, p.fits, ap length p.whole, length-append left p.done)
-
-  pub backward_length : length m ≡ length l
-  backward_length = ap length p.holds ∙ written-length l (at + length left) p.done backward_room
-
-  pub backward_in : at + length left ≤ length m
-  backward_in = omega (arith, backward_room, backward_length)
 
 -- one byte more
 pub backward_more : (l m : List ℕ) (at : ℕ) (text left : List ℕ) (b : ℕ) → Backward l m at text (left ++ (b ∷ []))

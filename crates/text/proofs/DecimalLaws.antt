@@ -2,25 +2,22 @@
 -- Assumes nothing.
 use lib.Pointwise.{pointwise}
 use Rattle.std.proofs.Common.{Bor}
-use Rattle.std.specs.Prelude.{Option, Some, None, MatchOption, unwrap_or}
+use Rattle.std.specs.Prelude.{Option, Some, None, IfNone, IfSome, MatchOption, unwrap_or}
 use mathlib.Core.Path.{◌≡◌, refl, ap, sym, ◌∙◌}
 use mathlib.Core.Logic.{⊎_elim}
 use mathlib.Core.Bool.{Bool, true, false}
 use mathlib.Core.List.{List, [], ◌∷◌, ◌++◌, append_assoc, append-nil}
-use Prim.Native.Nat.{ℕ, zero, suc, ◌+◌, ◌*◌, ◌-◌, ◌/◌, ◌%◌, ◌<◌, ◌≤◌}
+use Prim.Native.Nat.{ℕ, zero, suc, ◌+◌, ◌*◌, ◌-◌, ◌/◌, ◌%◌, ◌^◌, ◌<◌, ◌≤◌}
+use Rattle.std.proofs.Math.Nat.{pow-zero, pow-suc, one-le-pow}
 use native.Mathlib.Omega.{arith}
-use borrow.Author.Tests.{lt-ltb, le-ltb, le-leb, lt-leb, leb-true, eqb-true}
+use borrow.Author.Tests.{lt-ltb, le-ltb, le-leb, lt-leb, eqb-true}
 use lib.Dec.{leb, eqb}
 use lib.ListN.{length, length-append, get_or, take, drop}
 use Rattle.text.specs.Bytes.{pick}
 use Rattle.text.specs.Decimal.{digits, decimal, is_digit, read_digits, unsigned, index_number}
-use Rattle.text.specs.Inner.{every, is_ascii, all_digits_of}
-use Rattle.text.proofs.ListLaws.{lt_or_le, both_true, both_parts, off, at_next}
-use Rattle.text.proofs.BytesLaws.{every-none, every_snoc, every-also}
-
-digits-zero : (n : ℕ) → digits zero n ≡ (48 + n % 10) ∷ []
-unfolding digits
-digits-zero n = refl
+use Rattle.text.specs.Inner.{all_digits_of}
+use Rattle.text.proofs.ListLaws.{lt_or_le, both_true, off, at_next}
+use Rattle.text.proofs.BytesLaws.{every-none, every_snoc}
 
 digits_small : (k n : ℕ) → n < 10 → digits k n ≡ (48 + n % 10) ∷ []
 unfolding digits
@@ -53,17 +50,61 @@ decimal_more (suc k) h =
 pub decimal_more_length : (n : ℕ) → 10 ≤ n → length (decimal n) ≡ length (decimal (n / 10)) + 1
 decimal_more_length n h = rw (decimal_more n h) (simp length-append)
 
--- a number has no more digits than itself, plus one
-digits-length : (k n : ℕ) → length (digits k n) ≤ k + 1
-digits-length zero n = rw (digits-zero n) (omega arith)
-digits-length (suc k) n =
-    ⊎_elim (λ h. rw (digits_small (suc k) n h) (omega arith))
-    (λ h. rw (digits_more k n h) (simp length-append (omega (arith, digits-length k (n / 10)))))
+-- from a power of ten to below the next, a number has one digit more than the exponent says
+pub decimal_power : (k n : ℕ) → 10 ^ k ≤ n → n < 10 * 10 ^ k → length (decimal n) ≡ k + 1
+decimal_power zero n p q =
+    let e : 10 ^ 0 ≡ 1 = pow-zero 10 in
+    let h : n < 10 = omega (arith, e) in
+    ap length (decimal_small n h)
+decimal_power (suc k) n p q =
+    let e : 10 ^ suc k ≡ 10 ^ k * 10 = pow-suc 10 k in
+    let o : 1 ≤ 10 ^ k = one-le-pow k 10 (omega arith) in
+    let h : 10 ≤ n = omega arith in
+    let low : 10 ^ k ≤ n / 10 = omega arith in
+    let high : n / 10 < 10 * 10 ^ k = omega arith in
+    decimal_more_length n h ∙ omega (arith, decimal_power k (n / 10) low high)
+
+-- the number of digits that is reckoned from a logarithm to the base ten, if there is one
+pub decimal_log : (n m : ℕ) (r : Option ℕ) → IfNone r (n ≡ 0) → IfSome r (λ k. 10 ^ k ≤ n)
+    → IfSome r (λ k. n < 10 * 10 ^ k) → MatchOption r (m ≡ 1) (λ k. m ≡ k + 1) → m ≡ length (decimal n)
+decimal_log n m None z low high e = e ∙ sym (ap length (decimal_small n (omega (arith, z))))
+decimal_log n m (Some k) z low high e = e ∙ sym (decimal_power k n low high)
+
+-- the last k digits of n, with leading zeros
+unfoldable pub last_digits : ℕ → ℕ → List ℕ
+last_digits zero n = []
+last_digits (suc k) n = last_digits k (n / 10) ++ ((48 + n % 10) ∷ [])
+
+pub last_digits_length : (k n : ℕ) → length (last_digits k n) ≡ k
+unfolding last_digits
+last_digits_length zero n = refl
+last_digits_length (suc k) n = simp length-append (omega (arith, last_digits_length k (n / 10)))
+
+pub last_digits_none : (n : ℕ) → last_digits 0 n ≡ []
+unfolding last_digits
+last_digits_none n = refl
+
+pub last_digits_more : (k n : ℕ) → 0 < k → last_digits k n ≡ last_digits (k - 1) (n / 10) ++ ((48 + n % 10) ∷ [])
+unfolding last_digits
+last_digits_more zero n h = absurd (omega arith)
+last_digits_more (suc k) n h = let e : suc k - 1 ≡ k = omega arith in rw e refl
+
+last_digits_of : (k n : ℕ) → n ≤ k → last_digits (length (digits k n)) n ≡ digits k n
+unfolding last_digits
+last_digits_of zero n h = rw (digits_small zero n (omega arith)) refl
+last_digits_of (suc k) n h =
+    ⊎_elim (λ q. rw (digits_small (suc k) n q) refl)
+    (λ (q : 10 ≤ n).
+    let e : length (digits k (n / 10) ++ ((48 + n % 10) ∷ [])) ≡ suc (length (digits k (n / 10))) =
+    simp length-append (omega arith) in
+    rw (digits_more k n q, e)
+    (ap (λ (x : List ℕ). x ++ ((48 + n % 10) ∷ [])) (last_digits_of k (n / 10) (omega arith))))
     (lt_or_le n 10)
 
-pub decimal-length : (n : ℕ) → length (decimal n) ≤ n + 1
+-- all of its digits
+pub last_digits_all : (n : ℕ) → last_digits (length (decimal n)) n ≡ decimal n
 unfolding decimal
-decimal-length n = digits-length n n
+last_digits_all n = last_digits_of n n (omega arith)
 
 pick_same : (t : Bool) (x y : Option ℕ) → x ≡ y → pick t x y ≡ y
 pick_same true x y e = e
@@ -83,10 +124,6 @@ read_digit a d ds h l = simp (le-leb 48 d h, le-leb d 57 l)
 pub read_below : (a d : ℕ) (ds : List ℕ) → d < 48 → read_digits a (d ∷ ds) ≡ None
 unfolding read_digits
 read_below a d ds h = simp (lt-leb 48 d h)
-
-pub read_above : (a d : ℕ) (ds : List ℕ) → 57 < d → read_digits a (d ∷ ds) ≡ None
-unfolding read_digits
-read_above a d ds h = simp (le-leb 48 d (omega arith), lt-leb d 57 h)
 
 read_small : (k n : ℕ) (ds : List ℕ) → n < 10 → read_digits 0 (digits k n ++ ds) ≡ read_digits n ds
 read_small k n ds l =
@@ -178,9 +215,3 @@ all_digits (suc k) n h =
 pub decimal_all : (n : ℕ) → all_digits_of (decimal n) ≡ true
 unfolding decimal
 decimal_all n = all_digits n n (omega arith)
-
-digit_ascii : (b : ℕ) → is_digit b ≡ true → is_ascii b ≡ true
-digit_ascii b h = lt-ltb b 128 (omega (arith, leb-true b 57 (both_parts (leb 48 b) (leb b 57) h).1))
-
-pub decimal-ascii : (n : ℕ) → every is_ascii (decimal n) ≡ true
-decimal-ascii n = every-also is_digit is_ascii digit_ascii (decimal n) (decimal_all n)

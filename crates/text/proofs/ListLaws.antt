@@ -3,7 +3,7 @@
 use mathlib.Core.Path.{◌≡◌, refl, sym}
 use mathlib.Core.Bool.{Bool, true, false}
 use mathlib.Core.Logic.{◌⊎◌, inl, inr}
-use mathlib.Core.List.{List, [], ◌∷◌}
+use mathlib.Core.List.{List, ◌∷◌}
 use Prim.Native.Nat.{ℕ, ◌+◌, ◌-◌, ◌<◌, ◌≤◌}
 use native.Mathlib.Numerals.{add-one}
 use native.Mathlib.Omega.{arith}
@@ -54,8 +54,3 @@ part_to_end s i = take_all (length s - i) (drop i s) (simp length-drop (omega ar
 -- how long a part is
 pub part_length : (s : List ℕ) (n i : ℕ) → i + n ≤ length s → length (take n (drop i s)) ≡ n
 part_length s n i h = length-take-le n (drop i s) (simp length-drop (omega arith))
-
--- a list without elements
-pub nil_of : (s : List ℕ) → length s ≡ 0 → s ≡ []
-nil_of [] h = refl
-nil_of (x ∷ s) h = absurd (omega arith)

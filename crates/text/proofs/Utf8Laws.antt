@@ -3,7 +3,7 @@
 use mathlib.Core.Path.{◌≡◌, refl, ap, sym, ◌∙◌}
 use mathlib.Core.Logic.{⊎_elim}
 use mathlib.Core.Bool.{Bool, true, false}
-use mathlib.Core.List.{List, [], ◌∷◌, ◌++◌}
+use mathlib.Core.List.{List, [], ◌∷◌}
 use Prim.Native.Nat.{ℕ, zero, suc, ◌+◌, ◌-◌, ◌<◌, ◌≤◌}
 use native.Mathlib.Omega.{arith}
 use lib.ListN.{length, get_or, take, drop, replicate, length-drop}
@@ -11,7 +11,6 @@ use lib.Seq.{drop-drop}
 use Rattle.text.proofs.ListLaws.{lt_or_le, off, both_true, both_parts, part_to_end}
 use Rattle.std.specs.Prelude.{Option, Some, None}
 use Rattle.std.specs.List.{list_all}
-use Rattle.std.specs.Option.{option_or}
 use Rattle.text.specs.Bytes.{pick, both}
 use Rattle.text.specs.Utf8.{Range, Alternative, utf8_tail, utf8_char, in_range, begins, first_length, char_length}
 use Rattle.text.specs.Utf8.{run_of, valid_run}
@@ -88,19 +87,6 @@ found a others s e = rw e
 pub first-none : (s : List ℕ) → first_length [] s ≡ None
 unfolding first_length
 first-none s = refl
-
--- one group of alternatives after another
-pub first-append : (l m : List Alternative) (s : List ℕ)
-    → first_length (l ++ m) s ≡ option_or (first_length l s) (first_length m s)
-unfolding first_length
-first-append [] m s = refl
-first-append (a ∷ others) m s = go (begins a s) (first-append others m s)
-  where
-    go : (t : Bool) → first_length (others ++ m) s ≡ option_or (first_length others s) (first_length m s)
-        → pick t (Some (length a)) (first_length (others ++ m) s)
-        ≡ option_or (pick t (Some (length a)) (first_length others s)) (first_length m s)
-    go true e = refl
-    go false e = e
 
 -- ---- the same lengths as numbers, 0 for none: a number is what the laws of lengths reckon with
 

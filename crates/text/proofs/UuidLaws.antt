@@ -8,20 +8,19 @@ use Prim.Native.Nat.{ℕ, zero, suc, ◌+◌, ◌*◌, ◌-◌, ◌/◌, ◌%◌
 use native.Mathlib.Nat.{pow-suc, pow-le-pow_right, lt_of_lt_of_le}
 use native.Mathlib.Numerals.{add-one}
 use native.Mathlib.Omega.{arith}
-use borrow.Author.Tests.{lt-ltb, le-ltb, le-leb, lt-leb, leb-true, ne_eqb}
+use borrow.Author.Tests.{lt-ltb, le-ltb, le-leb, lt-leb, leb-true}
 use lib.Dec.{leb}
-use lib.ListN.{length, get_or, take, drop, length-append}
+use lib.ListN.{length, get_or, drop, length-append}
 use lib.Seq.{take_at, drop_at}
 use mathlib.Core.Logic.{⊎_elim}
 use Rattle.text.specs.Bytes.{pick}
-use Rattle.text.specs.Uuid.{hex_digit, read_hex, simple, hyphenated, is_from, in_braces, after_urn, uuid_of, Small}
+use Rattle.text.specs.Uuid.{hex_digit, read_hex, simple, hyphenated, is_from, after_urn, uuid_of, Small}
 use Rattle.text.specs.Uuid.{lower_digit, hex_text, uuid_text}
-use Rattle.text.specs.Inner.{after, every, either, is_ascii, is_lower_hex}
-use Rattle.text.specs.Decimal.{is_digit}
+use Rattle.text.specs.Inner.{after, every, is_lower_hex}
 use Rattle.text.specs.declared.uuid.Form.TheVariants as F
 use Rattle.text.specs.declared.uuid.Uuid.{Uuid}
 use Rattle.text.proofs.ListLaws.{at_next, lt_or_le, both_parts}
-use Rattle.text.proofs.BytesLaws.{every-none, every_append, every_snoc, every-also}
+use Rattle.text.proofs.BytesLaws.{every-none, every_append, every_snoc}
 
 -- a digit more than k digits
 pub grown : (v d k : ℕ) → d < 16 → v < 16 ^ k → v * 16 + d < 16 ^ (k + 1)
@@ -123,23 +122,9 @@ pub uuid_32 : (s : List ℕ) → length s ≡ 32 → uuid_of s ≡ simple s
 unfolding uuid_of
 uuid_32 s e = rw e
 
-pub uuid_36 : (s : List ℕ) → length s ≡ 36 → uuid_of s ≡ hyphenated F.Hyphenated s
-unfolding uuid_of
-uuid_36 s e = rw e
-
-pub uuid_38 : (s : List ℕ) → length s ≡ 38 → uuid_of s ≡ pick (in_braces s) (hyphenated F.Braced (take 36 (drop 1 s))) None
-unfolding uuid_of
-uuid_38 s e = rw e
-
 pub uuid_45 : (s : List ℕ) → length s ≡ 45 → uuid_of s ≡ pick (after_urn s) (hyphenated F.Urn (drop 9 s)) None
 unfolding uuid_of
 uuid_45 s e = rw e
-
-pub uuid_other : (s : List ℕ) → (length s ≡ 32 → ⊥) → (length s ≡ 36 → ⊥) → (length s ≡ 38 → ⊥) → (length s ≡ 45 → ⊥)
-    → uuid_of s ≡ None
-unfolding uuid_of
-uuid_other s a b c d =
-    simp (ne_eqb (length s) 32 a, ne_eqb (length s) 36 b, ne_eqb (length s) 38 c, ne_eqb (length s) 45 d)
 
 -- ---- the text of a UUID
 pub hex_text-length : (k n : ℕ) → length (hex_text k n) ≡ k
@@ -238,13 +223,3 @@ pub uuid_text_lower : (u : Uuid) → every is_lower_hex (uuid_text u) ≡ true
 uuid_text_lower u =
     every_append is_lower_hex (hex_text 16 u.high) (hex_text 16 u.low) (hex_text_lower 16 u.high)
     (hex_text_lower 16 u.low)
-
-lower_ascii : (b : ℕ) → is_lower_hex b ≡ true → is_ascii b ≡ true
-lower_ascii b h = go (is_digit b) refl h
-  where
-    go : (t : Bool) → is_digit b ≡ t → either t (is_from 97 102 b) ≡ true → is_ascii b ≡ true
-    go true e _ = lt-ltb b 128 (omega (arith, leb-true b 57 (both_parts (leb 48 b) (leb b 57) e).1))
-    go false e f = lt-ltb b 128 (omega (arith, leb-true b 102 (both_parts (leb 97 b) (leb b 102) f).1))
-
-pub uuid_text-ascii : (u : Uuid) → every is_ascii (uuid_text u) ≡ true
-uuid_text-ascii u = every-also is_lower_hex is_ascii lower_ascii (uuid_text u) (uuid_text_lower u)

@@ -31,34 +31,24 @@ pub fn parse_u16(s: &[u8]) -> Option<u16>
     parse_unsigned(s.strip_prefix(b"+").unwrap_or(s))
 }
 
-// How many digits `n` has in base ten. A loop that divides: it walks by no place, and what it counts is the answer.
+// How many digits `n` has in base ten.
 pub fn index_len(n: usize) -> usize
     ensures { result ≡ length (decimal n) }
 {
-    let mut rest = n;
-    let mut count = 1;
-    while 10 <= rest {
-        rest = rest / 10;
-        count += 1;
-    }
-    count
+    n.checked_ilog10().map_or(1, |d| d as usize + 1)
 }
 
-// Writes `n` at `at`, its last digit first, and returns the place after the last digit. A loop, since the firmware
-// rules allow no function that calls itself.
+// Writes `n` at `at`, its last digit first, and returns the place after the last digit.
 fn put_index(out: &mut [u8], at: usize, n: usize) -> usize
     requires { at + length (decimal n) ≤ length out.old }
     ensures { Put out.old at (decimal n) result out.new }
 {
     let end = at + index_len(n);
-    let mut place = end;
     let mut upper = n;
-    while 10 <= upper {
-        place -= 1;
+    for place in (at..end).rev() {
         out[place] = b'0' + (upper % 10) as u8;
-        upper = upper / 10;
+        upper /= 10;
     }
-    out[at] = b'0' + (upper % 10) as u8;
     end
 }
 

@@ -85,20 +85,19 @@ fn ascii_block(s: &[u8], k: usize) -> bool
     s[k..k + 16].is_ascii()
 }
 
-// A place that ASCII bytes alone lead to from `from` on, found sixteen at a time. A loop that holds the place: it starts
-// in the middle of the bytes, and `chunks_exact` would have the place reckoned from a count of blocks.
+// A place that ASCII bytes alone lead to from `from` on, found sixteen at a time.
 fn ascii_front(s: &[u8], from: usize) -> usize
     requires { from ≤ length s.now }
     ensures { Passed s.now from result }
 {
-    let mut i = from;
-    while i + 16 <= s.len() {
-        if !ascii_block(s, i) {
-            return i;
+    let blocks = (s.len() - from) / 16;
+    for k in 0..blocks {
+        let at = from + 16 * k;
+        if !ascii_block(s, at) {
+            return at;
         }
-        i += 16;
     }
-    i
+    from + 16 * blocks
 }
 
 // The first place from `from` on that has no ASCII byte, or the end. A loop: by `position` it was tried, and what stayed

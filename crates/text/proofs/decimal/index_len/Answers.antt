@@ -1,11 +1,13 @@
-use mathlib.Core.Path.{ap}
-use native.Mathlib.Omega.{arith}
-use lib.ListN.{length}
-use Rattle.text.proofs.DecimalLaws.{decimal_small, decimal_more_length}
+-- By the logarithm, where there is one.
+use Prim.Native.Nat.{ℕ, ◌+◌}
+use mathlib.Core.Path.{◌≡◌}
+use borrow.Author.Rules.{rules}
+use Rattle.std.specs.Prelude.{MatchOption}
+use Rattle.text.proofs.DecimalLaws.{decimal_log}
 use Rattle.text.proofs.decimal.index_len.Goals as goal
 
-pub loop-rest-preserved : goal.loop-rest-preserved
-loop-rest-preserved c = omega (arith, decimal_more_length c.loop-rest.rest c.loop-rest-test.true)
-
 pub returns : goal.returns
-returns c = omega (arith, ap length (decimal_small c.loop-rest.rest c.loop-rest-test.false))
+returns c =
+    let l = c.checked_ilog10 in
+    let e : MatchOption l.result (c.map_or.result ≡ 1) (λ (k : ℕ). c.map_or.result ≡ k + 1) = search rules in
+    decimal_log c.args.n c.map_or.result l.result l.ensures.none l.ensures.power_le l.ensures.next_power_gt e

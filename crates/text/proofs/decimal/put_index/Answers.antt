@@ -1,64 +1,42 @@
-use Prim.Native.Nat.{ℕ, ◌+◌, ◌-◌, ◌/◌, ◌≤◌}
-use mathlib.Core.Path.{◌≡◌, ap}
-use mathlib.Core.List.{[]}
+use Prim.Native.Nat.{ℕ, ◌+◌, ◌-◌, ◌/◌, ◌%◌}
+use mathlib.Core.Path.{◌≡◌, ap, ◌∙◌}
 use native.Mathlib.Omega.{arith}
-use lib.ListN.{length, length-set}
+use lib.ListN.{length}
 use Rattle.text.specs.Decimal.{decimal}
-use Rattle.text.proofs.BytesLaws.{backward_none, backward_length, backward_in, backward_put}
-use Rattle.text.proofs.BytesLaws.{backward_end}
-use Rattle.text.proofs.DecimalLaws.{decimal_small, decimal_more, decimal_more_length, decimal_positive}
+use Rattle.text.proofs.BytesLaws.{backward_none, backward_put, backward_end}
+use Rattle.text.proofs.DecimalLaws.{last_digits, last_digits_all, last_digits_length, last_digits_more, last_digits_none}
 use Rattle.text.proofs.decimal.put_index.Goals as goal
 
 pub overflow_add-end : goal.overflow_add-end
 overflow_add-end c = omega (arith, c.requires)
 
-pub loop-upper-init : goal.loop-upper-init
-loop-upper-init c =
-    let a = c.args in (
-      ap (λ (k : ℕ). a.at + k) c.index_len.ensures,
-      backward_none a.out.now a.at (decimal a.n) c.requires,
+pub loop-place-init : goal.loop-place-init
+loop-place-init c =
+    let a = c.args in
+    let k : a.at + c.index_len.result - a.at ≡ length (decimal a.n) = omega (arith, c.index_len.ensures) in
+    let d : last_digits (a.at + c.index_len.result - a.at) a.n ≡ decimal a.n =
+    ap (λ (i : ℕ). last_digits i a.n) k ∙ last_digits_all a.n in
+    (omega arith, rw d (backward_none a.out.now a.at (decimal a.n) c.requires))
+
+pub loop-place-preserved : goal.loop-place-preserved
+loop-place-preserved c =
+    let a = c.args in
+    let l = c.loop-place in
+    let k = l.place - a.at in
+    let left = last_digits (k - 1) (l.upper / 10) in
+    let e : l.place - 1 - a.at ≡ k - 1 = omega arith in
+    let i : l.place - 1 ≡ a.at + length left = omega (arith, last_digits_length (k - 1) (l.upper / 10)) in (
+      omega arith,
+      rw e
+          (backward_put a.out.now l.out a.at (decimal a.n) (last_digits k l.upper) left (l.place - 1) (48 + l.upper % 10)
+          l.invariant.1 (last_digits_more k l.upper (omega arith)) i),
     )
-
-pub overflow_sub-place : goal.overflow_sub-place
-overflow_sub-place c = omega (arith, decimal_positive c.loop-upper.upper)
-
-pub bounds-out-place : goal.bounds-out-place
-bounds-out-place c =
-    let a = c.args in
-    let l = c.loop-upper in
-    let room = backward_in a.out.now l.out a.at (decimal a.n) (decimal l.upper) l.invariant.1 in
-    omega (arith, decimal_positive l.upper)
-
-pub loop-upper-preserved : goal.loop-upper-preserved
-loop-upper-preserved c =
-    let a = c.args in
-    let l = c.loop-upper in
-    let h : 10 ≤ l.upper = omega arith in
-    let q : l.place - 1 ≡ a.at + length (decimal (l.upper / 10)) = omega (arith, decimal_more_length l.upper h) in (
-      q,
-      backward_put a.out.now l.out a.at (decimal a.n) (decimal l.upper) (decimal (l.upper / 10)) _ _
-          l.invariant.1 (decimal_more l.upper h) q,
-    )
-
-pub bounds-out-at : goal.bounds-out-at
-bounds-out-at c =
-    let a = c.args in
-    let l = c.loop-upper in
-    let room = backward_in a.out.now l.out a.at (decimal a.n) (decimal l.upper) l.invariant.1 in
-    omega (arith, decimal_positive l.upper)
-
-pub shape_of-out : goal.shape_of-out
-shape_of-out c =
-    let a = c.args in
-    let l = c.loop-upper in
-    simp length-set (backward_length a.out.now l.out a.at (decimal a.n) (decimal l.upper) l.invariant.1)
 
 pub returns : goal.returns
 returns c =
     let a = c.args in
-    let l = c.loop-upper in (
+    let l = c.loop-place in
+    let z : l.place - a.at ≡ 0 = omega arith in (
       ap (λ (k : ℕ). a.at + k) c.index_len.ensures,
-      backward_end a.out.now _ a.at (decimal a.n)
-          (backward_put a.out.now l.out a.at (decimal a.n) (decimal l.upper) [] _ _
-          l.invariant.1 (decimal_small l.upper c.loop-upper-test.false) (omega arith)),
+      backward_end a.out.now l.out a.at (decimal a.n) (rw (← last_digits_none l.upper) (rw z at l.invariant.1)),
     )
