@@ -102,9 +102,6 @@ abbrev pub Room : List ℕ → ℕ → List ℕ → Type 0
 Room out at v = at + length v ≤ length out
 
 -- ---- lengths
-abbrev pub ListFits : List ℕ → Type 0
-ListFits codes = length codes ≤ list_max
-
 abbrev pub length_at : ℕ → Entry → ℕ
 length_at n e = length (ident_text e.element) + 2 + length (decimal n) + 1
 

@@ -12,7 +12,8 @@ pub const KEY_FIRST: u32 = 0x10100;
 
 pub const KEYS: usize = 512;
 
-// The number at place i is that of the key code 10100 + i.
+// The number at place i is that of the key code 10100 + i. 0 is that of Unknown, which no code has: request P7 asks for
+// "each the button number or 0", and the table goes to C as it is.
 #[derive(Clone, Copy)]
 pub struct KeyTable {
     pub buttons: [u8; KEYS],

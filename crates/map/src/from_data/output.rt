@@ -35,7 +35,7 @@ fn pairs_len(filled: &Filled) -> usize
     len
 }
 
-// How long the line is.
+// How long the line is: `checked` has refused a longer name, and so the sum is a `usize`.
 fn line_len(pairs: &Pairs, name: &[u8]) -> usize
     requires { length name.now ≤ name_max }
     ensures { result ≡ line_len_of pairs.now name.now }
@@ -43,7 +43,8 @@ fn line_len(pairs: &Pairs, name: &[u8]) -> usize
     NAME_START + name.len() + 1 + pairs_len(&pairs.buttons) + pairs_len(&pairs.axes)
 }
 
-// Whether an output of so many bytes is too short for the line. One that holds every line needs no count.
+// Whether an output of so many bytes is too short for the line, of a name that `checked` has let pass. One that holds
+// every line needs no count.
 pub fn too_short(room: usize, pairs: &Pairs, name: &[u8]) -> bool
     requires { length name.now ≤ name_max }
     ensures { result ≡ short_of room (line_len_of pairs.now name.now) }
