@@ -2,7 +2,7 @@
 -- Assumes nothing.
 use Rattle.std.specs.Prelude.{Option, Some, None}
 use Prim.Native.Nat.{ℕ, zero, suc, ◌+◌, ◌*◌, ◌/◌, ◌^◌, ◌<◌, ◌≤◌}
-use mathlib.Core.Path.{◌≡◌, refl}
+use mathlib.Core.Path.{◌≡◌, refl, ap}
 use mathlib.Core.Bool.{Bool, true, false}
 use mathlib.Core.Logic.{⊎_elim}
 use mathlib.Core.List.{List, [], ◌∷◌, ◌++◌}
@@ -13,22 +13,19 @@ use lib.Dec.{T, leb}
 use lib.ListN.{length, take, get_or, length-append}
 use lib.Seq.{take-suc}
 use Rattle.text.specs.declared.uuid.Uuid.{Uuid}
-use Rattle.text.specs.Decimal.{digits, decimal}
+use Rattle.text.specs.Decimal.{decimal}
 use Rattle.text.proofs.ListLaws.{lt_or_le}
-use Rattle.text.proofs.BytesLaws.{first_le}
 use Rattle.text.proofs.DecimalLaws.{decimal_small, decimal_more_length, decimal_positive}
 use Rattle.text.proofs.UuidLaws.{hex_text-length}
 use Rattle.line.specs.declared.ev.AxisOrBtn.{AxisOrBtn}
 use Rattle.line.specs.declared.mapping.Entry.{Entry}
-use Rattle.line.specs.Reading.{list_max}
 use Rattle.line.specs.Tables.{ident_max, axes_sdl, name_in_line, element_row, ident_text}
 use Rattle.line.proofs.KeyLaws.{element_bound}
 use Rattle.line.proofs.TableLaws.{every_at}
 use Rattle.map.specs.declared.from_data.filled.Placed.{Placed}
 use Rattle.map.specs.declared.mapping_data.MappingData.{MappingData}
-use Rattle.map.specs.Lists.{place_of}
 use Rattle.map.specs.Build.{built_line}
-use Rattle.map.specs.Inner.{ListFits, pair_field, pair_fields, pair_length, pairs_length, length_of, lengths_of, line_length}
+use Rattle.map.specs.Inner.{pair_field, pair_fields, pair_length, pairs_length, length_of, lengths_of, line_length}
 use Rattle.map.proofs.OutputLaws.{line_parts}
 
 -- ---- an ident
@@ -43,7 +40,7 @@ name_short : (i : ℕ) → i < 35 → length (name_in_line (Some i)) ≤ ident_m
 unfolding axes_sdl short
 name_short i h = leb-true (length (name_in_line (Some i))) ident_max (is_true _ (every_at short [] axes_sdl tt i h))
 
-pub ident_short : (e : AxisOrBtn) → length (ident_text e) ≤ ident_max
+ident_short : (e : AxisOrBtn) → length (ident_text e) ≤ ident_max
 ident_short e = go (element_row e) refl
   where
     go : (r : Option ℕ) → element_row e ≡ r → length (name_in_line r) ≤ ident_max
@@ -69,30 +66,6 @@ digits_grow (suc k) a b h l =
 pub decimal_grows : (a b : ℕ) → a ≤ b → length (decimal a) ≤ length (decimal b)
 decimal_grows a b h = digits_grow a a b (omega arith) h
 
--- ---- a pair
-pub place_le : (codes : List ℕ) (e : Entry) → place_of e.code codes ≤ length codes
-place_le codes e = first_le e.code.0 codes
-
-limit_digits : length (decimal list_max) ≡ 4
-unfolding decimal digits
-limit_digits = refl
-
-pub index_short : (n : ℕ) → n ≤ list_max → length (decimal n) ≤ 4
-index_short n h = omega (arith, limit_digits, decimal_grows n list_max h)
-
-pub pair_short : (codes : List ℕ) (e : Entry) → ListFits codes → pair_length codes e ≤ 20
-pair_short codes e h =
-    omega (
-      arith,
-      ident_short e.element,
-      index_short (place_of e.code codes) (omega (arith, place_le codes e)),
-    )
-
-pub pairs_short : (codes : List ℕ) (es : List Entry) → ListFits codes → pairs_length codes es ≤ 20 * length es
-unfolding pairs_length
-pairs_short codes [] h = omega arith
-pairs_short codes (e ∷ es) h = omega (arith, pair_short codes e h, pairs_short codes es h)
-
 -- ---- slots with their places: a place has no more digits than the greatest number of 64 bits
 abbrev tens : ℕ → ℕ
 tens zero = 10
@@ -106,8 +79,14 @@ digits_few (suc k) n h =
     (λ m. omega (arith, decimal_more_length n m, digits_few k (n / 10) (omega arith)))
     (lt_or_le n 10)
 
-pub place_short : (n : ℕ) → n < 2 ^ 64 → length (decimal n) ≤ 20
+place_short : (n : ℕ) → n < 2 ^ 64 → length (decimal n) ≤ 20
 place_short n h = digits_few 19 n (omega arith)
+
+-- a pair: its ident, a colon, a letter, its place and a comma
+pub pair_fits : (s : Placed) (ident : List ℕ) (n : ℕ) → ident ≡ ident_text s.entry.element → n ≡ length (decimal s.place)
+    → s.place < 2 ^ 64 → length ident + 2 + n + 1 ≤ 36
+pair_fits s ident n e f h =
+    omega (arith, ap (λ (x : List ℕ). length x) e, ident_short s.entry.element, f, place_short s.place h)
 
 lengths_append : (xs ys : List Placed) → lengths_of (xs ++ ys) ≡ lengths_of xs + lengths_of ys
 unfolding lengths_of

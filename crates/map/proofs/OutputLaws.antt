@@ -16,9 +16,10 @@ use Rattle.text.proofs.BytesLaws.{answer_fits, buffer_fits, written-length, writ
 use Rattle.line.specs.declared.mapping.Entry.{Entry}
 use Rattle.map.specs.declared.from_data.filled.Pairs.{Pairs}
 use Rattle.map.specs.declared.from_data.filled.Placed.{Placed}
+use Rattle.map.specs.declared.from_data.output.Output.{Output}
 use Rattle.map.specs.declared.mapping_data.MappingData.{MappingData}
 use Rattle.map.specs.Build.{ended, pair_text, pair_texts, filled_buttons, filled_axes, built_line}
-use Rattle.map.specs.Inner.{placed_in, Gathered, pair_of, pairs_of, pair_fields, head_text, line_text, Room}
+use Rattle.map.specs.Inner.{placed_in, Gathered, pair_of, pairs_of, pair_fields, head_text, line_text, Room, Holds, Puts}
 use Rattle.map.specs.Inner.{lengths_of, pairs_length, line_length, line_len_of}
 
 -- ---- puts
@@ -48,16 +49,66 @@ module _ (l : List ℕ) (at : ℕ) (xs : List ℕ) (n : ℕ) (m : List ℕ) (p :
 
 -- ---- three texts, one after the other
 module _ (l : List ℕ) (at : ℕ) (xs ys zs : List ℕ) (h : Room l at ((xs ++ ys) ++ zs)) where
-  two_fit : Room l at (xs ++ ys)
-  two_fit = omega (arith, length-append (xs ++ ys) zs)
+  both_fit : Room l at (xs ++ ys)
+  both_fit = omega (arith, length-append (xs ++ ys) zs)
 
   module _ (n : ℕ) (m : List ℕ) (p : Put l at xs n m) where
+    pub three_second : Room m n ys
+    three_second = put_room l at xs n m p ys both_fit
+
     module _ (r : ℕ) (k : List ℕ) (q : Put m n ys r k) where
-      two_put : Put l at (xs ++ ys) r k
-      two_put = put_then l at xs n m p ys two_fit r k q
+      both_put : Put l at (xs ++ ys) r k
+      both_put = put_then l at xs n m p ys both_fit r k q
+
+      pub three_last : Room k r zs
+      three_last = put_room l at (xs ++ ys) r k both_put zs h
 
       pub three_put : (s : ℕ) (o : List ℕ) → Put k r zs s o → Put l at ((xs ++ ys) ++ zs) s o
-      three_put s o t = put_then l at (xs ++ ys) r k two_put zs h s o t
+      three_put s o t = put_then l at (xs ++ ys) r k both_put zs h s o t
+
+-- ---- puts into an output
+-- what fits as a whole fits in parts
+pub first_fits : (o : Output) (xs ys : List ℕ) → Holds o (xs ++ ys) → Holds o xs
+first_fits o xs ys h = omega (arith, length-append xs ys)
+
+module _ (o : Output) (xs ys : List ℕ) (h : Holds o (xs ++ ys)) (p : Output) (x : Puts o xs p) where
+  pub rest_fits : Holds p ys
+  rest_fits = put_room o.out.now o.at xs p.at p.out.now x.1 ys h
+
+  pub puts_then : (q : Output) → Puts p ys q → Puts o (xs ++ ys) q
+  puts_then q y = (y.0 ∙ x.0, put_then o.out.now o.at xs p.at p.out.now x.1 ys h q.at q.out.now y.1)
+
+-- four texts, one after the other
+module _ (o : Output) (w a b c d : List ℕ) (e : w ≡ a ++ (b ++ (c ++ d))) (h : Holds o w) where
+  whole_fits : Holds o (a ++ (b ++ (c ++ d)))
+  whole_fits = omega (arith, ap (λ (v : List ℕ). length v) e)
+
+  pub four_first : Holds o a
+  four_first = first_fits o a (b ++ (c ++ d)) whole_fits
+
+  module _ (p : Output) (x : Puts o a p) where
+    three_fit : Holds p (b ++ (c ++ d))
+    three_fit = rest_fits o a (b ++ (c ++ d)) whole_fits p x
+
+    pub four_second : Holds p b
+    four_second = first_fits p b (c ++ d) three_fit
+
+    module _ (q : Output) (y : Puts p b q) where
+      two_fit : Holds q (c ++ d)
+      two_fit = rest_fits p b (c ++ d) three_fit q y
+
+      pub four_third : Holds q c
+      four_third = first_fits q c d two_fit
+
+      module _ (r : Output) (z : Puts q c r) where
+        pub four_last : Holds r d
+        four_last = rest_fits q c d two_fit r z
+
+        pub four_put : (s : Output) → Puts r d s → Puts o w s
+        four_put s t =
+            rw e
+            (puts_then o a (b ++ (c ++ d)) whole_fits p x s
+            (puts_then p b (c ++ d) three_fit q y s (puts_then q c d two_fit r z s t)))
 
 -- ---- the pairs
 module _ (letter : ℕ) where
@@ -75,8 +126,8 @@ module _ (letter : ℕ) where
       omega (arith, ap length w, length-append (pairs_of letter (take j ss)) (pairs_of letter (drop j ss)))
 
   -- the pairs of ss, of which the first i are put
-  module _ (ss : List Placed) (l : List ℕ) (at : ℕ) (room : at + length (pairs_of letter ss) ≤ length l) (i n : ℕ)
-      (m : List ℕ) (p : Put l at (pairs_of letter (take i ss)) n m) where
+  module _ (ss : List Placed) (o : Output) (room : Holds o (pairs_of letter ss)) (i : ℕ) (p : Output)
+      (x : Puts o (pairs_of letter (take i ss)) p) where
     module _ (d : Placed) (h : i < length ss) where
       next_pair : pairs_of letter (take (i + 1) ss) ≡ pairs_of letter (take i ss) ++ pair_of letter (get_or ss i d)
       unfolding pairs_of
@@ -85,20 +136,21 @@ module _ (letter : ℕ) where
           (pairs_append (take i ss) (get_or ss i d ∷ [])
           ∙ ap (λ (t : List ℕ). pairs_of letter (take i ss) ++ t) (append-nil (pair_of letter (get_or ss i d))))
 
-      next_fits : at + length (pairs_of letter (take i ss) ++ pair_of letter (get_or ss i d)) ≤ length l
+      next_fits : Holds o (pairs_of letter (take i ss) ++ pair_of letter (get_or ss i d))
       next_fits = omega (arith, ap length next_pair, pairs_part ss (i + 1))
 
-      pub pairs_room : n + length (pair_of letter (get_or ss i d)) ≤ length m
-      pairs_room = put_room l at (pairs_of letter (take i ss)) n m p (pair_of letter (get_or ss i d)) next_fits
+      pub pairs_room : Holds p (pair_of letter (get_or ss i d))
+      pairs_room = rest_fits o (pairs_of letter (take i ss)) (pair_of letter (get_or ss i d)) next_fits p x
 
-      pub pairs_turn : (r : ℕ) (k : List ℕ) → Put m n (pair_of letter (get_or ss i d)) r k
-          → Put l at (pairs_of letter (take (i + 1) ss)) r k
-      pairs_turn r k q =
-          rw next_pair (put_then l at (pairs_of letter (take i ss)) n m p (pair_of letter (get_or ss i d)) next_fits r k q)
+      pub pairs_turn : (q : Output) → Puts p (pair_of letter (get_or ss i d)) q
+          → Puts o (pairs_of letter (take (i + 1) ss)) q
+      pairs_turn q y =
+          rw next_pair
+          (puts_then o (pairs_of letter (take i ss)) (pair_of letter (get_or ss i d)) next_fits p x q y)
 
-  pub pairs_none : (ss : List Placed) (l : List ℕ) (at : ℕ) → Put l at (pairs_of letter (take 0 ss)) at l
+  pub pairs_none : (ss : List Placed) (o : Output) → Puts o (pairs_of letter (take 0 ss)) o
   unfolding pairs_of
-  pairs_none ss l at = (omega arith, written_none l at)
+  pairs_none ss o = (refl, (omega arith, written_none o.out.now o.at))
 
   -- entries with their places, and entries
   pub pairs_placed : (codes : List ℕ) (es : List Entry) → pairs_of letter (placed_in codes es) ≡ pair_fields letter codes es

@@ -4,6 +4,7 @@ use Rattle.std.specs.Prelude.{ℕ, zero, suc, ◌+◌, ◌-◌, ◌<◌, ◌≤�
 use Rattle.arrayvec.specs.ArrayVec.{ArrayVec}
 use Rattle.text.specs.Bytes.{byte, pick}
 use Rattle.text.specs.Decimal.{decimal}
+use Rattle.text.specs.Inner.{Put}
 use Rattle.text.specs.Uuid.{uuid_text}
 use Rattle.text.specs.declared.uuid.Uuid.{Uuid}
 use Rattle.line.specs.declared.ev.Code.{Code}
@@ -15,6 +16,7 @@ use Rattle.line.specs.declared.ev.AxisOrBtn.{AxisOrBtn}
 use Rattle.line.specs.Tables.{ident_text, as_button, as_axis}
 use Rattle.map.specs.declared.error.MappingError.{MappingError}
 use Rattle.map.specs.declared.from_data.filled.Pairs.{Pairs}
+use Rattle.map.specs.declared.from_data.output.Output.{Output}
 use Rattle.map.specs.declared.from_data.filled.Placed.{Placed}
 use Rattle.map.specs.declared.from_data.gather.Kind.{Kind}
 use Rattle.map.specs.declared.from_data.gather.Kind.TheVariants as Kd
@@ -101,10 +103,14 @@ line_text p name uuid =
 abbrev pub Room : List ℕ → ℕ → List ℕ → Type 0
 Room out at v = at + length v ≤ length out
 
--- ---- lengths
-abbrev pub ListFits : List ℕ → Type 0
-ListFits codes = length codes ≤ list_max
+-- an output has room for a text after what is put, and the text was put there
+abbrev pub Holds : Output → List ℕ → Type 0
+Holds o v = Room o.out.now o.at v
 
+abbrev pub Puts : Output → List ℕ → Output → Type 0
+Puts o v p = (p.out.ghost_name ≡ o.out.ghost_name) × Put o.out.now o.at v p.at p.out.now
+
+-- ---- lengths
 abbrev pub length_at : ℕ → Entry → ℕ
 length_at n e = length (ident_text e.element) + 2 + length (decimal n) + 1
 

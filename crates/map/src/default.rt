@@ -30,7 +30,8 @@ const AXIS_ROWS: [(Code, AxisOrBtn); 12] = [
     (Code::AXIS_RT2, AxisOrBtn::Btn(Button::RightTrigger2)),
 ];
 
-// A refused one has the empty map.
+// A refused one has the empty map, by document 01: "A refused reading, build, save or `default` returns the empty map".
+// A `Result` that holds the map would have none then.
 #[derive(Clone, Copy)]
 pub struct DefaultMap {
     pub answer: Result<(), MappingError>,

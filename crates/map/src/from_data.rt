@@ -28,7 +28,8 @@ const PAIRS_MAX: usize = 143 + 25 * 7;
 // The length of the longest line: an output of so many bytes is never too short.
 pub const BUILT_MAX: usize = NAME_START + NAME_MAX + 1 + PAIRS_MAX;
 
-// A refused build has the empty map and length 0.
+// A refused build has the empty map and length 0, by document 01: "A refused reading, build, save or `default` returns
+// the empty map, flags and lengths 0". A `Result` that holds the map would have none then.
 #[derive(Clone, Copy)]
 pub struct Built {
     pub answer: Result<(), MappingError>,

@@ -12,7 +12,8 @@ pub const KEY_FIRST: u32 = 0x10100;
 
 pub const KEYS: usize = 512;
 
-// The number at place i is that of the key code 10100 + i. repr(C): C programs hold the same struct.
+// The number at place i is that of the key code 10100 + i. 0 is that of Unknown, which no code has: request P7 asks for
+// "each the button number or 0". repr(C): C programs hold the same struct.
 #[repr(C)]
 #[derive(Clone, Copy)]
 pub struct KeyTable {

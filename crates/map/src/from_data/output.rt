@@ -4,8 +4,8 @@ ghost use Rattle.text.specs.Decimal.{decimal};
 ghost use Rattle.text.specs.Uuid.{uuid_text};
 ghost use Rattle.text.specs.Inner.{Put};
 ghost use Rattle.map.specs.Build.{name_max};
-ghost use Rattle.map.specs.Inner.{letter_of, with_comma, value_text, pair_of, pairs_of, head_text, line_text};
-ghost use Rattle.map.specs.Inner.{Room, length_of, lengths_of, line_len_of, short_of};
+ghost use Rattle.map.specs.Inner.{letter_of, pair_of, pairs_of, head_text, line_text};
+ghost use Rattle.map.specs.Inner.{Room, Holds, Puts, length_of, lengths_of, line_len_of, short_of};
 
 use crate::from_data::filled::{Filled, Pairs, Placed};
 use crate::from_data::gather::Kind;
@@ -35,7 +35,7 @@ fn pairs_len(filled: &Filled) -> usize
     len
 }
 
-// How long the line is.
+// How long the line is: `checked` has refused a longer name, and so the sum is a `usize`.
 fn line_len(pairs: &Pairs, name: &[u8]) -> usize
     requires { length name.now ≤ name_max }
     ensures { result ≡ line_len_of pairs.now name.now }
@@ -43,7 +43,8 @@ fn line_len(pairs: &Pairs, name: &[u8]) -> usize
     NAME_START + name.len() + 1 + pairs_len(&pairs.buttons) + pairs_len(&pairs.axes)
 }
 
-// Whether an output of so many bytes is too short for the line. One that holds every line needs no count.
+// Whether an output of so many bytes is too short for the line, of a name that `checked` has let pass. One that holds
+// every line needs no count.
 pub fn too_short(room: usize, pairs: &Pairs, name: &[u8]) -> bool
     requires { length name.now ≤ name_max }
     ensures { result ≡ short_of room (line_len_of pairs.now name.now) }
@@ -51,78 +52,68 @@ pub fn too_short(room: usize, pairs: &Pairs, name: &[u8]) -> bool
     room < BUILT_MAX && room < line_len(pairs, name)
 }
 
-// The writers of the text layer, where there is room.
-fn put_bytes(out: &mut [u8], at: usize, v: &[u8]) -> usize
-    requires { at + length v.now ≤ length out.old }
-    ensures { Put out.old at v.now result out.new }
-{
-    write_bytes(out, at, v).unwrap_or(at)
+// A lent output, and the place after what is put.
+#[derive(Drop)]
+struct Output<'a> {
+    out: &'a mut [u8],
+    at: usize,
 }
 
-fn put_index(out: &mut [u8], at: usize, n: usize) -> usize
-    requires { at + length (decimal n) ≤ length out.old }
-    ensures { Put out.old at (decimal n) result out.new }
-{
-    write_index(out, at, n).unwrap_or(at)
-}
-
-fn put_uuid(out: &mut [u8], at: usize, uuid: Uuid) -> usize
-    requires { at + length (uuid_text uuid) ≤ length out.old }
-    ensures { Put out.old at (uuid_text uuid) result out.new }
-{
-    uuid.write_simple(out, at).unwrap_or(at)
-}
-
-// `:b` or `:a`, and the index.
-fn put_value(out: &mut [u8], at: usize, kind: Kind, n: usize) -> usize
-    requires { at + length (value_text (letter_of kind) n) ≤ length out.old }
-    ensures { Put out.old at (value_text (letter_of kind) n) result out.new }
-{
-    let mark = [b':', kind.letter()];
-    let index = put_bytes(out, at, &mark);
-    put_index(out, index, n)
-}
-
-// The pair of a slot, with its comma.
-fn put_pair(out: &mut [u8], at: usize, kind: Kind, slot: Placed) -> usize
-    requires { at + length (pair_of (letter_of kind) slot) ≤ length out.old }
-    ensures { Put out.old at (pair_of (letter_of kind) slot) result out.new }
-{
-    let entry = slot.entry;
-    let colon = put_bytes(out, at, ident_of(entry.element));
-    let comma = put_value(out, colon, kind, slot.place);
-    put_bytes(out, comma, b",")
-}
-
-// The pairs of the filled slots.
-fn put_pairs(out: &mut [u8], at: usize, kind: Kind, slots: &[Placed]) -> usize
-    requires { Room out.old at (pairs_of (letter_of kind) slots.now) }
-    ensures { Put out.old at (pairs_of (letter_of kind) slots.now) result out.new }
-{
-    let mut next = at;
-    for slot in slots {
-        next = put_pair(out, next, kind, *slot);
+impl Output<'_> {
+    // The writers of the text layer, where there is room.
+    fn put(&mut self, v: &[u8])
+        requires { Holds self.old v.now }
+        ensures { Puts self.old v.now self.new }
+    {
+        self.at = write_bytes(self.out, self.at, v).unwrap_or(self.at);
     }
-    next
-}
 
-// A text and a comma.
-fn put_field(out: &mut [u8], at: usize, v: &[u8]) -> usize
-    requires { at + length (with_comma v.now) ≤ length out.old }
-    ensures { Put out.old at (with_comma v.now) result out.new }
-{
-    let comma = put_bytes(out, at, v);
-    put_bytes(out, comma, b",")
-}
+    fn put_index(&mut self, n: usize)
+        requires { Holds self.old (decimal n) }
+        ensures { Puts self.old (decimal n) self.new }
+    {
+        self.at = write_index(self.out, self.at, n).unwrap_or(self.at);
+    }
 
-// The UUID and the name, each with its comma.
-fn put_head(out: &mut [u8], uuid: Uuid, name: &[u8]) -> usize
-    requires { 0 + length (head_text uuid name.now) ≤ length out.old }
-    ensures { Put out.old 0 (head_text uuid name.now) result out.new }
-{
-    let comma = put_uuid(out, 0, uuid);
-    let start = put_bytes(out, comma, b",");
-    put_field(out, start, name)
+    fn put_uuid(&mut self, uuid: Uuid)
+        requires { Holds self.old (uuid_text uuid) }
+        ensures { Puts self.old (uuid_text uuid) self.new }
+    {
+        self.at = uuid.write_simple(self.out, self.at).unwrap_or(self.at);
+    }
+
+    // The pair of a slot, with its comma.
+    fn put_pair(&mut self, kind: Kind, slot: Placed)
+        requires { Holds self.old (pair_of (letter_of kind) slot) }
+        ensures { Puts self.old (pair_of (letter_of kind) slot) self.new }
+    {
+        let entry = slot.entry;
+        self.put(ident_of(entry.element));
+        self.put(&[b':', kind.letter()]);
+        self.put_index(slot.place);
+        self.put(b",");
+    }
+
+    // The pairs of the filled slots.
+    fn put_pairs(&mut self, kind: Kind, slots: &[Placed])
+        requires { Holds self.old (pairs_of (letter_of kind) slots.now) }
+        ensures { Puts self.old (pairs_of (letter_of kind) slots.now) self.new }
+    {
+        for slot in slots {
+            self.put_pair(kind, *slot);
+        }
+    }
+
+    // The UUID and the name, each with its comma.
+    fn put_head(&mut self, uuid: Uuid, name: &[u8])
+        requires { Holds self.old (head_text uuid name.now) }
+        ensures { Puts self.old (head_text uuid name.now) self.new }
+    {
+        self.put_uuid(uuid);
+        self.put(b",");
+        self.put(name);
+        self.put(b",");
+    }
 }
 
 // The line, at the output's start.
@@ -130,9 +121,9 @@ pub fn put_line(out: &mut [u8], pairs: &Pairs, name: &[u8], uuid: Uuid) -> usize
     requires { Room out.old 0 (line_text pairs.now name.now uuid) }
     ensures { Put out.old 0 (line_text pairs.now name.now uuid) result out.new }
 {
-    let first = put_head(out, uuid, name);
-    let buttons = pairs.buttons.as_slice();
-    let last = put_pairs(out, first, Kind::Button, buttons);
-    let axes = pairs.axes.as_slice();
-    put_pairs(out, last, Kind::Axis, axes)
+    let mut line = Output { out, at: 0 };
+    line.put_head(uuid, name);
+    line.put_pairs(Kind::Button, pairs.buttons.as_slice());
+    line.put_pairs(Kind::Axis, pairs.axes.as_slice());
+    line.at
 }

@@ -1,38 +1,16 @@
--- An ident and an index are short, so the sums fit. Assumes nothing.
-use mathlib.Core.Path.{ap}
+-- A pair is short, so the sums fit. Assumes nothing.
 use native.Mathlib.Omega.{arith}
-use Prim.Native.Nat.{ℕ}
-use mathlib.Core.List.{List}
-use lib.ListN.{length}
-use Rattle.map.proofs.LengthLaws.{ident_short, place_short}
+use Rattle.map.proofs.LengthLaws.{pair_fits}
 use Rattle.map.proofs.from_data.output.pair_len.Goals as goal
 
 pub overflow_add-result-2 : goal.overflow_add-result-2
 overflow_add-result-2 c =
-    omega (
-      arith,
-      ap (λ (x : List ℕ). length x) c.ident_of.ensures.0,
-      ident_short c.args.slot.entry.element,
-      c.index_len.ensures,
-      place_short c.args.slot.place (omega arith),
-    )
+    omega (arith, pair_fits c.args.slot _ _ c.ident_of.ensures.0 c.index_len.ensures (omega arith))
 
 pub overflow_add-result-3 : goal.overflow_add-result-3
 overflow_add-result-3 c =
-    omega (
-      arith,
-      ap (λ (x : List ℕ). length x) c.ident_of.ensures.0,
-      ident_short c.args.slot.entry.element,
-      c.index_len.ensures,
-      place_short c.args.slot.place (omega arith),
-    )
+    omega (arith, pair_fits c.args.slot _ _ c.ident_of.ensures.0 c.index_len.ensures (omega arith))
 
 pub returns-clause-short : goal.returns-clause-short
 returns-clause-short c =
-    omega (
-      arith,
-      ap (λ (x : List ℕ). length x) c.ident_of.ensures.0,
-      ident_short c.args.slot.entry.element,
-      c.index_len.ensures,
-      place_short c.args.slot.place (omega arith),
-    )
+    omega (arith, pair_fits c.args.slot _ _ c.ident_of.ensures.0 c.index_len.ensures (omega arith))

@@ -1,0 +1,11 @@
+-- There is room, so the writer writes. Assumes nothing.
+use mathlib.Core.Path.{refl}
+use Rattle.text.specs.Decimal.{decimal}
+use Rattle.map.proofs.OutputLaws.{wrote_put}
+use Rattle.map.proofs.from_data.output.Output.put_index.Goals as goal
+
+pub returns : goal.returns
+returns c =
+    let a = c.args in
+    let o = a.self.now in
+    (refl, wrote_put o.out.now o.at (decimal a.n) _ _ _ _ c.requires c.write_index.ensures c.unwrap_or-self.ensures)

@@ -1,9 +1,0 @@
--- There is room, so the writer writes. Assumes nothing.
-use Rattle.text.specs.Uuid.{uuid_text}
-use Rattle.map.proofs.OutputLaws.{wrote_put}
-use Rattle.map.proofs.from_data.output.put_uuid.Goals as goal
-
-pub returns : goal.returns
-returns c =
-    let a = c.args in
-    wrote_put a.out.now a.at (uuid_text a.uuid) _ _ _ _ c.requires c.write_simple.ensures c.unwrap_or.ensures
