@@ -1,6 +1,6 @@
 // Keys by number, which is that of their row: chains of the numbers, one for each bucket, show whether a key stands
 // twice. Nothing here knows a record's bytes.
-ghost use Rattle.std.specs.Prelude.{◌≡◌, true, false, ℕ, suc, ◌+◌, ◌-◌, ◌≤◌, ◌<◌};
+ghost use Rattle.std.specs.Prelude.{◌≡◌, ◌+◌, ◌≤◌, ◌<◌};
 ghost use Rattle.store.specs.Keys.{rows_max, bucket, NotIn, Linked, Kin, Chained, Seeks, Sought};
 ghost use Rattle.store.specs.Keys.{seek_says, told_of, Tells};
 ghost use Rattle.store.specs.Rows.{key_in, Long};

@@ -1,5 +1,5 @@
 // What the parties claim of the text: of each the larger of its use and its share (document 02, P10).
-ghost use Rattle.std.specs.Prelude.{◌≡◌, ℕ, ◌+◌, ◌-◌, ◌*◌, ◌≤◌, ◌<◌, length, get_or};
+ghost use Rattle.std.specs.Prelude.{◌≡◌, ◌+◌, ◌-◌, ◌*◌, ◌≤◌};
 ghost use Rattle.store.specs.Shares.{owners, no_shares, larger};
 ghost use Rattle.store.specs.Claims.{DuesFrom, Addable, Adds, Sums, Covers, row_lengths};
 
@@ -31,14 +31,14 @@ pub fn claimed(dues: Dues, used: usize) -> usize
     dues.others + larger_of(used - dues.theirs, dues.share)
 }
 
-// Adds up the bytes of each owner's lines, of the first `count` rows.
+// Adds up the bytes of each owner's lines, of the first `count` rows. The rows and their count are two parameters here
+// and in sharing.rt: a struct would hold a borrow, or a copy of the rows, for one fact that `addable` names.
 pub fn add_uses(rows: &[Row; ROWS], count: usize, uses: &mut [u16; OWNERS])
     requires uses_value { uses.old ≡ no_shares }
     requires addable { Addable rows.now count }
     ensures { Adds rows.now count uses.new }
 {
-    for k in 0..count {
-        let row = rows[k];
+    for row in &rows[..count] {
         let o = row.key.owner as usize;
         uses[o] += row.len as u16;
     }
@@ -50,6 +50,8 @@ pub fn claims_of(uses: &[u16; OWNERS], shares: &[u16; OWNERS]) -> usize
     ensures covers { Covers uses.now shares.now result }
 {
     let mut sum = 0;
+    // By number: over a `zip` of the two the loop's turn (`loop-used-preserved`) and what it sums to
+    // (`returns-clause-sums`) stayed open.
     for o in 0..OWNERS {
         sum += larger_of(uses[o] as usize, shares[o] as usize);
     }

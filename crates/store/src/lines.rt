@@ -1,9 +1,8 @@
 // The lines of an inserted text: where one ends, and whether it is wanted.
-ghost use Rattle.std.specs.Prelude.{◌≡◌, ℕ, ◌+◌, ◌≤◌, ◌<◌, length, take};
+ghost use Rattle.std.specs.Prelude.{◌≡◌, ◌≤◌, length, take};
 ghost use Rattle.text.specs.Bytes.{first_of};
 ghost use Rattle.store.specs.Lines.{for_platform, wanted as isWanted};
 ghost use Rattle.text.specs.Search.{lf};
-ghost use Rattle.line.specs.Fields.{first_field};
 ghost use Rattle.store.specs.Inner.{first_line};
 
 use crate::search::{find_far, find_text};

@@ -57,10 +57,8 @@ fn look_by(index: &[u8], text: &[u8], key: Key) -> Result<Option<Part>, LookErro
 pub fn look(index: &[u8], text: &[u8], party: Party, uuid: Uuid) -> Result<Option<Part>, LookError>
     ensures { Sees text.now (look_up party uuid index.now text.now) result }
 {
-    match owner_of(party) {
-        Some(owner) => look_by(index, text, Key { owner, uuid }),
-        None => Err(LookError::NoOwner),
-    }
+    let owner = owner_of(party).ok_or(LookError::NoOwner)?;
+    look_by(index, text, Key { owner, uuid })
 }
 
 // The line that lies there, as a part of the text; an empty part where none does.

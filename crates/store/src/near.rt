@@ -56,10 +56,8 @@ fn look_near(
 ) -> Result<Option<(Nearness, Part)>, LookError>
     ensures { NearSees text.now (near_up party uuid index.now text.now) result }
 {
-    match owner_of(party) {
-        Some(owner) => near_by(index, text, Key { owner, uuid }),
-        None => Err(LookError::NoOwner),
-    }
+    let owner = owner_of(party).ok_or(LookError::NoOwner)?;
+    near_by(index, text, Key { owner, uuid })
 }
 
 // Whether a party holds a line under that UUID, or only under the same without its checksum.

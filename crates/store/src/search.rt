@@ -1,5 +1,5 @@
 // A byte and a text sought in a long text.
-ghost use Rattle.std.specs.Prelude.{◌≡◌, ◌+◌, ◌≤◌, ◌<◌, length, take, drop};
+ghost use Rattle.std.specs.Prelude.{◌≡◌, ◌+◌, ◌≤◌, ◌<◌, length, drop};
 ghost use Rattle.text.specs.Bytes.{first_of};
 ghost use Rattle.text.specs.Inner.{every};
 ghost use Rattle.text.specs.Search.{first_text};

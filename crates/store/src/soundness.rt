@@ -1,5 +1,5 @@
 // Whether two buffers are a sound store: one walk over the records checks them and writes the lines down.
-ghost use Rattle.std.specs.Prelude.{◌≡◌, ◌&&◌, false, List, ◌∷◌, ◌++◌, ℕ, suc, ◌+◌, ◌-◌, ◌≤◌, ◌<◌, length, take, drop};
+ghost use Rattle.std.specs.Prelude.{◌≡◌, ◌&&◌, ◌≤◌, length, drop};
 ghost use Rattle.store.specs.Decode.{head_fits, zeroes, content};
 ghost use Rattle.store.specs.Held.{index_max, text_max};
 ghost use Rattle.store.specs.Inner.{known};

@@ -1,10 +1,6 @@
 -- The loop's invariant, `Adding`: the rows before are added up.
-use Prim.Native.Nat.{◌-◌}
 use Rattle.store.proofs.UseLaws.{Adding}
 use Rattle.store.proofs.claims.add_uses.Given as goal
 
-abbrev pub invariant-loop-k : goal.invariant-loop-k
-invariant-loop-k l = Adding l.rows l.count l.uses l.k
-
-abbrev pub decreases-loop-k : goal.decreases-loop-k
-decreases-loop-k l = l.count - l.k
+abbrev pub invariant-loop-row : goal.invariant-loop-row
+invariant-loop-row l = Adding l.rows l.count l.uses l.row-index
