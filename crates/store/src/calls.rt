@@ -23,8 +23,8 @@ use map::mapping_data::MappingData;
 use text::utf8::{is_utf8, valid_up_to};
 use text::uuid::Uuid;
 
-// Why a call is refused; `NotUtf8` with the length of the text's valid run, `NoOwner` where an organiser names itself 0,
-// `NoText` and `ShareTooLarge` where shares and uses would exceed the text.
+// Why a call is refused; `NotUtf8` with the length of the text's valid run, `NoOwner` where an organiser names itself
+// 0, `NoText` and `ShareTooLarge` where shares and uses would exceed the text.
 #[derive(Clone, Copy, PartialEq, Eq)]
 pub enum StoreError {
     NotUtf8(usize),

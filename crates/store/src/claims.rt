@@ -58,8 +58,8 @@ pub fn claims_of(uses: &[u16; OWNERS], shares: &[u16; OWNERS]) -> usize
     sum
 }
 
-// What the others than an owner claim and use, and its share, by the lines that are written down. Without any share all
-// that is claimed is in use.
+// What the others than an owner claim and use, and its share, by the lines that are written down. Without any share
+// all that is claimed is in use.
 pub fn dues_of(rows: &[Row; ROWS], fill: Fill, shares: &[u16; OWNERS], owner: u8) -> Dues
     requires { Addable rows.now fill.count × (row_lengths rows.now fill.count ≤ fill.used) }
     ensures { DuesFrom rows.now fill shares.now owner result }

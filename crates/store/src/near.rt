@@ -73,8 +73,8 @@ pub fn found_near(
     Ok(found.map(|(nearness, _)| nearness))
 }
 
-// The line that such a look-up finds, as a part of the text; an empty part where it finds none, the store is not sound,
-// or an organiser names itself 0.
+// The line that such a look-up finds, as a part of the text; an empty part where it finds none, the store is not
+// sound, or an organiser names itself 0.
 pub fn get_near<'a>(index: &[u8], text: &'a [u8], party: Party, uuid: Uuid) -> &'a [u8]
     ensures { result.now ≡ near_line (near_up party uuid index.now text.now) }
 {

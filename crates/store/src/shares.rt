@@ -1,5 +1,5 @@
-// The records of the shares, which stand first in an index (document 02, P10): read, found and changed. A change of their
-// form changes this file alone.
+// The records of the shares, which stand first in an index (document 02, P10): read, found and changed. A change of
+// their form changes this file alone.
 ghost use Rattle.std.specs.Prelude.{◌≡◌, true, false, ◌++◌, ◌+◌, ◌-◌, ◌≤◌, ◌<◌, length, take, drop, replicate};
 ghost use Rattle.store.specs.Layout.{share_bytes};
 ghost use Rattle.store.specs.Shares.{owners, no_shares, share_size, share_sizes};

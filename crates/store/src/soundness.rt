@@ -60,7 +60,8 @@ fn zero_behind(index: &[u8], text: &[u8], at: usize, off: usize) -> bool
     all_zero(&index[at..]) && all_zero(&text[off..])
 }
 
-// Walks over the records, checks them, and writes each line down in its chain; none where they are not those of a list.
+// Walks over the records, checks them, and writes each line down in its chain; none where they are not those of a
+// list.
 pub fn survey(index: &[u8], text: &[u8], table: &mut Table) -> Option<Surveyed>
     requires index_len_bound { (length index.now ≤ index_max) × (length text.now ≤ text_max) }
     requires chained { Chained (key_in table.old.rows) table.old.heads table.old.next 0 }

@@ -1,8 +1,7 @@
 use mathlib.Core.Path.{◌≡◌, subst}
-use Prim.Native.Nat.{ℕ, ◌<◌}
+use Prim.Native.Nat.{ℕ}
 use native.Mathlib.Omega.{arith}
-use lib.ListN.{length, take}
-use lib.Seq.{length-take-le}
+use lib.ListN.{length-take}
 use Rattle.store.specs.Table.{Keeps}
 use Rattle.store.proofs.ClosingLaws.{keep-first, keep_end, taken_fits, taken-turn}
 use Rattle.store.proofs.settle.kept_rows.Goals as goal
@@ -12,35 +11,28 @@ loop-k-init c = keep-first _ c.args.old c.requires
 
 pub overflow_add-at : goal.overflow_add-at
 overflow_add-at c =
-    let g = c.requires.tabled in
-    let n : length (take c.args.old c.args.rows.now) ≡ c.args.old =
-    length-take-le c.args.old c.args.rows.now (omega (arith, g.olds, g.most, g.long)) in
-    let l : c.loop-k.k < c.args.old = omega arith in
-    omega (arith, (taken_fits _ _ _ _ _ c.loop-k.invariant l c.if-row-eq0.false _ c.record_size-at.ensures).0)
+    omega (
+      arith,
+      (taken_fits _ _ _ _ _ c.loop-k.invariant (omega arith) c.if-row-eq0.false _ c.record_size-at.ensures).0,
+    )
 
 pub overflow_add-off : goal.overflow_add-off
 overflow_add-off c =
-    let g = c.requires.tabled in
-    let n : length (take c.args.old c.args.rows.now) ≡ c.args.old =
-    length-take-le c.args.old c.args.rows.now (omega (arith, g.olds, g.most, g.long)) in
-    let l : c.loop-k.k < c.args.old = omega arith in
-    omega (arith, (taken_fits _ _ _ _ _ c.loop-k.invariant l c.if-row-eq0.false _ c.record_size-at.ensures).1)
+    omega (
+      arith,
+      (taken_fits _ _ _ _ _ c.loop-k.invariant (omega arith) c.if-row-eq0.false _ c.record_size-at.ensures).1,
+    )
 
 pub loop-k-preserved : goal.loop-k-preserved
 loop-k-preserved c =
-    let g = c.requires.tabled in
-    let n : length (take c.args.old c.args.rows.now) ≡ c.args.old =
-    length-take-le c.args.old c.args.rows.now (omega (arith, g.olds, g.most, g.long)) in
-    let l : c.loop-k.k < c.args.old = omega arith in
-    taken-turn _ _ _ _ _ c.loop-k.invariant l c.if-row-eq0.false _ c.record_size-at.ensures
+    taken-turn _ _ _ _ _ c.loop-k.invariant (omega arith) c.if-row-eq0.false _ c.record_size-at.ensures
 
 pub returns : goal.returns
 returns c =
     let args = c.args in
     let loop = c.loop-k in
     let g = c.requires.tabled in
-    let n : length (take args.old args.rows.now) ≡ args.old =
-    length-take-le args.old args.rows.now (omega (arith, g.olds, g.most, g.long)) in
-    let e : loop.k ≡ args.old = omega arith in
+    let e : loop.k ≡ args.old =
+    omega (arith, length-take args.old args.rows.now, loop.invariant.rows, g.olds, g.most, g.long) in
     subst (λ (n : ℕ). Keeps args.rows.now args.old (record { rows = n; at = loop.at; off = loop.off })) e
     (keep_end _ _ _ _ _ loop.invariant)
