@@ -8,8 +8,8 @@ use Prim.Native.Nat.{ℕ, ◌+◌, ◌-◌, ◌≤◌, ◌<◌}
 use native.Mathlib.Nat.{add_assoc}
 use native.Mathlib.Omega.{arith}
 use lib.Dec.{ltb}
-use lib.ListN.{length, take, drop, replicate, length-append, length-replicate, take-append-drop}
-use lib.Seq.{take_at, drop_at, drop-append-add, take-append-add}
+use lib.ListN.{length, get_or, take, drop, replicate, length-append, length-replicate, length-take, take-append-drop}
+use lib.Seq.{take_at, drop_at, drop-append-add, take-append-add, get_or-take}
 use borrow.Author.Count.{below_more}
 use borrow.Rule.Slice.PartMut.{put_mid, mid_of}
 use Rattle.text.specs.Bytes.{pick, written}
@@ -23,7 +23,7 @@ use Rattle.store.specs.Held.{Held, index_max, text_max}
 use Rattle.store.specs.Layout.{Bytes}
 use Rattle.store.specs.Inner.{Sized, sizes}
 use Rattle.store.specs.Keys.{rows_max}
-use Rattle.store.specs.Rows.{key_in, start_in, len_in}
+use Rattle.store.specs.Rows.{row_in, key_in, start_in, len_in, unused}
 use Rattle.store.specs.Layout.{record_bytes, records, texts, encode_records}
 use Rattle.store.specs.Table.{living, line_at, Whole, Tabled, Takes_up, Keepable, Keeps, Extends}
 use Rattle.store.specs.Table.{behind_kept, Lent, Closes, Closed, Settles, Settled}
@@ -97,6 +97,30 @@ module _ (a : List Row) (old at off k : ℕ) (w : Keeping a old at off k) where
             ap (λ (m : ℕ). m + len_in a k) v.1 ∙ used_more T k b n,
           );
     }
+
+-- the same of row k where the first `old` rows are taken
+module _ (a : List Row) (old at off k : ℕ) (w : Keeping a old at off k) (h : k < length (take old a))
+    (n : (get_or (take old a) k unused).len ≡ 0 → ⊥) (size : ℕ)
+    (z : Sized (get_or (take old a) k unused).key size) where
+  old_row : k < old
+  old_row = omega (arith, h, length-take old a)
+
+  taken : get_or (take old a) k unused ≡ row_in a k
+  taken = get_or-take old a k unused old_row
+
+  some_len : len_in a k ≡ 0 → ⊥
+  some_len e = n (ap (λ (r : Row). r.len) taken ∙ e)
+
+  sized : Sized (key_in a k) size
+  sized = subst (λ (r : Row). Sized r.key size) taken z
+
+  pub taken_fits : (at + size ≤ index_max) × (off + (get_or (take old a) k unused).len ≤ text_max)
+  taken_fits = subst (λ (r : Row). (at + size ≤ index_max) × (off + r.len ≤ text_max)) (sym taken)
+      (keep_fits a old at off k w old_row some_len size sized)
+
+  pub taken-turn : Keeping a old (at + size) (off + (get_or (take old a) k unused).len) (k + 1)
+  taken-turn = subst (λ (r : Row). Keeping a old (at + size) (off + r.len) (k + 1)) (sym taken)
+      (keep-turn a old at off k w old_row some_len size sized)
 
 -- ---- `close_up`
 

@@ -136,24 +136,6 @@ module _ (off : ℕ) (h : Held) (hs : List Held) (s : List ℕ) (l : Lies off (h
     below = omega (arith, l.below, texts_cons h hs);
   }
 
--- behind the first of the lines
-pub lies_behind : (fs bs : List Held) (off : ℕ) (s : List ℕ) → Lies off (fs ++ bs) s
-    → Lies (off + length (texts fs)) bs (drop (sizes off fs) s)
-lies_behind [] bs off s l =
-    unfold records texts in (subst (λ (n : ℕ). Lies n bs s) (sym (add-zero off)) l)
-lies_behind (h ∷ fs) bs off s l =
-    let r : Lies (off + length h.line + length (texts fs)) bs
-    (drop (sizes (off + length h.line) fs) (drop (head_at s).size s))
-    = lies_behind fs bs (off + length h.line) (drop (head_at s).size s) (lies_next off h (fs ++ bs) s l) in
-    let e : drop (sizes (off + length h.line) fs) (drop (head_at s).size s) ≡ drop (sizes off (h ∷ fs)) s
-    = drop-drop (sizes (off + length h.line) fs) (head_at s).size s
-    ∙ ap (λ (n : ℕ). drop n s) (ap (λ (x : Head). x.size + sizes (off + length h.line) fs)
-    (lies_head off h (fs ++ bs) s l) ∙ sym (sizes_cons off h fs)) in
-    let f : off + length h.line + length (texts fs) ≡ off + length (texts (h ∷ fs)) =
-    omega (arith, texts_cons h fs) in
-    subst (λ (q : List ℕ). Lies (off + length (texts (h ∷ fs))) bs q) e
-    (subst (λ (n : ℕ). Lies n bs (drop (sizes (off + length h.line) fs) (drop (head_at s).size s))) f r)
-
 -- the rest of the lines, from `at` on
 pub record Rest (i : List ℕ) (at : ℕ) : Type 0 where
   pub off : ℕ

@@ -196,14 +196,20 @@ pub survey_of : (i t : List ℕ) (a : List Row) (heads next : List ℕ) (o : Opt
 survey_of i t a heads next o w r e = subst (OnceSurveyed i t a heads next) e w
 
 -- what `?` hands on where none is told as the error x
+pub none_refused : {A B E : Type 0} (o : Optional B) (x y : E) → Err y ≡ ok_or o x → (r : Result A E)
+    → IsErrAnd r (λ e. e ≡ y) → (r ≡ Err x) × (o ≡ None)
+none_refused None x y e r f =
+    let p = err_from_is_err_and r f in
+    let q : y ≡ x = cc in
+    (p.1 ∙ ap (λ z. Err z) (p.2 ∙ q), refl)
+none_refused (Some s) x y e r f = absurd cc
+
 pub stock_refused : {A E : Type 0} (i t : List ℕ) (l : Ledger) (o : Optional Stock) → OnceStocked i t l o
     → (x y : E) → Err y ≡ ok_or o x → (r : Result A E) → IsErrAnd r (λ e. e ≡ y)
     → (r ≡ Err x) × (known (content i t) ≡ false)
-stock_refused i t l None w x y e r f =
-    let p = err_from_is_err_and r f in
-    let q : y ≡ x = cc in
-    (p.1 ∙ ap (λ z. Err z) (p.2 ∙ q), w)
-stock_refused i t l (Some s) w x y e r f = absurd cc
+stock_refused i t l o w x y e r f =
+    let p = none_refused o x y e r f in
+    (p.0, subst (OnceStocked i t l) p.1 w)
 
 -- what a sound store holds is written down
 module _ (i t : List ℕ) (l : Ledger) (s : Stock) (w : Stocks i t l s) where

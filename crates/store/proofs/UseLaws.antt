@@ -10,8 +10,8 @@ use native.Mathlib.Nat.{zero-add, add-zero, add_assoc}
 use native.Mathlib.Numerals.{add-one}
 use native.Mathlib.Omega.{arith}
 use lib.Dec.{eqb}
-use lib.ListN.{length, get_or, set, drop, length-replicate, get_or-replicate, length-set}
-use lib.Seq.{get_or-set_same, get_or-set_other, drop-cons, drop-length}
+use lib.ListN.{length, get_or, set, take, drop, length-replicate, get_or-replicate, length-set, length-take}
+use lib.Seq.{get_or-set_same, get_or-set_other, get_or-take, drop-cons, drop-length}
 use borrow.Author.Count.{below_more}
 use borrow.Author.Tests.{eqb-true, eqb-false, eq-eqb, ne_eqb}
 use Rattle.text.specs.Bytes.{pick}
@@ -22,7 +22,7 @@ use Rattle.store.specs.Held.{Held, text_max}
 use Rattle.store.specs.Decode.{decode}
 use Rattle.store.specs.Inner.{lengths, known}
 use Rattle.store.specs.Layout.{Given, Bytes, Shapes, texts}
-use Rattle.store.specs.Rows.{key_in, len_in}
+use Rattle.store.specs.Rows.{row_in, key_in, len_in, unused}
 use Rattle.store.specs.Shares.{owners, no_shares, use_of, larger, claims_from, claims}
 use Rattle.store.specs.Claims.{not_of, OwnersBelow, Owed, Uses, row_lengths, row_use, Addable, Adds, Sums, Covers}
 use Rattle.store.specs.Claims.{DuesFrom}
@@ -185,6 +185,23 @@ module _ (a : List Row) (n : ℕ) (w : Addable a n) where
             ∙ ap (λ (v : ℕ). row_use q a k + v)
             (sym (ap (λ (c : Bool). pick c (len_in a k) 0) (ne_eqb (key_in a k).owner q (λ v. y (sym (e ∙ v))))))
             ∙ sym (next q)
+
+-- the same of row k where the first n rows are taken
+module _ (a : List Row) (n : ℕ) (w : Addable a n) (u : List ℕ) (k : ℕ) (x : Adding a n u k)
+    (h : k < length (take n a)) (b : (get_or (take n a) k unused).key.owner < owners) where
+  less : k < n
+  less = omega (arith, h, length-take n a)
+
+  taken : get_or (take n a) k unused ≡ row_in a k
+  taken = get_or-take n a k unused less
+
+  pub taken_most : get_or u (get_or (take n a) k unused).key.owner 0 + (get_or (take n a) k unused).len ≤ text_max
+  taken_most = omega (arith, ap (λ (r : Row). r.len) taken, add_most a n w u k x less _ b)
+
+  pub taken_next : Adding a n (set u (get_or (take n a) k unused).key.owner
+      (get_or u (get_or (take n a) k unused).key.owner 0 + (get_or (take n a) k unused).len)) (k + 1)
+  taken_next =
+      add_next a n w u k x less _ (ap (λ (r : Row). r.key.owner) taken) b _ (ap (λ (r : Row). r.len) taken)
 
 -- a use is within the text's most bytes
 pub use_most : (a : List Row) (n : ℕ) → Addable a n → (u : List ℕ) → Adds a n u → (o : ℕ) → o < owners

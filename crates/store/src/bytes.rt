@@ -1,5 +1,5 @@
 // Bytes in a buffer: moved, set to 0, compared with 0, and as numbers.
-ghost use Rattle.std.specs.Prelude.{◌≡◌, List, ◌∷◌, ◌++◌, ℕ, suc, ◌+◌, ◌-◌, ◌≤◌, ◌<◌, length, take, drop, get_or, replicate};
+ghost use Rattle.std.specs.Prelude.{◌≡◌, ◌++◌, ◌+◌, ◌-◌, ◌≤◌, ◌<◌, length, drop, replicate};
 ghost use Rattle.text.specs.Bytes.{written};
 ghost use Rattle.store.specs.Decode.{zeroes, word, word8};
 ghost use Rattle.store.specs.Inner.{be2, be8};

@@ -1,4 +1,5 @@
-// The public calls of a store. Each takes any buffers and arguments; specs/Refusals gives document 01's numbers.
+// The public calls of a store. Each takes any buffers and arguments; specs/Refusals gives document 01's numbers. The
+// index and the text are two parameters: C lends them as two buffers of its own.
 ghost use Rattle.std.specs.Prelude.{◌≡◌, true};
 ghost use Rattle.store.specs.Decode.{decode};
 ghost use Rattle.store.specs.Inner.{known, insert_full, save_full};
@@ -22,8 +23,8 @@ use map::mapping_data::MappingData;
 use text::utf8::{is_utf8, valid_up_to};
 use text::uuid::Uuid;
 
-// Why a call is refused; `NotUtf8` with the length of the text's valid run, `NoOwner` where an organiser names itself 0,
-// `NoText` and `ShareTooLarge` where shares and uses would exceed the text.
+// Why a call is refused; `NotUtf8` with the length of the text's valid run, `NoOwner` where an organiser names itself
+// 0, `NoText` and `ShareTooLarge` where shares and uses would exceed the text.
 #[derive(Clone, Copy, PartialEq, Eq)]
 pub enum StoreError {
     NotUtf8(usize),
@@ -64,7 +65,7 @@ pub struct Inserted {
 }
 
 // Why a save is refused: build's refusal, a name that has LF or `platform:`, or as the other calls.
-#[derive(Clone, Copy)]
+#[derive(Clone, Copy, PartialEq, Eq)]
 pub enum SaveError {
     Refused(MappingError),
     UnsavedName,
@@ -86,7 +87,7 @@ impl From<Full> for SaveError {
     }
 }
 
-// A save's answer, and its map.
+// A save's answer, and its map: document 01 has a refused save hand back the empty map, which a Result could not.
 #[derive(Clone, Copy)]
 pub struct Saved {
     pub answer: Result<(), SaveError>,

@@ -1,6 +1,6 @@
 // Keys by number, which is that of their row: chains of the numbers, one for each bucket, show whether a key stands
 // twice. Nothing here knows a record's bytes.
-ghost use Rattle.std.specs.Prelude.{◌≡◌, true, false, ℕ, suc, ◌+◌, ◌-◌, ◌≤◌, ◌<◌};
+ghost use Rattle.std.specs.Prelude.{◌≡◌, ◌+◌, ◌≤◌, ◌<◌};
 ghost use Rattle.store.specs.Keys.{rows_max, bucket, NotIn, Linked, Kin, Chained, Seeks, Sought};
 ghost use Rattle.store.specs.Keys.{seek_says, told_of, Tells};
 ghost use Rattle.store.specs.Rows.{key_in, Long};
@@ -11,7 +11,8 @@ use crate::rows::{ROWS, Row};
 // The most steps in a chain where an order can be had instead.
 const CHAIN_MAX: usize = 16;
 
-// Whether a key stands twice, as far as a check shows it: three kinds of their own, and none stands for a missing value.
+// Whether a key stands twice, as far as a check shows it: three kinds of their own, and none stands for a missing
+// value.
 #[derive(Clone, Copy)]
 pub enum Verdict {
     Apart,
@@ -71,8 +72,8 @@ fn first_step(rows: &[Row; ROWS], next: &[u16; ROWS], from: usize, k: usize) -> 
     usize::from(next[at])
 }
 
-// The lines that are written down by number: a row for each; chains of the numbers by their keys, each by one more than
-// its last number; and what stands before each number in its chain.
+// The lines that are written down by number: a row for each; chains of the numbers by their keys, each by one more
+// than its last number; and what stands before each number in its chain.
 #[derive(Drop)]
 pub struct Table {
     pub rows: [Row; ROWS],
@@ -93,8 +94,8 @@ impl Table {
         }
     }
 
-    // Seeks the key of number k among the numbers before it, which are in their chains: one more than the last that has
-    // it, or 0.
+    // Seeks the key of number k among the numbers before it, which are in their chains: one more than the last that
+    // has it, or 0.
     pub fn seek_before(&self, k: usize) -> usize
         requires k_lt_rows_max { k < rows_max }
         requires chained { Chained (key_in self.now.rows) self.now.heads self.now.next k }

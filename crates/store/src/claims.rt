@@ -1,5 +1,5 @@
 // What the parties claim of the text: of each the larger of its use and its share (document 02, P10).
-ghost use Rattle.std.specs.Prelude.{◌≡◌, ℕ, ◌+◌, ◌-◌, ◌*◌, ◌≤◌, ◌<◌, length, get_or};
+ghost use Rattle.std.specs.Prelude.{◌≡◌, ◌+◌, ◌-◌, ◌*◌, ◌≤◌};
 ghost use Rattle.store.specs.Shares.{owners, no_shares, larger};
 ghost use Rattle.store.specs.Claims.{DuesFrom, Addable, Adds, Sums, Covers, row_lengths};
 
@@ -31,6 +31,7 @@ pub fn claimed(dues: Dues, used: usize) -> usize
     dues.others + larger_of(used - dues.theirs, dues.share)
 }
 
+<<<<<<< HEAD
 // The lines that are written down under the first `count` numbers. Their bytes are no more than those of a text.
 #[derive(Clone, Copy)]
 pub struct Listed<'a> {
@@ -50,6 +51,18 @@ impl Listed<'_> {
             let o = row.key.owner as usize;
             uses[o] += row.len as u16;
         }
+=======
+// Adds up the bytes of each owner's lines, of the first `count` rows. The rows and their count are two parameters here
+// and in sharing.rt: a struct would hold a borrow, or a copy of the rows, for one fact that `addable` names.
+pub fn add_uses(rows: &[Row; ROWS], count: usize, uses: &mut [u16; OWNERS])
+    requires uses_value { uses.old ≡ no_shares }
+    requires addable { Addable rows.now count }
+    ensures { Adds rows.now count uses.new }
+{
+    for row in &rows[..count] {
+        let o = row.key.owner as usize;
+        uses[o] += row.len as u16;
+>>>>>>> sts/main
     }
 }
 
@@ -59,14 +72,16 @@ pub fn claims_of(uses: &[u16; OWNERS], shares: &[u16; OWNERS]) -> usize
     ensures covers { Covers uses.now shares.now result }
 {
     let mut sum = 0;
+    // By number: over a `zip` of the two the loop's turn (`loop-used-preserved`) and what it sums to
+    // (`returns-clause-sums`) stayed open.
     for o in 0..OWNERS {
         sum += larger_of(uses[o] as usize, shares[o] as usize);
     }
     sum
 }
 
-// What the others than an owner claim and use, and its share, by the lines that are written down. Without any share all
-// that is claimed is in use.
+// What the others than an owner claim and use, and its share, by the lines that are written down. Without any share
+// all that is claimed is in use.
 pub fn dues_of(rows: &[Row; ROWS], fill: Fill, shares: &[u16; OWNERS], owner: u8) -> Dues
     requires { Addable rows.now fill.count × (row_lengths rows.now fill.count ≤ fill.used) }
     ensures { DuesFrom rows.now fill shares.now owner result }

@@ -1,16 +1,16 @@
 // The lines of an inserted text: where one ends, and whether it is wanted.
-ghost use Rattle.std.specs.Prelude.{◌≡◌, ℕ, ◌+◌, ◌≤◌, ◌<◌, length, take};
+ghost use Rattle.std.specs.Prelude.{◌≡◌, ◌≤◌, length, take};
 ghost use Rattle.text.specs.Bytes.{first_of};
 ghost use Rattle.store.specs.Lines.{for_platform, wanted as isWanted};
 ghost use Rattle.text.specs.Search.{lf};
-ghost use Rattle.line.specs.Fields.{first_field};
 ghost use Rattle.store.specs.Inner.{first_line};
 
 use crate::search::{find_far, find_text};
-use text::bytes::{find_byte, same_bytes};
+use text::bytes::find_byte;
 use text::uuid::{Spelled, Uuid};
 
-// The length of the first line, of which the LF stands at that place: without a CR before it.
+// The length of the first line, of which the LF stands at that place: without a CR before it. By hand: with
+// `strip_suffix` the goal `returns`, that what is left is the first line, stayed open.
 pub fn line_length(s: &[u8], end: usize) -> usize
     requires { end ≡ first_of lf s.now }
     ensures { (result ≤ length s.now) × (take result s.now ≡ first_line s.now) }
@@ -38,7 +38,7 @@ fn for_platform(line: &[u8]) -> bool
     }
     let start = at + key.len();
     let end = find_byte(&line[start..], b',');
-    same_bytes(&line[start..start + end], b"Linux")
+    line[start..start + end] == b"Linux"[..]
 }
 
 // The UUID of a wanted line; None where the line is not wanted.

@@ -44,7 +44,8 @@ pub fn part_of(table: &mut Table, fill: Fill, key: Key) -> Option<Part>
 }
 
 // Looks a key up in the lines of the store, which are written down. `near_by` is the same with another last step: one
-// function for both would take that step as a closure, whose contract would say again what `part_of` and `try_both` ask.
+// function for both would take that step as a closure, whose contract would say again what `part_of` and `try_both`
+// ask.
 fn look_by(index: &[u8], text: &[u8], key: Key) -> Result<Option<Part>, LookError>
     ensures { Sees text.now (look_by key index.now text.now) result }
 {
@@ -57,10 +58,8 @@ fn look_by(index: &[u8], text: &[u8], key: Key) -> Result<Option<Part>, LookErro
 pub fn look(index: &[u8], text: &[u8], party: Party, uuid: Uuid) -> Result<Option<Part>, LookError>
     ensures { Sees text.now (look_up party uuid index.now text.now) result }
 {
-    match owner_of(party) {
-        Some(owner) => look_by(index, text, Key { owner, uuid }),
-        None => Err(LookError::NoOwner),
-    }
+    let owner = owner_of(party).ok_or(LookError::NoOwner)?;
+    look_by(index, text, Key { owner, uuid })
 }
 
 // The line that lies there, as a part of the text; an empty part where none does.

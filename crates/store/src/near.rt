@@ -56,10 +56,8 @@ fn look_near(
 ) -> Result<Option<(Nearness, Part)>, LookError>
     ensures { NearSees text.now (near_up party uuid index.now text.now) result }
 {
-    match owner_of(party) {
-        Some(owner) => near_by(index, text, Key { owner, uuid }),
-        None => Err(LookError::NoOwner),
-    }
+    let owner = owner_of(party).ok_or(LookError::NoOwner)?;
+    near_by(index, text, Key { owner, uuid })
 }
 
 // Whether a party holds a line under that UUID, or only under the same without its checksum.
@@ -75,8 +73,8 @@ pub fn found_near(
     Ok(found.map(|(nearness, _)| nearness))
 }
 
-// The line that such a look-up finds, as a part of the text; an empty part where it finds none, the store is not sound,
-// or an organiser names itself 0.
+// The line that such a look-up finds, as a part of the text; an empty part where it finds none, the store is not
+// sound, or an organiser names itself 0.
 pub fn get_near<'a>(index: &[u8], text: &'a [u8], party: Party, uuid: Uuid) -> &'a [u8]
     ensures { result.now ≡ near_line (near_up party uuid index.now text.now) }
 {

@@ -1,5 +1,5 @@
 // The records of an index: one told, read and written. A change of the record's form changes this file alone.
-ghost use Rattle.std.specs.Prelude.{◌≡◌, true, false, List, ◌∷◌, ◌++◌, ℕ, suc, ◌+◌, ◌-◌, ◌≤◌, ◌<◌, length, take, drop};
+ghost use Rattle.std.specs.Prelude.{◌≡◌, true, false, ◌++◌, ◌+◌, ◌≤◌, length, drop};
 ghost use Rattle.std.proofs.Math.Option.{some};
 ghost use Rattle.store.specs.Layout.{kind_bytes, record_bytes};
 ghost use Rattle.store.specs.Decode.{body_at, owner_at, no_head, head_at};
@@ -110,19 +110,11 @@ pub fn put_record(index: &mut [u8], key: Key, off: usize, len: usize)
 pub fn stands(index: &[u8]) -> bool
     ensures { (result ≡ true → HasRecord index.now) × (result ≡ false → no_head ≡ head_at index.now) }
 {
-    if index.len() < HALL_SIZE {
-        return false;
+    match index {
+        [1, ..] => HALL_SIZE <= index.len(),
+        [3, owner, ..] => OWNED_SIZE <= index.len() && *owner != 0,
+        _ => false,
     }
-    if index[0] == 1 {
-        return true;
-    }
-    if index[0] != 3 {
-        return false;
-    }
-    if index.len() < OWNED_SIZE {
-        return false;
-    }
-    index[1] != 0
 }
 
 // What a record of that size and owner says, by its body.

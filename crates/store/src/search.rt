@@ -1,5 +1,5 @@
 // A byte and a text sought in a long text.
-ghost use Rattle.std.specs.Prelude.{◌≡◌, ◌+◌, ◌≤◌, ◌<◌, length, take, drop};
+ghost use Rattle.std.specs.Prelude.{◌≡◌, ◌+◌, ◌≤◌, ◌<◌, length, drop};
 ghost use Rattle.text.specs.Bytes.{first_of};
 ghost use Rattle.text.specs.Inner.{every};
 ghost use Rattle.text.specs.Search.{first_text};
@@ -50,7 +50,8 @@ pub fn find_text(s: &[u8], p: &[u8], d: usize) -> usize
     ensures { result ≡ first_text p.now s.now }
 {
     let rare = p[d];
-    // A `while`: with `windows` and `position` in its place 2.23 million instructions against 207 thousand (618 lines).
+    // A `while`: with `windows` and `position` in its place 2.23 million instructions against 207 thousand (618
+    // lines).
     let mut i = 0;
     while i + d < s.len() {
         let at = i + find_far(&s[i + d..], rare);

@@ -1,6 +1,6 @@
 // The lines that a save or an insert leaves, written out: those that are held still, one behind the other, and 0
 // behind them. The index from the first removed record on is lent to `close_up`.
-ghost use Rattle.std.specs.Prelude.{◌≡◌, true, ℕ, suc, ◌+◌, ◌-◌, ◌≤◌, ◌<◌, length, take, drop};
+ghost use Rattle.std.specs.Prelude.{◌≡◌, true, ◌+◌, ◌≤◌, length, take, drop};
 ghost use Rattle.text.specs.Bytes.{pick, written};
 ghost use Rattle.store.specs.Table.{Keepable, Keeps, Closes, Closed, Extends, Settles, Settled};
 
@@ -41,8 +41,7 @@ fn kept_rows(rows: &[Row; ROWS], old: usize) -> Kept
 {
     let mut at = 0;
     let mut off = 0;
-    for k in 0..old {
-        let row = rows[k];
+    for (k, row) in rows[..old].iter().enumerate() {
         if row.len == 0 {
             return Kept { rows: k, at, off };
         }

@@ -1,6 +1,6 @@
-// The records of the shares, which stand first in an index (document 02, P10): read, found and changed. A change of their
-// form changes this file alone.
-ghost use Rattle.std.specs.Prelude.{◌≡◌, Bool, true, false, List, ◌∷◌, ◌++◌, ℕ, ◌+◌, ◌-◌, ◌≤◌, ◌<◌, length, take, drop, get_or, replicate};
+// The records of the shares, which stand first in an index (document 02, P10): read, found and changed. A change of
+// their form changes this file alone.
+ghost use Rattle.std.specs.Prelude.{◌≡◌, true, false, ◌++◌, ◌+◌, ◌-◌, ◌≤◌, ◌<◌, length, take, drop, replicate};
 ghost use Rattle.store.specs.Layout.{share_bytes};
 ghost use Rattle.store.specs.Shares.{owners, no_shares, share_size, share_sizes};
 ghost use Rattle.store.specs.Fronts.{starts_share, front_share, Fronts, Changes, Changed};
@@ -113,17 +113,13 @@ pub fn change_share(part: &mut [u8], owner: u8, had: usize, share: usize)
     requires { Changes part.old owner had share }
     ensures { Changed part.old owner had share part.new }
 {
-    if had == 0 {
-        if share == 0 {
-            return;
+    match (had, share) {
+        (0, 0) => {}
+        (0, _) => {
+            open_gap(part);
+            put_share(part, owner, share);
         }
-        open_gap(part);
-        put_share(part, owner, share);
-        return;
+        (_, 0) => close_gap(part),
+        _ => put_share(part, owner, share),
     }
-    if share == 0 {
-        close_gap(part);
-        return;
-    }
-    put_share(part, owner, share);
 }

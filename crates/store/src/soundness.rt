@@ -1,5 +1,5 @@
 // Whether two buffers are a sound store: one walk over the records checks them and writes the lines down.
-ghost use Rattle.std.specs.Prelude.{◌≡◌, ◌&&◌, false, List, ◌∷◌, ◌++◌, ℕ, suc, ◌+◌, ◌-◌, ◌≤◌, ◌<◌, length, take, drop};
+ghost use Rattle.std.specs.Prelude.{◌≡◌, ◌&&◌, ◌≤◌, length, drop};
 ghost use Rattle.store.specs.Decode.{head_fits, zeroes, content};
 ghost use Rattle.store.specs.Held.{index_max, text_max};
 ghost use Rattle.store.specs.Inner.{known};
@@ -60,7 +60,8 @@ fn zero_behind(index: &[u8], text: &[u8], at: usize, off: usize) -> bool
     all_zero(&index[at..]) && all_zero(&text[off..])
 }
 
-// Walks over the records, checks them, and writes each line down in its chain; none where they are not those of a list.
+// Walks over the records, checks them, and writes each line down in its chain; none where they are not those of a
+// list.
 pub fn survey(index: &[u8], text: &[u8], table: &mut Table) -> Option<Surveyed>
     requires index_len_bound { (length index.now ≤ index_max) × (length text.now ≤ text_max) }
     requires chained { Chained (key_in table.old.rows) table.old.heads table.old.next 0 }

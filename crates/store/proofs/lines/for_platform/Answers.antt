@@ -6,7 +6,7 @@ use lib.ListN.{length, take, drop}
 use Rattle.text.specs.Bytes.{byte, same, first_of}
 use Rattle.text.proofs.ListLaws.{part_to_end}
 use Rattle.text.proofs.LentLaws.{tail_length}
-use Rattle.text.proofs.BytesLaws.{first_le}
+use Rattle.text.proofs.BytesLaws.{first_le, pointwise_same}
 use Rattle.store.specs.Lines.{platform}
 use Rattle.text.specs.Search.{platform_key}
 use Rattle.store.proofs.LineLaws.{plus_minus}
@@ -50,8 +50,8 @@ overflow_add-start-2 c =
       tail_length start l,
     )
 
-pub slice_bounds-same_bytes-end : goal.slice_bounds-same_bytes-end
-slice_bounds-same_bytes-end c =
+pub slice_bounds-eq-end : goal.slice_bounds-eq-end
+slice_bounds-eq-end c =
     let l = c.args.line.now in
     let at = c.find_text-at in
     let start = at.result + 9 in
@@ -64,16 +64,13 @@ slice_bounds-same_bytes-end c =
       tail_length start l,
     )
 
--- (no goal found) slice-aggregate-same-bytes : tie.Need-slice-aggregate-same-bytes
--- slice-aggregate-same-bytes c = search rules
-
 pub returns : goal.returns
 returns c =
     let l = c.args.line.now in
     let at = c.find_text-at in
     let end = c.find_byte-end in
     let start = at.result + 9 in
-    c.same_bytes.ensures
+    c.eq.ensures ∙ pointwise_same (take (start + end.result - start) (drop start l)) platform
     ∙ ap (λ (n : ℕ). same (take n (drop start l)) platform)
     (plus_minus start end.result ∙ end.ensures ∙ ap (first_of (byte ",")) (part_to_end l start))
     ∙ ap (λ (n : ℕ). same (take (first_of (byte ",") (drop (n + 9) l)) (drop (n + 9) l)) platform) at.ensures

@@ -5,18 +5,20 @@ use Rattle.store.specs.declared.calls.LookError.TheVariants as L
 use Rattle.store.specs.Store.{Looked}
 use Rattle.store.specs.Sights.{Sees}
 use Rattle.store.proofs.PartyLaws.{look_nobody, look_owner}
+use Rattle.store.proofs.SurveyLaws.{none_refused}
 use Rattle.store.proofs.look.look.Goals as goal
 
-pub returns-in-Some : goal.returns-in-Some
-returns-in-Some c =
+pub returns-in_err-owner : goal.returns-in_err-owner
+returns-in_err-owner c =
+    let args = c.args in
+    let w = none_refused _ _ _ c.in_err-owner.ensures.value _ c.from_residual.ensures.1 in
+    rw w.0 (subst (λ (x : Looked). Sees args.text.now x (Err L.NoOwner))
+    (look_nobody args.party args.index.now args.text.now (sym c.owner_of.ensures ∙ w.1) args.uuid)
+    (record { how = refl; within = tt; line = refl }))
+
+pub returns : goal.returns
+returns c =
     let args = c.args in
     subst (λ (x : Looked). Sees args.text.now x c.look_by.result)
-    (look_owner args.party args.index.now args.text.now _ (sym c.owner_of.ensures ∙ c.in-Some.is) args.uuid)
+    (look_owner args.party args.index.now args.text.now _ (sym c.owner_of.ensures ∙ c.in_ok-owner.ensures.ok_part) args.uuid)
     c.look_by.ensures
-
-pub returns-in-None : goal.returns-in-None
-returns-in-None c =
-    let args = c.args in
-    subst (λ (x : Looked). Sees args.text.now x (Err L.NoOwner))
-    (look_nobody args.party args.index.now args.text.now (sym c.owner_of.ensures ∙ c.in-None.is) args.uuid)
-    (record { how = refl; within = tt; line = refl })

@@ -5,18 +5,20 @@ use Rattle.store.specs.declared.calls.LookError.TheVariants as L
 use Rattle.store.specs.Near.{Nearby}
 use Rattle.store.specs.Sights.{NearSees}
 use Rattle.store.proofs.PartyLaws.{near_nobody, near_owner}
+use Rattle.store.proofs.SurveyLaws.{none_refused}
 use Rattle.store.proofs.near.look_near.Goals as goal
 
-pub returns-in-Some : goal.returns-in-Some
-returns-in-Some c =
+pub returns-in_err-owner : goal.returns-in_err-owner
+returns-in_err-owner c =
+    let args = c.args in
+    let w = none_refused _ _ _ c.in_err-owner.ensures.value _ c.from_residual.ensures.1 in
+    rw w.0 (subst (λ (x : Nearby). NearSees args.text.now x (Err L.NoOwner))
+    (near_nobody args.party args.index.now args.text.now (sym c.owner_of.ensures ∙ w.1) args.uuid)
+    (record { how = refl; within = tt; line = refl }))
+
+pub returns : goal.returns
+returns c =
     let args = c.args in
     subst (λ (x : Nearby). NearSees args.text.now x c.near_by.result)
-    (near_owner args.party args.index.now args.text.now _ (sym c.owner_of.ensures ∙ c.in-Some.is) args.uuid)
+    (near_owner args.party args.index.now args.text.now _ (sym c.owner_of.ensures ∙ c.in_ok-owner.ensures.ok_part) args.uuid)
     c.near_by.ensures
-
-pub returns-in-None : goal.returns-in-None
-returns-in-None c =
-    let args = c.args in
-    subst (λ (x : Nearby). NearSees args.text.now x (Err L.NoOwner))
-    (near_nobody args.party args.index.now args.text.now (sym c.owner_of.ensures ∙ c.in-None.is) args.uuid)
-    (record { how = refl; within = tt; line = refl })
