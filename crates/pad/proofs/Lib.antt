@@ -6,7 +6,8 @@ pub mod PlaceLaws
 pub mod TouchLaws
 pub mod ReaderLaws
 pub mod NumberLaws
-pub mod OwnLaws
+pub mod MarkLaws
+pub mod BestLaws
 pub mod EventLaws
 pub mod StateLaws
 pub mod PutLaws

@@ -1,6 +1,6 @@
 -- Values counted from the least one: what private functions compute with. No public contract cites these.
 -- Assumes nothing.
-use Rattle.std.specs.Prelude.{ℕ, suc, ◌+◌, ◌-◌, ◌*◌, ◌/◌, ◌≤◌, ◌<◌, ◌≡◌, Bool, true, false, ◌&&◌, List, [], ◌∷◌, ◌++◌, map, eqb, ltb, length, take, drop, ℤ, pos, negsuc, ◌-ℤ◌, Option, Some, None, set, Result, Ok, MatchResult}
+use Rattle.std.specs.Prelude.{ℕ, suc, ◌+◌, ◌-◌, ◌*◌, ◌/◌, ◌%◌, ◌≤◌, ◌<◌, ◌≡◌, Bool, false, List, [], ◌∷◌, ◌++◌, map, eqb, ltb, length, take, drop, get_or, ℤ, pos, negsuc, ◌-ℤ◌, Option, Some, None, set, Result, Ok, MatchResult}
 use Rattle.text.specs.Bytes.{pick}
 use Rattle.line.specs.declared.ev.AxisOrBtn.{AxisOrBtn}
 use Rattle.line.specs.declared.ev.AxisOrBtn.TheVariants as El
@@ -22,7 +22,7 @@ use Rattle.pad.specs.declared.events.Events.{Events}
 use Rattle.pad.specs.declared.events.Raw.{Raw}
 use Rattle.pad.specs.declared.state.TooManyCodes.{TooManyCodes}
 use Rattle.pad.specs.declared.telling.Change.{Change}
-use Rattle.pad.specs.Pads.{held_max, put_held, Chosen, none, chosen, choose, tabulate, sameℤ, changes}
+use Rattle.pad.specs.Pads.{held_max, put_held, gives, Chosen, none, chosen, preferred, choose, element_at, tabulate, sameℤ, changes}
 use Rattle.pad.specs.States.{held_in, pad_values, pad_value, events_in, refused_of, raw_event_of}
 use Rattle.pad.specs.TwoPads.{farther}
 
@@ -74,20 +74,22 @@ unfoldable pub place_in : ℕ → List ℕ → ℕ
 place_in c [] = 0
 place_in c (y ∷ ys) = pick (eqb (y / code_unit) c) 0 (suc (place_in c ys))
 
--- no number of a code is among these
-unfoldable pub unseen : ℕ → List ℕ → Bool
-unseen c [] = true
-unseen c (y ∷ ys) = pick (eqb (y / code_unit) c) false (unseen c ys)
+-- a code that is not marked, by what is left of it over 256, gives an element nothing by entries
+abbrev pub Marked : AxisOrBtn → List ℕ → List Bool → Type 0
+Marked el xs marks = (h : Held) → get_or marks (h.code.0 % 256) false ≡ false → gives (map entry_in xs) h el ≡ None
 
--- an entry counts for an element: it is of that element, and the first of its code
-unfoldable pub counted : AxisOrBtn → List ℕ → ℕ → Bool
-counted el seen x = same_element (entry_in x).element el && unseen (x / code_unit) seen
+-- what was chosen for an element, and the event of a code more: it counts for its own element alone
+abbrev pub event_counted : ℕ → Event → AxisOrBtn → Chosen → Chosen
+event_counted c e el rest = pick (same_element e.element el) (preferred c e.value rest) rest
 
--- those that count, after the ones that were seen
-unfoldable pub own_from : AxisOrBtn → List ℕ → List ℕ → List ℕ
-own_from el seen [] = []
-own_from el seen (x ∷ xs) =
-    pick (counted el seen x) (x ∷ own_from el (seen ++ x ∷ []) xs) (own_from el (seen ++ x ∷ []) xs)
+-- the same for all elements
+abbrev pub CountsIn : ℕ → Event → List (Option Best) → List (Option Best) → Type 0
+CountsIn c e old new =
+    (k : ℕ) → k < 27 → chosen_by (get_or new k None) ≡ event_counted c e (element_at k) (chosen_by (get_or old k None))
+
+-- the code and the value of each element
+abbrev pub AllChosen : List Held → List Entry → List (Option Best) → Type 0
+AllChosen hs es bests = (k : ℕ) → k < 27 → chosen_by (get_or bests k None) ≡ choose hs es (element_at k)
 
 -- from hs to ks no element but el takes another value
 abbrev pub OnlyOf : List Held → List Held → List Entry → AxisOrBtn → Type 0

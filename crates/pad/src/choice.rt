@@ -1,17 +1,21 @@
 // Which of the held codes an element takes its value from. Held codes and entries are numbers in lent slices.
-ghost use Rattle.std.specs.Prelude.{◌≡◌, ◌≤◌, ◌<◌, ◌/◌, ◌==◌, [], length, map, position};
+ghost use Rattle.std.specs.Prelude.{◌≡◌, ◌≤◌, ◌/◌, ◌%◌, ◌==◌, length, map, position};
 ghost use Rattle.line.specs.Maps.{entry_at};
 ghost use Rattle.line.specs.Numbers.{code_unit, entry_in};
 ghost use Rattle.pad.specs.Pads.{gives, preferred, choose, value_of};
 ghost use Rattle.pad.specs.States.{held_in};
-ghost use Rattle.pad.specs.Inner.{chosen_by, counted, own_from, place_in};
+ghost use Rattle.pad.specs.Values.{event_of};
+ghost use Rattle.pad.specs.Inner.{chosen_by, place_in, Marked, AllChosen, CountsIn};
 
-use crate::events::Held;
+use crate::events::{ELEMENTS, Event, Held};
 use crate::numbers::{CODE_UNIT, held_of};
-use crate::value::entry_value;
-use arrayvec::ArrayVec;
+use crate::telling::place_of;
+use crate::value::{entry_event, entry_value};
 use line::ev::{AxisOrBtn, Code};
-use line::mapping::{CODES_MAX, Entry};
+use line::mapping::Entry;
+
+// How many marks there are.
+const MARKS: usize = 256;
 
 // A code and the value that it gives.
 #[derive(Clone, Copy)]
@@ -78,48 +82,84 @@ fn prefer(first: Best, rest: Option<Best>) -> Best
     rest.map_or(first, |other| farther(first, other))
 }
 
+// The codes that may give to an element are marked, by what is left of them over 256: a code that is not marked has no
+// entry of the element. Most held codes are passed over by one look at these, and not looked up in the map.
+fn mark(marks: &mut [bool; MARKS], entries: &[u64], el: AxisOrBtn)
+    ensures { Marked el entries.now marks.new }
+{
+    for i in (0..entries.len()).rev() {
+        let x = entries[i];
+        let e = Entry::of_number(x);
+        if e.element == el {
+            marks[mark_of(x)] = true;
+        }
+    }
+}
+
+// The place of a number's code among the marks.
+fn mark_of(x: u64) -> usize
+    ensures { result ≡ x / code_unit % 256 }
+{
+    (x / CODE_UNIT) as usize % MARKS
+}
+
 // The code and the value that an element has. From the last code on, as the definition chooses.
 fn best_of(held: &[u64], entries: &[u64], el: AxisOrBtn) -> Option<Best>
     ensures { chosen_by result ≡ choose (map held_in held.now) (map entry_in entries.now) el }
 {
+    let mut marks = [false; MARKS];
+    mark(&mut marks, entries, el);
     let mut best = None;
     for i in (0..held.len()).rev() {
-        let h = held_of(held[i]);
-        if let Some(value) = given(entries, h, el) {
-            let code = h.code.0;
-            best = Some(prefer(Best { code, value }, best));
+        let x = held[i];
+        if marks[mark_of(x)] {
+            let h = held_of(x);
+            if let Some(value) = given(entries, h, el) {
+                let code = h.code.0;
+                best = Some(prefer(Best { code, value }, best));
+            }
         }
     }
     best
 }
 
-// Whether an entry counts for an element, by those before it: it is of that element, and the first of its code.
-fn counts_for(before: &[u64], x: u64, el: AxisOrBtn) -> bool
-    ensures { result ≡ counted el before.now x }
-{
-    let e = Entry::of_number(x);
-    e.element == el && code_place(before, e.code).is_none()
-}
-
-// The entries that count for an element: the others are passed over once, and not for each held code.
-fn own_entries(entries: &[u64], el: AxisOrBtn) -> ArrayVec<u64, CODES_MAX>
-    requires { length entries.now ≤ 256 }
-    ensures { result.items ≡ own_from el [] entries.now }
-{
-    let mut own = ArrayVec::new();
-    for (j, x) in entries.iter().enumerate() {
-        if counts_for(&entries[..j], *x, el) {
-            own.push(*x);
-        }
-    }
-    own
-}
-
 // The value of an element; 0 where no code gives it one.
 pub fn element_value(held: &[u64], entries: &[u64], el: AxisOrBtn) -> i16
-    requires { length entries.now ≤ 256 }
     ensures { result ≡ value_of (map held_in held.now) (map entry_in entries.now) el }
 {
-    let own = own_entries(entries, el);
-    best_of(held, own.as_slice(), el).map_or(0, |best| best.value)
+    best_of(held, entries, el).map_or(0, |best| best.value)
+}
+
+// The element of a held code with the value that it gives.
+#[tactic(auto, unfolding(crate::specs::Values::event_of))]
+fn told_by(entries: &[u64], h: Held) -> Option<Event>
+    ensures { result ≡ event_of (map entry_in entries.now) h.code h.raw }
+{
+    let e = first_entry(entries, h.code)?;
+    entry_event(e, h.raw)
+}
+
+// One held code more, which counts for the element of its entry alone.
+fn count_in(bests: &mut [Option<Best>; ELEMENTS], code: u32, e: Event)
+    ensures { CountsIn code e bests.old bests.new }
+{
+    let k = place_of(e.element);
+    if k < ELEMENTS {
+        let value = e.value;
+        bests[k] = Some(prefer(Best { code, value }, bests[k]));
+    }
+}
+
+// The codes and the values that all elements have, in one pass over the held codes.
+pub fn all_bests(held: &[u64], entries: &[u64]) -> [Option<Best>; ELEMENTS]
+    ensures { AllChosen (map held_in held.now) (map entry_in entries.now) result }
+{
+    let mut bests = [None; ELEMENTS];
+    for i in (0..held.len()).rev() {
+        let h = held_of(held[i]);
+        if let Some(e) = told_by(entries, h) {
+            count_in(&mut bests, h.code.0, e);
+        }
+    }
+    bests
 }

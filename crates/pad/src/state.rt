@@ -77,17 +77,14 @@ impl Pad {
         ensures { (result ≡ raw_event_of self code raw) × RawWithin raw }
     {
         let mut pad = self;
-        match put_code(&mut pad, code, raw) {
-            Ok(change) => Told {
-                answer: Ok(()),
-                pad,
-                events: events_of(change_event(change)),
-            },
-            Err(e) => Told {
-                answer: Err(e),
-                pad,
-                events: Events::none(),
-            },
+        let (answer, change) = match put_code(&mut pad, code, raw) {
+            Ok(change) => (Ok(()), change),
+            Err(e) => (Err(e), None),
+        };
+        Told {
+            answer,
+            pad,
+            events: events_of(change_event(change)),
         }
     }
 

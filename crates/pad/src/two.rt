@@ -55,17 +55,14 @@ impl Pads {
         ensures { (result ≡ pads_raw_event_of self which code raw) × RawWithin raw }
     {
         let mut pads = self;
-        match pads.put(which, code, raw) {
-            Ok(change) => PadsTold {
-                answer: Ok(()),
-                pads,
-                events: events_of(joined_change(which, change, pads.beside(which))),
-            },
-            Err(e) => PadsTold {
-                answer: Err(e),
-                pads,
-                events: Events::none(),
-            },
+        let (answer, change) = match pads.put(which, code, raw) {
+            Ok(change) => (Ok(()), change),
+            Err(e) => (Err(e), None),
+        };
+        PadsTold {
+            answer,
+            pads,
+            events: events_of(joined_change(which, change, pads.beside(which))),
         }
     }
 

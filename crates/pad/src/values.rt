@@ -2,10 +2,10 @@
 ghost use Rattle.std.specs.Prelude.{◌≡◌, ◌≤◌, length, take};
 ghost use Rattle.pad.specs.States.{pad_values, pad_value};
 
-use crate::choice::element_value;
+use crate::choice::{all_bests, element_value};
 use crate::events::ELEMENTS;
 use crate::state::{HELD_MAX, Pad};
-use crate::telling::{element_at, place_of};
+use crate::telling::place_of;
 use line::ev::AxisOrBtn;
 use line::mapping::CODES_MAX;
 
@@ -38,9 +38,10 @@ pub fn value_of(pad: &Pad, element: AxisOrBtn) -> i16
 pub fn all_values(pad: &Pad) -> [i16; ELEMENTS]
     ensures { result ≡ pad_values pad.now }
 {
+    let bests = all_bests(codes(pad), rows(pad));
     let mut values = [0i16; ELEMENTS];
     for k in 0..ELEMENTS {
-        values[k] = element_value(codes(pad), rows(pad), element_at(k));
+        values[k] = bests[k].map_or(0, |best| best.value);
     }
     values
 }

@@ -8,25 +8,26 @@ use Rattle.pad.specs.TwoPads.{pad_of, pads_raw_event_of}
 use Rattle.pad.specs.Inner.{caught}
 use Rattle.pad.proofs.TwoLaws.{raw_done, raw_away, beside_after, same_after}
 use Rattle.pad.proofs.two.Pads.raw_event.Goals as goal
+use Rattle.pad.proofs.two.Pads.raw_event.Goals.{in-Ok, in-Err}
 
-pub returns-in-Ok : goal.returns-in-Ok
+pub returns : goal.returns
 unfolding pads_raw_event_of
-returns-in-Ok c =
-    let t = c.in-Ok.ensures.told in
-    let there = c.put.ensures.there in (
-      raw_done c.args.which c.args.self (pad_of c.args.which c.args.self) c.beside.result.now refl
-          (c.beside.ensures ∙ beside_after c.args.which c.args.self c.put.new.self there) c.args.code c.args.raw
-          (pad_of c.args.which c.put.new.self) c.put.new.self c.in-Ok.change c.events_of.result there t.0 t.1
-          (c.events_of.ensures ∙ ap (λ (v : Option Event). events_in (caught v [])) c.joined_change.ensures),
-      c.put.ensures.within,
-    )
-
-pub returns-in-Err : goal.returns-in-Err
-unfolding pads_raw_event_of
-returns-in-Err c =
-    let t = c.in-Err.ensures.told in (
-      rw (same_after c.args.which c.args.self c.put.new.self c.put.ensures.there t.1)
-          (raw_away c.args.which c.args.self (pad_of c.args.which c.args.self) _ refl refl c.args.code c.args.raw c.in-Err.e
-          c.none.result t.0 c.none.ensures),
-      c.put.ensures.within,
-    )
+returns c =
+    let there = c.put.ensures.there in
+    let events = c.events_of.ensures ∙ ap (λ (v : Option Event). events_in (caught v [])) c.joined_change.ensures in
+    elim c.match-put.branch [
+      | in-Ok w ↦ (
+        rw w.answer-is
+            (raw_done c.args.which c.args.self (pad_of c.args.which c.args.self) c.beside.result.now refl
+            (c.beside.ensures ∙ beside_after c.args.which c.args.self c.put.new.self there) c.args.code c.args.raw
+            (pad_of c.args.which c.put.new.self) c.put.new.self w.in-Ok.change c.events_of.result there
+            w.in-Ok.ensures.told.0 w.in-Ok.ensures.told.1 (rw w.answer-is at events)),
+        c.put.ensures.within,
+      )
+      | in-Err w ↦ (
+        rw (w.answer-is, same_after c.args.which c.args.self c.put.new.self there w.in-Err.ensures.told.1)
+            (raw_away c.args.which c.args.self (pad_of c.args.which c.args.self) _ refl refl c.args.code c.args.raw w.in-Err.e
+            c.events_of.result w.in-Err.ensures.told.0 (rw w.answer-is at events)),
+        c.put.ensures.within,
+      )
+    ]
