@@ -13,6 +13,9 @@ PLAIN = {ctypes.c_uint8: "uint8_t", ctypes.c_uint16: "uint16_t", ctypes.c_uint32
 
 # Structs whose C name is not their own: a map with a refusal is one struct in C.
 RATTLE = {name: "answer" for name in ("FlatPut", "FlatReading", "FlatDefault", "FlatSaved")}
+
+# The crates whose structs C programs hold: exports, and the layers that it stands on.
+CROSSING = ("text", "line", "map", "pad", "store", "exports")
 RUST = {"AxisNumber": "axis", "MappingData": "data"}
 
 
@@ -47,7 +50,8 @@ def named(text):
 
 
 def rattle():
-    text = "\n".join(path.read_text() for path in sorted(Path("crates/exports/src").glob("*.rt")))
+    sources = [path for crate in CROSSING for path in sorted(Path(f"crates/{crate}/src").rglob("*.rt"))]
+    text = "\n".join(path.read_text() for path in sources)
     structs, calls = {}, {}
     for m in re.finditer(r"#\[repr\(C\)\]\n(?:#\[derive[^\n]*\n)?pub struct (\w+) \{(.*?)\n\}", text, re.S):
         fields = [(name, plain_type(kind, RATTLE)) for name, kind in named(m[2])]

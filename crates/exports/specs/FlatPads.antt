@@ -5,10 +5,8 @@ use Rattle.text.specs.Bytes.{pick}
 use Rattle.pad.specs.declared.events.Raw.{Raw}
 use Rattle.pad.specs.declared.events.Raw.TheVariants as Rw
 use Rattle.pad.specs.declared.events.Event.{Event}
-use Rattle.pad.specs.declared.state.Pad.{Pad}
 use Rattle.pad.specs.declared.state.Told.{Told}
 use Rattle.pad.specs.Refusals.{pad_outcome}
-use Rattle.exports.specs.declared.state_calls.FlatPad.{FlatPad}
 use Rattle.exports.specs.declared.state_calls.FlatEvent.{FlatEvent}
 use Rattle.exports.specs.declared.state_calls.FlatTold.{FlatTold}
 use Rattle.exports.specs.declared.pad_calls.FlatValue.{FlatValue}
@@ -28,15 +26,7 @@ flat_emitted (Some e) = record { found = true; element = flat_element e.element;
 flat_emitted None =
     record { found = false; element = record { is_axis = false; number = 0 }; value = pos 0 }
 
--- ---- a pad's state: its numbers as they are
-abbrev pub flat_pad : Pad → FlatPad
-flat_pad p =
-    record { count = p.count; held = p.held; entry_count = p.entry_count; entries = p.entries }
-
-abbrev pub pad_in : FlatPad → Pad
-pad_in p =
-    record { count = p.count; held = p.held; entry_count = p.entry_count; entries = p.entries }
-
+-- ---- what a call on a pad tells: the state after it is the layer's own struct, which C programs hold too
 abbrev pub flat_event : Event → FlatEvent
 flat_event e = record { element = flat_element e.element; value = e.value }
 
@@ -44,7 +34,7 @@ unfoldable pub flat_told : Told → FlatTold
 flat_told t =
     record {
       refusal = flat_outcome (pad_outcome t.answer);
-      pad = flat_pad t.pad;
+      pad = t.pad;
       count = t.events.count;
       events = map flat_event t.events.list;
     }

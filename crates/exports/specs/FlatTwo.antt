@@ -2,31 +2,23 @@
 -- The contracts of the exports rest on these definitions; they assume nothing.
 use Rattle.std.specs.Prelude.{Bool, map}
 use Rattle.text.specs.Bytes.{pick}
-use Rattle.pad.specs.declared.two.Pads.{Pads}
 use Rattle.pad.specs.declared.two.Which.{Which}
 use Rattle.pad.specs.declared.two.Which.TheVariants as Wh
 use Rattle.pad.specs.declared.two.PadsTold.{PadsTold}
 use Rattle.pad.specs.Refusals.{pad_outcome}
-use Rattle.exports.specs.declared.two_calls.FlatPads.{FlatPads}
 use Rattle.exports.specs.declared.two_calls.FlatPadsTold.{FlatPadsTold}
 use Rattle.exports.specs.Flat.{flat_outcome}
-use Rattle.exports.specs.FlatPads.{flat_pad, pad_in, flat_event}
+use Rattle.exports.specs.FlatPads.{flat_event}
 
 -- the pad that a call is for, by the flag "second"
 abbrev pub which_of : Bool → Which
 which_of second = pick second Wh.Second Wh.First
 
-abbrev pub flat_pads : Pads → FlatPads
-flat_pads p = record { first = flat_pad p.first; second = flat_pad p.second }
-
-abbrev pub pads_in : FlatPads → Pads
-pads_in p = record { first = pad_in p.first; second = pad_in p.second }
-
 unfoldable pub flat_pads_told : PadsTold → FlatPadsTold
 flat_pads_told t =
     record {
       refusal = flat_outcome (pad_outcome t.answer);
-      pads = flat_pads t.pads;
+      pads = t.pads;
       count = t.events.count;
       events = map flat_event t.events.list;
     }

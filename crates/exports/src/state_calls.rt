@@ -7,26 +7,15 @@ ghost use Rattle.pad.specs.States.{new_pad, raw_event_of, change_map_of, pad_val
 ghost use Rattle.pad.specs.PadGuarantee.{ShortAll};
 ghost use Rattle.exports.specs.Flat.{element_of};
 ghost use Rattle.exports.specs.FlatMaps.{mapping_in};
-ghost use Rattle.exports.specs.FlatPads.{raw_of, flat_pad, pad_in, flat_event, flat_told};
+ghost use Rattle.exports.specs.FlatPads.{raw_of, flat_event, flat_told};
 
 use crate::flat::{FlatElement, FlatRefusal};
 use crate::flat_mapping::FlatMapping;
 use crate::pad_calls::raw_of;
 use line::ev::Code;
-use line::mapping::CODES_MAX;
 use pad::events::{ELEMENTS, Event};
-use pad::state::{HELD_MAX, Pad, Told, pad_outcome};
+use pad::state::{Pad, Told, pad_outcome};
 use std::array;
-
-// A pad's state: its numbers as they are.
-#[repr(C)]
-#[derive(Clone, Copy)]
-pub struct FlatPad {
-    pub count: usize,
-    pub held: [u64; HELD_MAX],
-    pub entry_count: usize,
-    pub entries: [u64; CODES_MAX],
-}
 
 #[repr(C)]
 #[derive(Clone, Copy)]
@@ -40,48 +29,9 @@ pub struct FlatEvent {
 #[derive(Clone, Copy)]
 pub struct FlatTold {
     pub refusal: FlatRefusal,
-    pub pad: FlatPad,
+    pub pad: Pad,
     pub count: usize,
     pub events: [FlatEvent; ELEMENTS],
-}
-
-impl From<Pad> for FlatPad {
-    ghost from_gives = { λ p f. f ≡ flat_pad p };
-
-    fn from(p: Pad) -> FlatPad {
-        let Pad {
-            count,
-            held,
-            entry_count,
-            entries,
-        } = p;
-        FlatPad {
-            count,
-            held,
-            entry_count,
-            entries,
-        }
-    }
-}
-
-// The way back: C's struct of a pad is not the layer's, and has the same four parts.
-impl From<FlatPad> for Pad {
-    ghost from_gives = { λ f p. p ≡ pad_in f };
-
-    fn from(f: FlatPad) -> Pad {
-        let FlatPad {
-            count,
-            held,
-            entry_count,
-            entries,
-        } = f;
-        Pad {
-            count,
-            held,
-            entry_count,
-            entries,
-        }
-    }
 }
 
 impl From<Event> for FlatEvent {
@@ -101,7 +51,7 @@ impl From<Told> for FlatTold {
     fn from(t: Told) -> FlatTold {
         FlatTold {
             refusal: pad_outcome(t.answer).into(),
-            pad: t.pad.into(),
+            pad: t.pad,
             count: t.events.count,
             events: array::from_fn(|i| t.events.list[i].into()),
         }
@@ -109,29 +59,29 @@ impl From<Told> for FlatTold {
 }
 
 #[unsafe(no_mangle)]
-pub extern "C" fn raspteal_pad_new() -> FlatPad
-    ensures { result ≡ flat_pad new_pad }
+pub extern "C" fn raspteal_pad_new() -> Pad
+    ensures { result ≡ new_pad }
 {
-    Pad::new().into()
+    Pad::new()
 }
 
 #[unsafe(no_mangle)]
-pub extern "C" fn raspteal_pad_raw_event(pad: FlatPad, code: u32, raw: u8, v: i16) -> FlatTold
-    ensures { (result ≡ flat_told (raw_event_of (pad_in pad) (code_of code) (raw_of raw v))) × RawWithin (raw_of raw v) }
+pub extern "C" fn raspteal_pad_raw_event(pad: Pad, code: u32, raw: u8, v: i16) -> FlatTold
+    ensures { (result ≡ flat_told (raw_event_of pad (code_of code) (raw_of raw v))) × RawWithin (raw_of raw v) }
 {
-    Pad::from(pad).raw_event(Code(code), raw_of(raw, v)).into()
+    pad.raw_event(Code(code), raw_of(raw, v)).into()
 }
 
 #[unsafe(no_mangle)]
-pub extern "C" fn raspteal_pad_change_map(pad: FlatPad, map: FlatMapping) -> FlatTold
-    ensures { (result ≡ flat_told (change_map_of (pad_in pad) (mapping_in map))) × ShortAll (held (mapping_in map)) }
+pub extern "C" fn raspteal_pad_change_map(pad: Pad, map: FlatMapping) -> FlatTold
+    ensures { (result ≡ flat_told (change_map_of pad (mapping_in map))) × ShortAll (held (mapping_in map)) }
 {
-    Pad::from(pad).change_map(map.into()).into()
+    pad.change_map(map.into()).into()
 }
 
 #[unsafe(no_mangle)]
-pub extern "C" fn raspteal_pad_value(pad: FlatPad, e: FlatElement) -> i16
-    ensures { result ≡ pad_value (pad_in pad) (element_of e) }
+pub extern "C" fn raspteal_pad_value(pad: Pad, e: FlatElement) -> i16
+    ensures { result ≡ pad_value pad (element_of e) }
 {
-    Pad::from(pad).value(e.into())
+    pad.value(e.into())
 }

@@ -8,32 +8,24 @@ ghost use Rattle.pad.specs.TwoPads.{new_pads, pads_raw_event_of, pads_change_map
 ghost use Rattle.exports.specs.Flat.{element_of};
 ghost use Rattle.exports.specs.FlatMaps.{mapping_in};
 ghost use Rattle.exports.specs.FlatPads.{raw_of};
-ghost use Rattle.exports.specs.FlatTwo.{which_of, flat_pads, pads_in, flat_pads_told};
+ghost use Rattle.exports.specs.FlatTwo.{which_of, flat_pads_told};
 
 use crate::flat::{FlatElement, FlatRefusal};
 use crate::flat_mapping::FlatMapping;
 use crate::pad_calls::raw_of;
-use crate::state_calls::{FlatEvent, FlatPad};
+use crate::state_calls::FlatEvent;
 use line::ev::Code;
 use pad::events::ELEMENTS;
 use pad::state::pad_outcome;
 use pad::two::{Pads, PadsTold, Which};
 use std::array;
 
-// The pads of one player.
-#[repr(C)]
-#[derive(Clone, Copy)]
-pub struct FlatPads {
-    pub first: FlatPad,
-    pub second: FlatPad,
-}
-
 // The state after a call, and its events: the first `count` of the list. FlatTold with two pads: C has no generic structs.
 #[repr(C)]
 #[derive(Clone, Copy)]
 pub struct FlatPadsTold {
     pub refusal: FlatRefusal,
-    pub pads: FlatPads,
+    pub pads: Pads,
     pub count: usize,
     pub events: [FlatEvent; ELEMENTS],
 }
@@ -45,36 +37,13 @@ fn which_of(second: bool) -> Which
     if second { Which::Second } else { Which::First }
 }
 
-impl From<Pads> for FlatPads {
-    ghost from_gives = { λ p f. f ≡ flat_pads p };
-
-    fn from(p: Pads) -> FlatPads {
-        FlatPads {
-            first: p.first.into(),
-            second: p.second.into(),
-        }
-    }
-}
-
-// The way back: C's struct of two pads is not the layer's.
-impl From<FlatPads> for Pads {
-    ghost from_gives = { λ f p. p ≡ pads_in f };
-
-    fn from(f: FlatPads) -> Pads {
-        Pads {
-            first: f.first.into(),
-            second: f.second.into(),
-        }
-    }
-}
-
 impl From<PadsTold> for FlatPadsTold {
     ghost from_gives = { λ t f. f ≡ flat_pads_told t };
 
     fn from(t: PadsTold) -> FlatPadsTold {
         FlatPadsTold {
             refusal: pad_outcome(t.answer).into(),
-            pads: t.pads.into(),
+            pads: t.pads,
             count: t.events.count,
             events: array::from_fn(|i| t.events.list[i].into()),
         }
@@ -82,45 +51,42 @@ impl From<PadsTold> for FlatPadsTold {
 }
 
 #[unsafe(no_mangle)]
-pub extern "C" fn raspteal_pads_new() -> FlatPads
-    ensures { result ≡ flat_pads new_pads }
+pub extern "C" fn raspteal_pads_new() -> Pads
+    ensures { result ≡ new_pads }
 {
-    Pads::new().into()
+    Pads::new()
 }
 
 #[unsafe(no_mangle)]
 pub extern "C" fn raspteal_pads_raw_event(
-    pads: FlatPads,
+    pads: Pads,
     second: bool,
     code: u32,
     raw: u8,
     v: i16,
 ) -> FlatPadsTold
-    ensures { (result ≡ flat_pads_told (pads_raw_event_of (pads_in pads) (which_of second) (code_of code) (raw_of raw v)))
+    ensures { (result ≡ flat_pads_told (pads_raw_event_of pads (which_of second) (code_of code) (raw_of raw v)))
         × RawWithin (raw_of raw v) }
 {
-    Pads::from(pads)
-        .raw_event(which_of(second), Code(code), raw_of(raw, v))
+    pads.raw_event(which_of(second), Code(code), raw_of(raw, v))
         .into()
 }
 
 #[unsafe(no_mangle)]
 pub extern "C" fn raspteal_pads_change_map(
-    pads: FlatPads,
+    pads: Pads,
     second: bool,
     map: FlatMapping,
 ) -> FlatPadsTold
-    ensures { (result ≡ flat_pads_told (pads_change_map_of (pads_in pads) (which_of second) (mapping_in map)))
+    ensures { (result ≡ flat_pads_told (pads_change_map_of pads (which_of second) (mapping_in map)))
         × ShortAll (held (mapping_in map)) }
 {
-    Pads::from(pads)
-        .change_map(which_of(second), map.into())
-        .into()
+    pads.change_map(which_of(second), map.into()).into()
 }
 
 #[unsafe(no_mangle)]
-pub extern "C" fn raspteal_pads_value(pads: FlatPads, e: FlatElement) -> i16
-    ensures { result ≡ pads_value (pads_in pads) (element_of e) }
+pub extern "C" fn raspteal_pads_value(pads: Pads, e: FlatElement) -> i16
+    ensures { result ≡ pads_value pads (element_of e) }
 {
-    Pads::from(pads).value(e.into())
+    pads.value(e.into())
 }

@@ -21,6 +21,8 @@ pub const HELD_MAX: usize = 256;
 // Held codes and the entries of the map, as numbers. Any numbers mean something: counts over 256 are read as 256.
 // The counts stand beside the arrays, and the codes are numbers, since a C program holds the same struct and hands it
 // in: a `Held` could not hold each number that may come in, and would ask more of that program.
+// repr(C): C programs hold the same struct.
+#[repr(C)]
 #[derive(Clone, Copy)]
 pub struct Pad {
     pub count: usize,

@@ -15,7 +15,8 @@ use crate::values::value_of;
 use line::ev::{AxisOrBtn, Code};
 use line::mapping::Mapping;
 
-// The pads of one player.
+// The pads of one player. repr(C): C programs hold the same struct.
+#[repr(C)]
 #[derive(Clone, Copy)]
 pub struct Pads {
     pub first: Pad,

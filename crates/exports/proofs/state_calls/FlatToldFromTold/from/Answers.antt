@@ -11,5 +11,4 @@ returns c =
       laid flat_event _ _ c.args.t.events.list c.from_fn.result 27 no_event c.from_fn.ensures.items (search rules) (λ i y q l e. (search rules, search rules)),
       c.into.ensures,
       c.pad_outcome.ensures,
-      c.into-2.ensures,
     )
