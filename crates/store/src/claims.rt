@@ -31,7 +31,6 @@ pub fn claimed(dues: Dues, used: usize) -> usize
     dues.others + larger_of(used - dues.theirs, dues.share)
 }
 
-<<<<<<< HEAD
 // The lines that are written down under the first `count` numbers. Their bytes are no more than those of a text.
 #[derive(Clone, Copy)]
 pub struct Listed<'a> {
@@ -46,23 +45,10 @@ impl Listed<'_> {
         requires { uses.old ≡ no_shares }
         ensures { Adds self.now.rows.now self.now.count uses.new }
     {
-        for k in 0..self.count {
-            let row = self.rows[k];
+        for row in &self.rows[..self.count] {
             let o = row.key.owner as usize;
             uses[o] += row.len as u16;
         }
-=======
-// Adds up the bytes of each owner's lines, of the first `count` rows. The rows and their count are two parameters here
-// and in sharing.rt: a struct would hold a borrow, or a copy of the rows, for one fact that `addable` names.
-pub fn add_uses(rows: &[Row; ROWS], count: usize, uses: &mut [u16; OWNERS])
-    requires uses_value { uses.old ≡ no_shares }
-    requires addable { Addable rows.now count }
-    ensures { Adds rows.now count uses.new }
-{
-    for row in &rows[..count] {
-        let o = row.key.owner as usize;
-        uses[o] += row.len as u16;
->>>>>>> sts/main
     }
 }
 
