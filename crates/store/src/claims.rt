@@ -45,7 +45,8 @@ impl Listed<'_> {
         requires { uses.old ≡ no_shares }
         ensures { Adds self.now.rows.now self.now.count uses.new }
     {
-        for row in &self.rows[..self.count] {
+        let rows = self.rows;
+        for row in &rows[..self.count] {
             let o = row.key.owner as usize;
             uses[o] += row.len as u16;
         }
