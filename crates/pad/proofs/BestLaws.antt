@@ -1,20 +1,16 @@
 -- The code and the value of each element, from the last held code on. Assumes nothing.
 use Rattle.std.specs.Prelude.{Option, Some, None, get_or}
-use Prim.Native.Nat.{ℕ, ◌+◌, ◌<◌, ◌≤◌}
+use Prim.Native.Nat.{ℕ, ◌+◌, ◌<◌}
 use mathlib.Core.Path.{◌≡◌, refl, sym, ap, ◌∙◌}
 use mathlib.Core.Bool.{Bool, true, false}
 use mathlib.Core.List.{List, ◌∷◌, map}
-use native.Mathlib.Omega.{arith}
 use native.Mathlib.Numerals.{add-one}
-use borrow.Author.Tests.{eqb-true, eqb-false, eq-eqb}
-use lib.Dec.{eqb}
 use lib.IntN.{ℤ}
-use lib.ListN.{length, drop, set, replicate}
+use lib.ListN.{length, drop, replicate}
 use lib.Seq.{drop-cons}
-use Rattle.std.proofs.lemmas.List.{get_or-set_same, get_or-set_other, get_or-replicate}
+use Rattle.std.proofs.lemmas.List.{get_or-replicate}
 use Rattle.text.specs.Bytes.{pick}
 use Rattle.line.specs.declared.ev.AxisOrBtn.{AxisOrBtn}
-use Rattle.line.specs.declared.ev.AxisOrBtn.TheVariants as El
 use Rattle.line.specs.declared.mapping.Entry.{Entry}
 use Rattle.line.specs.Elements.{same_element}
 use Rattle.line.specs.Maps.{entry_at}
@@ -23,11 +19,10 @@ use Rattle.pad.specs.declared.events.Raw.{Raw}
 use Rattle.pad.specs.declared.events.Held.{Held}
 use Rattle.pad.specs.declared.events.Event.{Event}
 use Rattle.pad.specs.Values.{entry_value, emitted_of, emitted_in, event_of}
-use Rattle.pad.specs.Pads.{given_by, Chosen, preferred, prefer, choose, element_at, place_of}
+use Rattle.pad.specs.Pads.{given_by, Chosen, preferred, prefer, choose, element_at}
 use Rattle.pad.specs.States.{held_in}
 use Rattle.pad.specs.Inner.{chosen_by, AllChosen, event_counted, CountsIn}
 use Rattle.pad.proofs.NumberLaws.{none_yet}
-use Rattle.pad.proofs.PlaceLaws.{element_place, other_element}
 
 -- ---- the event of a held code, and what it gives to an element
 abbrev given_in : Option Event → AxisOrBtn → Option ℤ
@@ -85,33 +80,3 @@ none_chosen xs es k l =
 pub all_chosen : (xs : List ℕ) (i : ℕ) (es : List Entry) (bests : List (Option Best)) → i ≡ 0
     → AllChosen (map held_in (drop i xs)) es bests → AllChosen (map held_in xs) es bests
 all_chosen xs i es bests e all k l = rw e at all k l
-
--- ---- the place of the element
-same_itself : (el : AxisOrBtn) → same_element el el ≡ true
-same_itself (El.Axis a) = eq-eqb a.0 a.0 refl
-same_itself (El.Btn b) = eq-eqb b.0 b.0 refl
-
-module _ (code : ℕ) (e : Event) (bests : List (Option Best)) where
-  pub counted_away : 27 ≤ place_of e.element → CountsIn code e bests bests
-  counted_away a k l = rw (other_element e.element k l (λ w. omega (arith, w)))
-
-  pub counted_there : (p : ℕ) (b : Best) → p ≡ place_of e.element → p < 27 → length bests ≡ 27
-      → chosen_by (Some b) ≡ preferred code e.value (chosen_by (get_or bests p None))
-      → CountsIn code e bests (set bests p (Some b))
-  counted_there p b at lt long is k l = by (eqb k p) refl
-    where
-      here : k ≡ p → same_element e.element (element_at k) ≡ true
-      here w =
-          ap (λ (el : AxisOrBtn). same_element e.element el)
-          (ap (λ (j : ℕ). element_at j) (w ∙ at) ∙ element_place e.element (omega (arith, at)))
-          ∙ same_itself e.element
-
-      by : (t : Bool) → eqb k p ≡ t
-          → chosen_by (get_or (set bests p (Some b)) k None)
-          ≡ event_counted code e (element_at k) (chosen_by (get_or bests k None))
-      by true t =
-          let w = eqb-true k p t in
-          rw (here w, w, get_or-set_same bests p (Some b) None (omega (arith, long))) is
-      by false t =
-          let d = eqb-false k p t in
-          rw (other_element e.element k l (λ w. d (w ∙ sym at)), get_or-set_other bests p k (Some b) None d)
