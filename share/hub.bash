@@ -2,20 +2,21 @@
 _hub() {
     local word=${COMP_WORDS[COMP_CWORD]} words=
     if [ "$COMP_CWORD" -eq 1 ]; then
-        words="new insert save find show test list check share shares clear undo lint default demo help edit remove export tidy pad"
+        words="new insert save edit remove find show test list export check share shares clear undo lint tidy pad default demo help"
     else
         case ${COMP_WORDS[1]} in
-        insert) words="party= only=" ;;
+        insert) words="only= party=" ;;
         save) words="anyway axes= buttons= party=" ;;
-        find) words="party=" ;;
-        show) words="axes= buttons= party=" ;;
-        test) words="after2= after= axes2= axes= buttons2= buttons= from= party= uuid2= with= events= seconds=" ;;
-        default) words="--csv axes= buttons= layout" ;;
-        help) words="new insert save find show test list check share shares clear undo lint default demo help edit remove export tidy pad elements" ;;
         edit) words="party=" ;;
         remove) words="party=" ;;
+        find) words="party=" ;;
+        show) words="axes= buttons= party=" ;;
+        test) words="after2= after= axes2= axes= buttons2= buttons= events= from= party= seconds= uuid2= with=" ;;
+        list) words="long" ;;
         export) words="digits party=" ;;
         pad) words="from=" ;;
+        default) words="--csv axes= buttons= layout" ;;
+        help) words="new insert save edit remove find show test list export check share shares clear undo lint tidy pad default demo help elements" ;;
         esac
     fi
     mapfile -t COMPREPLY < <(compgen -W "$words" -- "$word")

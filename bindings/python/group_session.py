@@ -51,14 +51,19 @@ class Cases(unittest.TestCase):
         """What hub says of its own store file, hub-group says of the group's store, and the other way round."""
         if not (ROOT / "crates/hub/out/hub").exists():
             self.skipTest("no program crates/hub/out/hub")
-        replay("hub-group init beside; hub new beside; printf '%s,A,a:b0,-lefty:a0~\n' " + PAD + " > list")
+        replay("hub-group init beside; hub new beside")
+        replay("printf '%s,A,a:b0,-lefty:a0~,+x:+a1,dpup:h0.1\n' " + PAD + " > list")
         for call in (["insert", "list"], ["find", PAD], ["find", PAD[:4] + "abcd" + PAD[8:]], ["find", "2" + PAD[1:]],
-                     ["show", PAD, *LISTS], ["save", PAD, "Größe", *LISTS, "a=10131", "leftx=30000"], ["show", PAD],
+                     ["show", PAD], ["show", PAD, *LISTS], ["save", PAD, "Größe", *LISTS, "a=10131", "leftx=30000"],
+                     ["show", PAD],
                      ["save", PAD, "a,b", *LISTS, "a=10130"], ["save", PAD, "T", *LISTS, "x=30000", "anyway"],
                      ["save", PAD, "T", *LISTS, "b=10130", "party=9"], ["find", PAD, "party=9"],
                      ["save", PAD, "T", *LISTS, "DPadX=30000"], ["save", PAD, "T", *LISTS, "DPadX=30005"],
                      ["save", PAD, "T", "misc1=10130", "buttons=10130"],
-                     ["find", PAD, "party=0"], ["find", "7"], ["save", PAD, "T", *LISTS], ["show", PAD, "a=10130"]):
+                     ["find", PAD, "party=0"], ["find", "7"], ["find", "gR"], ["find", ""], ["find", "t", "party=9"],
+                     ["find", "x", "party=8"], ["find", "x", "party=0"], ["find", "\x1b[1m"], ["find", "a,b"],
+                     ["save", PAD, "Bare", "buttons=10130", "anyway"], ["show", PAD],
+                     ["save", PAD, "T", *LISTS], ["show", PAD, "a=10130"]):
             with self.subTest(call):
                 own, shared = (subprocess.run([program, call[0], "beside", *call[1:]], capture_output=True,
                                               cwd=room.name) for program in ("hub", "hub-group"))
@@ -66,7 +71,7 @@ class Cases(unittest.TestCase):
                 # hub counts an insert's lines by what became of them, and names what a save no longer binds
                 heads = [re.split(rb" lines walked|no longer bound", told.stdout)[0] for told in (shared, own)]
                 self.assertEqual(heads[0], heads[1])
-                self.assertEqual(shared.stderr, own.stderr)
+                self.assertEqual(shared.stderr.replace(b"hub-group export", b"hub list"), own.stderr)
         replay("hub-group pull beside pulled")
         self.assertEqual(*((Path(room.name) / name).read_bytes() for name in ("pulled", "beside")))
 

@@ -6,7 +6,7 @@ import sys
 import time
 from pathlib import Path
 
-from hub_words import Arguments, WrongUse, complain, complain_refused, pad_of, say, say_map, shown
+from hub_words import Arguments, WrongUse, complain, complain_refused, pad_of, say, say_map, say_pairs, shown
 from raspteal import Mapping, Refused, Uuid
 from raspteal_group import WAIT, GroupStore, Trouble, Unknown, create
 
@@ -21,8 +21,8 @@ HELP = """hub-group: mapping lines of game pads, in a hall group's stores
   hub-group init STORE                 makes a fresh store in the database
   hub-group insert STORE FILE          files the lines of a list
   hub-group save STORE UUID NAME ..    builds a mapping and files it
-  hub-group find STORE UUID            prints the line held under a UUID
-  hub-group show STORE UUID ..         reads that line, and prints its map
+  hub-group find STORE UUID|TEXT       prints the line held under a UUID, or those with TEXT in the name
+  hub-group show STORE UUID ..         reads a line that is held, and prints its map, or its pairs
   hub-group export STORE               prints the lines held, as a list
   hub-group pull STORE FILE            writes a hub's own store file
   hub-group share STORE PARTY BYTES    gives a party a share of the text that others can't fill
@@ -52,11 +52,14 @@ MANUAL = {
   Builds a mapping line for the pad and files it; prints the line and its map, and where it takes
   the place of another line, that line. 'hub help save' says how CODES and ELEMENTs are written.
   Not saved unless 'anyway' is added: a line with no element, and one that gives a code to two.""",
-    "find": """hub-group find STORE UUID [party=NUMBER]
-  Prints the line held under that UUID, or says 'none'. Where only the UUID without its checksum
-  (zeros in digits 5 to 8) is held, its line is printed, and 'near' said on standard error.""",
-    "show": """hub-group show STORE UUID buttons=CODES axes=CODES [party=NUMBER]
-  Reads the line held under that UUID with the pad's codes, and prints it with its map.""",
+    "find": """hub-group find STORE UUID|TEXT [party=NUMBER]
+  Prints the line held under that UUID, or says 'none'. What is no UUID is sought in the names,
+  capital letters or not, and every line that has it there is printed. Where only the UUID without
+  its checksum (zeros in digits 5 to 8) is held, its line is printed, and 'near' said on standard
+  error.""",
+    "show": """hub-group show STORE UUID [buttons=CODES axes=CODES] [party=NUMBER]
+  Reads the line held under that UUID with the pad's codes, and prints it with its map; without
+  lists it says so, and prints the line's pairs.""",
     "export": """hub-group export STORE [party=NUMBER]
   Prints the hall's lines, or those of organiser NUMBER, in the order in which they were filed: a
   list that 'hub insert' and 'hub-group insert' take.""",
@@ -184,8 +187,27 @@ def save(name, key, title, *words):
     return DONE
 
 
+def find_named(store, part, party):
+    """The lines of a party whose names have that part, capital letters of ASCII or not."""
+    store.found(NIL, party)
+    lines = [line for owner, line in store.lines() if owner == (party or 0)]
+    found = [line for line in lines if part.lower() in (line.split(b",") + [b""])[1].lower()]
+    for line in found:
+        say(shown(line))
+    if not found:
+        complain("none: no line of ", f"party {party}" if party else "the hall", " has '", shown(part), "' in its name, "
+                 "and it is no UUID, which has 32 hexadecimal digits, or 36 characters with hyphens; hub-group export shows "
+                 "what is held")
+    return DONE if found else REFUSED
+
+
 def find(name, key, *words):
-    line = near_line(GroupStore(name), pad_of(key), Arguments(words).party)
+    party, store = Arguments(words).party, GroupStore(name)
+    try:
+        pad = Uuid(os.fsencode(key))
+    except ValueError:
+        return find_named(store, os.fsencode(key), party)
+    line = near_line(store, pad, party)
     if line is None:
         return REFUSED
     say(shown(line))
@@ -198,7 +220,10 @@ def show(name, key, *words):
     if line is None:
         return REFUSED
     say(shown(line))
-    say_map(Mapping.read(line, asked.buttons, asked.axes), line)
+    if asked.buttons or asked.axes:
+        say_map(Mapping.read(line, asked.buttons, asked.axes), line)
+    else:
+        say_pairs(line)
     return DONE
 
 

@@ -2,7 +2,7 @@
 import os
 import sys
 
-from raspteal import FULL, UPPER_HALF, Element, Uuid
+from raspteal import AXIS, BUTTON, FULL, UPPER_HALF, Element, Uuid, pairs
 
 # The source's names of buttons and axes, by number.
 NAMES = {
@@ -67,12 +67,27 @@ def named(element):
     return name if " " in str(element) else f"{name} ({element})"
 
 
+def bound(e):
+    """`RightTrigger2 (righttrigger), upper half in, inverted`"""
+    halves = [f", {'upper' if half == UPPER_HALF else 'lower'} half {side}"
+              for half, side in ((e.input, "in"), (e.output, "out")) if half != FULL]
+    return named(e.element) + "".join(halves) + (", inverted" if e.inverted else "")
+
+
+def say_pairs(line):
+    """The pairs of a line, where no codes are given."""
+    told = pairs(line)
+    say("no lists are given (buttons=.., axes=..), ",
+        "so these are the pairs of the line:" if told else "and the line has no pairs")
+    for p in told:
+        kind = {AXIS: "axis", BUTTON: "button"}.get(p.kind, "hat")
+        say(f"{kind} {p.number}", f", direction {p.direction}" if kind == "hat" else "", f"  {bound(p)}")
+
+
 def say_map(map, line):
     """The entries, then name, hat flags and default flag."""
     for e in map:
-        halves = [f", {'upper' if half == UPPER_HALF else 'lower'} half {side}"
-                  for half, side in ((e.input, "in"), (e.output, "out")) if half != FULL]
-        say(f"{e.code:x}  {named(e.element)}", *halves, ", inverted" if e.inverted else "")
+        say(f"{e.code:x}  {bound(e)}")
     say("name '", shown(map.name_in(line)), f"', hat flags {map.hats_mapped}, "
         f"default {'on' if map.is_default else 'off'}")
 

@@ -23,6 +23,7 @@ from pathlib import Path
 CODES_MAX, LINE_MAX, INDEX_MAX, TEXT_MAX, BUTTONS, AXES = 256, 16384, 65535, 65535, 20, 9
 HELD_MAX, ELEMENTS = 256, 27
 LOWER_HALF, UPPER_HALF, FULL = 0, 1, 2
+AXIS, BUTTON, HAT = 5, 6, 7
 
 MEANINGS = {
     1: "the first field is no UUID",
@@ -92,6 +93,11 @@ inserted = struct("inserted", ("refusal", refusal), ("count", c_size_t), ("not_s
 look = struct("look", ("refusal", refusal), ("found", c_bool))
 near_look = struct("near_look", ("refusal", refusal), ("how", c_uint8))
 share = struct("share", ("refusal", refusal), ("share", c_size_t), ("used", c_size_t))
+pair = struct("pair", ("from", c_uint16), ("direction", c_uint16), ("to", element), ("input", c_uint8),
+              ("output", c_uint8), ("inverted", c_bool))
+token = struct("token", ("kind", c_uint8), ("refusal", refusal), ("id", uuid), ("start", c_size_t), ("len", c_size_t),
+               ("pair", pair))
+step = struct("step", ("token", token), ("pos", c_size_t), ("state", c_uint8))
 
 BYTES, CODES = [POINTER(c_uint8), c_size_t], [POINTER(c_uint32), c_size_t]
 STORE, LISTS = BYTES + BYTES, CODES + CODES
@@ -106,6 +112,8 @@ CALLS = {
     "mapping_put": (answer, [mapping, entry]),
     "mapping_map": (mapped, [mapping, c_uint32]),
     "mapping_map_rev": (code, [mapping, element]),
+    "parser_start": (c_uint8, BYTES),
+    "parser_step": (step, [*BYTES, c_size_t, c_uint8]),
     "parse_sdl_mapping": (answer, BYTES + LISTS),
     "data_new": (data, []),
     "data_insert_btn": (changed, [data, c_uint32, c_uint16]),
@@ -274,6 +282,27 @@ class Entry(namedtuple("Entry", "code element input output inverted", defaults=(
         """What a raw value gives to the element, or None."""
         v = call("entry_value", self.flat, *raw)
         return v.value if v.found else None
+
+
+class Pair(namedtuple("Pair", "kind number direction element input output inverted")):
+    """A pair of a line: its kind (AXIS, BUTTON or HAT), its number, a hat's direction; the element with its halves."""
+
+
+def pairs(line):
+    """The pairs of a line that is read, in its order; no codes are asked for."""
+    Mapping.read(line)
+    (held, size), pos, found = lent(line), 0, []
+    state = call("parser_start", held, size)
+    while pos < size:
+        s = call("parser_step", held, size, pos, state)
+        p = s.token.pair
+        if s.token.kind in (AXIS, BUTTON, HAT):
+            source = s.token.kind, getattr(p, "from"), p.direction
+            found.append(Pair(*source, plain(p.to), p.input, p.output, p.inverted))
+        if s.pos <= pos:
+            break
+        pos, state = s.pos, s.state
+    return found
 
 
 class Mapping:

@@ -3,8 +3,8 @@ import threading
 import unittest
 
 import raspteal
-from raspteal import FULL, LOWER_HALF, PRESSED, RELEASED, UPPER_HALF
-from raspteal import Element, Entry, Mapping, Pad, Pads, Refused, Store, Uuid, axis, build
+from raspteal import AXIS, BUTTON, FULL, HAT, LOWER_HALF, PRESSED, RELEASED, UPPER_HALF
+from raspteal import Element, Entry, Mapping, Pad, Pads, Pair, Refused, Store, Uuid, axis, build, pairs
 
 U = "0" * 32
 ONE = Uuid("0" * 31 + "1")
@@ -43,6 +43,14 @@ class Cases(unittest.TestCase):
         self.assertEqual((map.name_in(line).decode(), map.hats_mapped, map.is_default), ("Größe", 1, False))
         self.assertEqual((map.map(0x10131), map.map(5), map.map_rev(SOUTH), map.map_rev(Element(False, 2))),
                          (SOUTH, None, 0x10131, None))
+
+    def test_pairs(self):
+        self.assertEqual(pairs(f"{U},T,a:b7,platform:Linux,-leftx:+a2~,dpup:h0.1,"),
+                         [Pair(BUTTON, 7, 0, SOUTH, FULL, FULL, False),
+                          Pair(AXIS, 2, 0, LEFT_X, UPPER_HALF, LOWER_HALF, True),
+                          Pair(HAT, 0, 1, Element(False, 16), FULL, FULL, False)])
+        self.assertEqual(pairs(f"{U},T"), [])
+        self.refused(6, pairs, f"{U},T,q:b0", place=35)
 
     def test_refused_readings(self):
         for number, line, place in ((1, "q,T", 0), (2, U, 0), (3, f"{U},T,,", 35), (4, f"{U},T,a:b65536", 35),

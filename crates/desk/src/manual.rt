@@ -6,7 +6,7 @@ const NEW: &[u8] = b"hub new STORE
   A file that stands already is left alone.
 ";
 
-const INSERT: &[u8] = b"hub insert STORE FILE [party=NUMBER]
+const INSERT: &[u8] = b"hub insert STORE FILE [only=TEXT] [party=NUMBER]
   Files the lines of a list of at most 1048576 bytes; lines end at LF or CR LF. A line is
   filed when its first field is a UUID, and its 'platform:', if any, says Linux. It takes the
   place of a line that is held under the same UUID. Says how many lines were filed, how many of
@@ -16,6 +16,9 @@ const INSERT: &[u8] = b"hub insert STORE FILE [party=NUMBER]
   line that is too long (20) or has no room (21 in the index, 25 in the text), says at which, and
   keeps the lines before it. A list that is not UTF-8 (10) files nothing. 'hub undo STORE' takes
   an insert back.
+  only=TEXT files of the list only the lines with TEXT in the name or in the UUID, capital letters
+  or not, and those under the UUID that TEXT is; the lines said are those of them. only=pads files
+  those of the pads that are plugged in ('hub help pad').
   party=7 files for league organiser 7, 1 to 255, and takes the place of that organiser's lines
   alone; without it the lines are the hall's. All of them have the room of the store together,
   but for what a share keeps (hub help share).
@@ -50,18 +53,20 @@ const UNDO: &[u8] = b"hub undo STORE
   undo takes the first one back. Where the store is gone, STORE.old is brought back.
 ";
 
-const FIND: &[u8] = b"hub find STORE UUID [party=NUMBER]
+const FIND: &[u8] = b"hub find STORE UUID|TEXT [party=NUMBER]
   Prints the line held under that UUID, or says 'none'. A UUID has 32 hexadecimal digits, or
-  the form with hyphens, also in braces or after 'urn:uuid:'. Recent SDL releases put a
-  checksum into digits 5 to 8: where only the UUID with zeros there is held, its line is
-  printed, and 'near' with that UUID said on standard error. Control bytes of a line are
-  printed as \\x and two digits. party=7 finds the lines of league organiser 7 alone; without it
-  the hall's alone are found.
+  the form with hyphens, also in braces or after 'urn:uuid:'. What is no UUID is sought in the
+  names, capital letters or not, and every line that has it there is printed, in the order of
+  filing. Recent SDL releases put a checksum into digits 5 to 8: where only the UUID with zeros
+  there is held, its line is printed, and 'near' with that UUID said on standard error. Control
+  bytes of a line are printed as \\x and two digits. party=7 finds the lines of league organiser 7
+  alone; without it the hall's alone are found.
 ";
 
-const LIST: &[u8] = b"hub list STORE
-  Prints the lines held, in the order in which they were filed, and the room left, beside the
-  parties' shares where any is set. A line of a league organiser has its party before it, as
+const LIST: &[u8] = b"hub list STORE [long]
+  Prints a row for each line held, its UUID in 32 digits and its name, in the order of the names,
+  and the room left, beside the parties' shares where any is set. 'long' prints the lines whole, in
+  the order in which they were filed. A line of a league organiser has its party before it, as
   'party 7: '.
 ";
 
@@ -99,39 +104,50 @@ const SAVE: &[u8] =
   'hub undo STORE' takes a save back. party=7 saves for league organiser 7, as insert does.
   CODES are all of the pad's button and axis codes, in the order by which lines count them, for
   most pads ascending: a line says which place of the list is meant, so a list that is not the
-  pad's own binds other buttons. 'evtest' prints the codes of a pad that is plugged in: buttons
-  under EV_KEY, axes under EV_ABS, in decimal; the axes of a hat (16 and 17) are left out. Here a
-  code is hexadecimal: 1 and four digits for a button, 3 and four digits for an axis, with 0x
-  before it or not. So evtest's 304 (BTN_SOUTH) is 10130, and its axis 5 is 30005. A list has
-  commas and may have ranges: buttons=10130-10134,10220.
+  pad's own binds other buttons. 'hub pad' prints the lists of a pad that is plugged in, and pad:1
+  in the place of the UUID stands for UUID and lists of the first one. 'evtest' prints the codes
+  too: buttons under EV_KEY, axes under EV_ABS, in decimal; the axes of a hat (16 and 17) are left
+  out. Here a code is hexadecimal: 1 and four digits for a button, 3 and four digits for an axis,
+  with 0x before it or not. So evtest's 304 (BTN_SOUTH) is 10130, and its axis 5 is 30005. A list
+  has commas and may have ranges: buttons=10130-10134,10220.
   An ELEMENT is an SDL ident (a, b, x, y, leftshoulder, leftx, dpup, ..) or the source's name
   (South, LeftStickX, DPadUp, ..). LeftTrigger is the shoulder, lefttrigger the trigger.
   Not saved unless 'anyway' is added: a line with no element, and one that gives a code to two
   elements, since one of them is lost when the line is read.
   A saved line has buttons and whole axes only. What save can't write: hats (dpup:h0.1),
   triggers that are axes (lefttrigger:a2) and half axes (+a2, a2~). Most lines of real lists have
-  one of these; write such a line into a file, and insert that.
+  one of these; write such a line into a file, and insert that, or put the pairs into a held line
+  with 'hub edit'.
   An Xbox 360 pad, with a and b exchanged:
     hub save hall.store 030000005e0400008e02000014010000 'Seat 4' \\
       buttons=10130,10131,10133,10134,10136,10137,1013a-1013e axes=30000-30005 \\
       a=10131 b=10130 x=10133 y=10134 leftx=30000 lefty=30001
 ";
 
-const SHOW: &[u8] = b"hub show STORE UUID buttons=CODES axes=CODES [party=NUMBER]
+const SHOW: &[u8] = b"hub show STORE UUID [buttons=CODES axes=CODES] [party=NUMBER]
   Reads the line held under that UUID with the pad's codes, and prints it with its map: each
-  code with its element, then name, hat flags and default flag. Where only the UUID without its
-  checksum is held, it goes by that line, and says so as find does. 'hub help save' says how
-  CODES are written, and where a pad's codes are to be found. party=7 takes the line of league
-  organiser 7.
+  code with its element, then name, hat flags and default flag. Without lists it says so, and
+  prints the line's pairs: each element with its button, axis or hat, counted from 0. pad:1 stands
+  for UUID and lists of a pad that is plugged in ('hub help pad'). Where only the UUID without its
+  checksum is held, it goes by that line, and says so as find does. 'hub help save' says how CODES
+  are written, and where a pad's codes are to be found. party=7 takes the line of league organiser
+  7.
 ";
 
 const TEST: &[u8] =
-    b"hub test STORE UUID buttons=CODES axes=CODES [party=NUMBER] from=FILE [after=N:UUID ..]
+    b"hub test STORE UUID buttons=CODES axes=CODES [party=NUMBER] from=FILE [events=N] [seconds=N]
+         [after=N:UUID ..]
          [with=FILE [uuid2=UUID] [buttons2=CODES] [axes2=CODES] [after2=N:UUID ..]]
-  Reads the line held under that UUID with the pad's codes, and tells what each event of a
-  recorded pad gives by it: the code with its raw value, and the element that has another value
-  now, from -32768 to 32767, a button's from 0 on. FILE has Linux input events of 24 bytes each,
-  as 'cat /dev/input/event5 > FILE' records them ('evtest' says which device is the pad).
+hub test STORE pad:1 [from=FILE] ..
+  Reads the line held under that UUID with the pad's codes, and tells what each event of the pad
+  gives by it: the code with its raw value, and the element that has another value now, from
+  -32768 to 32767, a button's from 0 on.
+  pad:1 stands for UUID and lists of a pad that is plugged in ('hub help pad'). Without from=FILE
+  the events come from that pad's own device: press and move what is to be tried. It ends after
+  30 seconds, or when seconds=N or events=N says so.
+  FILE has Linux input events of 24 bytes each, as 'cat /dev/input/event5 > FILE' records them;
+  'hub pad' prints the device of each pad. events=N ends after N records of a button or an axis,
+  seconds=N after N seconds, 1 to 99999, where FILE has not ended before.
   Buttons (EV_KEY) and axes (EV_ABS) are told, a line each; other kinds are skipped and counted.
   A code is held with its last raw value from its first event on; a 257th is refused (27), and the
   status is then 1. Of the values that its held codes give, an element has the one farthest from
@@ -156,6 +172,8 @@ const TEST: &[u8] =
 
 const DEFAULT: &[u8] = b"hub default buttons=CODES axes=CODES
   Prints the map that a pad with these codes gets where no line is held for it.
+hub default pad:1
+  Prints the same for a pad that is plugged in ('hub help pad').
 hub default layout [--csv]
   Prints the default layout of the buttons for the hall's wall: key code, button and SDL
   name, in a table; with --csv with commas between, for a label printer.
@@ -186,6 +204,10 @@ const DEMO: &[u8] = b"hub demo
 
 const HELP: &[u8] = b"hub help [COMMAND]
   Lists the commands, or says more about one; so do 'hub --help' and 'hub COMMAND --help'.
+hub help elements
+  Prints the names of the elements, both spellings of each.
+hub help NUMBER
+  Says what the refusal of that number means, and what can be done.
 ";
 
 // The page on a command.

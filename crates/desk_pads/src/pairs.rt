@@ -3,8 +3,9 @@ ghost use Rattle.std.specs.Prelude.{◌-◌, length};
 ghost use Rattle.std.specs.Iterator.{at_most};
 
 use crate::excerpt::put_reading_refused;
+use crate::table::say_bound;
 use desk::console::Console;
-use desk::say::{ERR, Failure};
+use desk::say::{ERR, Failure, OUT, put_value, say};
 use line::parser::tokens::token_at;
 use line::parser::{Error, State, Token, start_state};
 use line::reading::{SdlMapping, parse_sdl_mapping};
@@ -67,4 +68,57 @@ pub fn readable_status(console: &Console, line: &[u8]) -> Result<(), Failure> {
     reading_of(line)
         .answer
         .map_err(|e| put_reading_refused(console, ERR, e, line))
+}
+
+// `button 0  South (a)`; nothing for what is no pair.
+fn say_pair(console: &Console, token: Token) {
+    let (to, ranges) = match token {
+        Token::AxisMapping { from, to, ranges } => {
+            put_value(console, OUT, format_args!("axis {from}  "));
+            (to, ranges)
+        }
+        Token::ButtonMapping { from, to, ranges } => {
+            put_value(console, OUT, format_args!("button {from}  "));
+            (to, ranges)
+        }
+        Token::HatMapping {
+            hat,
+            direction,
+            to,
+            ranges,
+        } => {
+            put_value(
+                console,
+                OUT,
+                format_args!("hat {hat}, direction {direction}  "),
+            );
+            (to, ranges)
+        }
+        _ => return,
+    };
+    say_bound(console, to, ranges);
+}
+
+fn is_pair(answer: Result<Token, Error>) -> bool {
+    matches!(
+        answer,
+        Ok(Token::AxisMapping { .. } | Token::ButtonMapping { .. } | Token::HatMapping { .. })
+    )
+}
+
+// Prints the pairs of a line that is read, a row each, and why these.
+pub fn say_pairs(console: &Console, line: &[u8]) -> Result<(), Failure> {
+    readable_status(console, line)?;
+    say(console, b"no lists are given (buttons=.., axes=..), ");
+    if !tokens_of(line).any(|(_, answer)| is_pair(answer)) {
+        say(console, b"and the line has no pairs\n");
+        return Ok(());
+    }
+    say(console, b"so these are the pairs of the line:\n");
+    for (_, answer) in tokens_of(line) {
+        if let Ok(token) = answer {
+            say_pair(console, token);
+        }
+    }
+    Ok(())
 }

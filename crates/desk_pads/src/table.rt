@@ -5,8 +5,9 @@ use desk::console::Console;
 use desk::fields::{first, section};
 use desk::say::{ERR, Failure, OUT, put_value, say};
 use desk::shown::say_shown;
+use line::ev::AxisOrBtn;
 use line::mapping::{Entry, Mapping};
-use line::parser::AxisRange;
+use line::parser::{AxisRange, Ranges};
 use line::reading::parse_sdl_mapping;
 
 // Nothing where it is full.
@@ -19,17 +20,22 @@ fn say_half(console: &Console, half: AxisRange, side: &[u8]) {
     say(console, side);
 }
 
+// `RightTrigger2 (righttrigger), upper half in, inverted`
+pub fn say_bound(console: &Console, element: AxisOrBtn, ranges: Ranges) {
+    put_element(console, OUT, element);
+    say_half(console, ranges.input, b"in");
+    say_half(console, ranges.output, b"out");
+    if ranges.inverted {
+        say(console, b", inverted");
+    }
+    say(console, b"\n");
+}
+
 // `30002  RightTrigger2 (righttrigger), upper half in, inverted`
 fn say_entry(console: &Console, entry: &Entry) {
     let code = entry.code.0;
     put_value(console, OUT, format_args!("{code:x}  "));
-    put_element(console, OUT, entry.element);
-    say_half(console, entry.ranges.input, b"in");
-    say_half(console, entry.ranges.output, b"out");
-    if entry.ranges.inverted {
-        say(console, b", inverted");
-    }
-    say(console, b"\n");
+    say_bound(console, entry.element, entry.ranges);
 }
 
 // The entries, then name, hat flags and default flag.

@@ -1,5 +1,5 @@
 // The main job in one go, on a store in memory and a small list. Each step is headed by the command that does the same.
-use crate::holding::{say_line, say_sound, say_store};
+use crate::holding::{say_line, say_list, say_sound};
 use crate::records::{LineKey, View};
 use crate::reports::Report;
 use crate::saving::say_saved;
@@ -97,5 +97,5 @@ pub fn demo(console: &Console) -> Result<(), Failure> {
     );
     say_reading(console, store.line(KEY), &BUTTONS, &AXES)?;
     say(console, b"\n6. hub list STORE: what the store holds\n\n");
-    say_store(console, store)
+    say_list(console, store)
 }

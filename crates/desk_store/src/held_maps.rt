@@ -18,6 +18,10 @@ pub struct Lists {
 }
 
 impl Lists {
+    pub fn is_empty(&self) -> bool {
+        self.buttons.is_empty() && self.axes.is_empty()
+    }
+
     // The lists of a pad where there are none.
     pub fn or_of(self, pad: Plugged) -> Lists {
         Lists {

@@ -1,8 +1,9 @@
 // The commands that look into a store: find, list, check.
+use crate::names::{say_named, say_owner, say_rows};
 use crate::parties::{Caller, OWNED_RECORD, RECORD};
 use crate::records::{LineKey, Record, View};
 use crate::shares::{claims_in, put_sum};
-use crate::wrong::{complain_about, id_named};
+use crate::wrong::complain_about;
 use desk::console::Console;
 use desk::files::{HALF, load};
 use desk::help::wrong_use;
@@ -77,16 +78,28 @@ pub(crate) fn sound(console: &Console, store: View, party: Party) -> Result<(), 
     }
 }
 
-// `hub find STORE UUID ..`; the party stands from argument `from` on.
+// What is no UUID is sought in the names.
+fn find_named(console: &Console, store: View, party: Party, part: &[u8]) -> Result<(), Failure> {
+    sound(console, store, party)?;
+    say_named(console, store, party, part)
+}
+
+// `hub find STORE UUID ..`, `hub find STORE TEXT ..`; the party stands from argument `from` on.
 pub fn find_line(console: &Console, path: &[u8], key: &[u8], from: usize) -> Result<(), Failure> {
     let caller = Caller::named(console, from);
     if caller.others != 0 {
         return Err(wrong_use(console, b"find"));
     }
     let party = caller.party()?;
-    let id = id_named(console, key)?;
     let file = load(console, path)?;
-    say_line(console, View::of(&file), LineKey { party, id })
+    let store = View::of(&file);
+    match Uuid::parse_str(key) {
+        Some(spelled) => {
+            let id = spelled.id;
+            say_line(console, store, LineKey { party, id })
+        }
+        None => find_named(console, store, party, key),
+    }
 }
 
 // A line, after its party where that is an organiser.
@@ -94,11 +107,7 @@ fn say_record(console: &Console, record: Record) {
     let Some(line) = record.line else {
         return;
     };
-    if record.owner != 0 {
-        say(console, b"party ");
-        say_number(console, usize::from(record.owner));
-        say(console, b": ");
-    }
+    say_owner(console, record.owner);
     say_shown_line(console, line);
 }
 
@@ -190,8 +199,8 @@ pub(crate) fn say_sound(console: &Console, store: View) -> Result<(), Failure> {
     Ok(())
 }
 
-// The lines of a store, and what it holds.
-pub(crate) fn say_store(console: &Console, store: View) -> Result<(), Failure> {
+// The lines of a store in the order of filing, and what it holds.
+fn say_long(console: &Console, store: View) -> Result<(), Failure> {
     sound(console, store, Party::Hall)?;
     for record in store.records() {
         say_record(console, record);
@@ -200,10 +209,24 @@ pub(crate) fn say_store(console: &Console, store: View) -> Result<(), Failure> {
     Ok(())
 }
 
+// The rows of a store, by name, and what it holds.
+pub(crate) fn say_list(console: &Console, store: View) -> Result<(), Failure> {
+    sound(console, store, Party::Hall)?;
+    say_rows(console, store);
+    say_extent(console, store);
+    Ok(())
+}
+
 // `hub list STORE`
 pub fn list_store(console: &Console, path: &[u8]) -> Result<(), Failure> {
     let file = load(console, path)?;
-    say_store(console, View::of(&file))
+    say_list(console, View::of(&file))
+}
+
+// `hub list STORE long`
+pub fn list_long(console: &Console, path: &[u8]) -> Result<(), Failure> {
+    let file = load(console, path)?;
+    say_long(console, View::of(&file))
 }
 
 // `hub check STORE`

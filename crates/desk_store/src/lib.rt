@@ -13,6 +13,7 @@ pub mod inserting;
 pub mod lint;
 mod map_changes;
 pub mod mappings;
+mod names;
 mod parties;
 mod records;
 pub mod removing;

@@ -9,6 +9,7 @@ use desk::codes::{Kind, codes_named};
 use desk::console::Console;
 use desk::files::load;
 use desk::say::{Failure, complain};
+use desk_pads::pairs::say_pairs;
 use desk_pads::plugged::{Plugged, is_pad_name, pad_named};
 use desk_pads::refusals::refused_by;
 use desk_pads::slots::{Slots, slots_named};
@@ -68,9 +69,12 @@ impl Request {
     }
 }
 
-// Prints a line, and its map by the lists.
+// Prints a line, and its map by the lists; its pairs where there are none.
 fn show_line(console: &Console, line: &[u8], lists: &Lists) -> Result<(), Failure> {
     say_shown_line(console, line);
+    if lists.is_empty() {
+        return say_pairs(console, line);
+    }
     say_reading(
         console,
         line,

@@ -203,12 +203,11 @@ pub fn save_mapping(
     target.may_change(console)?;
     let mut space = arg_space();
     let name = argument(console, at, &mut space);
-    let from = at.wrapping_add(1);
+    let asked = Request::named(console, at.wrapping_add(1));
     if is_pad_name(key) {
-        let asked = Request::named(console, from);
         let pad = pad_named(console, key)?;
         return save_request(console, target, pad.id, name, asked?.or_of(pad));
     }
     let id = id_named(console, key)?;
-    save_request(console, target, id, name, Request::named(console, from)?)
+    save_request(console, target, id, name, asked?)
 }

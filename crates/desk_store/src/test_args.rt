@@ -105,11 +105,11 @@ fn unknown(console: &Console, arg: &[u8]) -> Failure {
     complain_shown(console, arg);
     complain(
         console,
-        b": here the arguments are buttons=.., axes=.., party=.., from=FILE and after=N:UUID; for a\n",
+        b": here the arguments are buttons=.., axes=.., party=.., from=FILE, events=N, seconds=N and\n",
     );
     complain(
         console,
-        b"second pad with=FILE, uuid2=UUID, buttons2=.., axes2=.. and after2=N:UUID\n",
+        b"after=N:UUID; for a second pad with=FILE, uuid2=UUID, buttons2=.., axes2=.. and after2=N:UUID\n",
     );
     Failure::Trouble
 }

@@ -106,6 +106,7 @@ fn run_on_store(console: &Console, call: &Call) -> Result<(), Failure> {
     match (call.name, call.given) {
         (b"find", 2..) => holding::find_line(console, path, key, from),
         (b"list", 1) => holding::list_store(console, path),
+        (b"list", 2) if key == b"long".as_slice() => holding::list_long(console, path),
         (b"export", 1..) => exporting::export_store(console, path, call.behind(1)),
         (b"check", 1) => holding::check_store(console, path),
         (b"shares", 1) => shares::list_shares(console, path),
