@@ -1,7 +1,6 @@
 -- elements, tables, maps
 pub mod PickLaws
 pub mod TableLaws
-pub mod ElementLaws
 pub mod KeyLaws
 pub mod PlaceLaws
 pub mod MapLaws

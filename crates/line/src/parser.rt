@@ -174,7 +174,8 @@ pub fn start_state(line: &[u8]) -> State
     State::NotUtf8
 }
 
-// One step of the walker.
+// One step of the walker, over plain values: `Parser`'s calls are thin ones over it, and the reading of a whole line takes
+// the same steps without a `Parser`.
 pub fn step(line: &[u8], pos: usize, state: State) -> Stepped
     ensures { result ≡ step_of line.now pos state }
 {
@@ -222,7 +223,8 @@ fn field_step(line: &[u8], p: usize, e: usize, state: State) -> Stepped
     }
 }
 
-// The first field: `xinput` is the nil UUID.
+// The first field: `xinput` is the nil UUID. By `same_bytes`: `==` takes no array beside a slice, and
+// `b"xinput".as_slice()` is no plainer.
 #[tactic(auto, unfolding(crate::specs::Walker::guid_of))]
 fn read_guid(s: &[u8]) -> Option<Spelled>
     ensures { result ≡ guid_of s.now }

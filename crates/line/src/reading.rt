@@ -22,14 +22,15 @@ pub enum ParseSdlMappingError {
     ListTooLong,
 }
 
-// A refused reading has the empty map.
+// A refused reading has the empty map: the rule is that it returns one, which a `Result` could not hand back.
 #[derive(Clone, Copy)]
 pub struct SdlMapping {
     pub answer: Result<(), ParseSdlMappingError>,
     pub map: Mapping,
 }
 
-// The map of a line by the pad's lists of codes.
+// The map of a line by the pad's lists of codes. The two lists are the rule's own parameters, and nothing but this call
+// would make a struct of them.
 pub fn parse_sdl_mapping(line: &[u8], buttons: &[u32], axes: &[u32]) -> SdlMapping
     ensures { result ≡ reading_of line.now buttons.now axes.now }
 {

@@ -6,14 +6,16 @@ use mathlib.Core.Logic.{⊎_elim}
 use mathlib.Core.Bool.{Bool, true, false}
 use mathlib.Core.List.{List, [], ◌∷◌, ◌++◌, append_assoc}
 use native.Mathlib.Omega.{arith}
-use borrow.Author.Tests.{ltb-true, leb-true, lt-leb, le-leb, eq-eqb, ne_eqb, eqb-true, eqb-false}
+use Rattle.std.specs.List.{position_or_len}
+use Rattle.std.specs.Prelude.{Option, Some, None, cond, not, ltb, unwrap_or}
+use borrow.Author.Tests.{ltb-true, ltb-false, lt-ltb, leb-true, lt-leb, le-leb, eq-eqb, ne_eqb, eqb-true, eqb-false}
 use lib.Dec.{leb, eqb}
 use lib.ListN.{length, take, drop, get_or, length-drop, length-append}
 use lib.Seq.{drop-append-le, drop-drop}
 use Rattle.text.specs.Bytes.{pick, both}
 use Rattle.text.specs.Utf8.{Range, Alternative, utf8_char, in_range, begins, valid_run}
 use Rattle.text.specs.Utf8.{is_utf8}
-use Rattle.text.specs.Inner.{every, is_ascii}
+use Rattle.text.specs.Inner.{every, is_ascii, Passed}
 use Rattle.text.proofs.ListLaws.{lt_or_le, off, both_parts, at_next}
 use Rattle.text.proofs.BlockLaws.{every-next, and_parts}
 use Rattle.text.proofs.Utf8Laws.{first_size, char_size, char_long, valid_stop, valid_step}
@@ -74,6 +76,44 @@ asciis_go s i (suc n) h e =
     ap (λ (k : ℕ). k + valid_run (drop k s)) z
     ∙ ascii_goes s (i + n) (omega arith) (ltb-true (get_or s (i + n) 0) 128 w.1)
     ∙ asciis_go s i n (omega arith) w.0
+
+-- the bytes before the first that is none of ASCII, or all of them
+high_place : List ℕ → ℕ
+high_place s = position_or_len (λ x. ltb 127 x) s
+
+before_high : (s : List ℕ) → (high_place s ≤ length s) × (every is_ascii (take (high_place s) s) ≡ true)
+unfolding every high_place
+before_high [] = (omega arith, refl)
+before_high (x ∷ s) = go (ltb 127 x) refl (before_high s)
+  where
+    go : (t : Bool) → ltb 127 x ≡ t → (high_place s ≤ length s) × (every is_ascii (take (high_place s) s) ≡ true)
+        → (cond (not t) (1 + high_place s) 0 ≤ suc (length s))
+        × (every is_ascii (take (cond (not t) (1 + high_place s) 0) (x ∷ s)) ≡ true)
+    go true e h = (omega arith, refl)
+    go false e h =
+        let z : 1 + high_place s ≡ suc (high_place s) = omega arith in
+        (omega (arith, h.0), rw (z, lt-ltb x 128 (omega (arith, ltb-false 127 x e))) h.1)
+
+-- what a search for that place in the part from i on passes
+pub place_passed : (s part : List ℕ) (i : ℕ) (r : Option ℕ) → i ≤ length s → part ≡ drop i s
+    → r ≡ cond (ltb (position_or_len (λ x. ltb 127 x) part) (length part))
+    (Some (position_or_len (λ x. ltb 127 x) part)) None
+    → Passed s i (i + unwrap_or r (length part))
+unfolding high_place
+place_passed s part i r h f e =
+    rw (f, rw f at e) (go (ltb (high_place (drop i s)) (length (drop i s))) refl)
+  where
+    go : (t : Bool) → ltb (high_place (drop i s)) (length (drop i s)) ≡ t
+        → Passed s i (i + unwrap_or (cond t (Some (high_place (drop i s))) None) (length (drop i s)))
+    go true q =
+        let b = before_high (drop i s) in
+        let l = length-drop i s in
+        (omega arith, omega (arith, b.0), asciis_go s i (high_place (drop i s)) (omega (arith, b.0)) b.1)
+    go false q =
+        let b = before_high (drop i s) in
+        let l = length-drop i s in
+        let k : length (drop i s) ≡ high_place (drop i s) = omega (arith, b.0, ltb-false _ _ q) in
+        (omega arith, omega arith, rw k (asciis_go s i (high_place (drop i s)) (omega (arith, b.0)) b.1))
 
 -- ---- the longest run of whole characters
 abbrev pub Valid : List ℕ → Type 0

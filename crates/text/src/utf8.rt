@@ -100,20 +100,14 @@ fn ascii_front(s: &[u8], from: usize) -> usize
     from + 16 * blocks
 }
 
-// The first place from `from` on that has no ASCII byte, or the end. A loop: by `position` it was tried, and what stayed
-// open is that the bytes before the place, and all of them where there is none, are whole characters.
+// The first place from `from` on that has no ASCII byte, or the end.
 fn ascii_end(s: &[u8], from: usize) -> usize
     requires { from ≤ length s.now }
     ensures { Passed s.now from result }
 {
-    let mut i = ascii_front(s, from);
-    while i < s.len() {
-        if 0x7F < s[i] {
-            return i;
-        }
-        i += 1;
-    }
-    i
+    let front = ascii_front(s, from);
+    let rest = &s[front..];
+    front + rest.iter().position(|b| 0x7F < *b).unwrap_or(rest.len())
 }
 
 // The length of the longest run of whole characters from the first byte on. A loop that holds the place: each character

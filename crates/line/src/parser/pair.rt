@@ -61,7 +61,7 @@ fn keyed(key: &[u8], value: &[u8], p: usize, at: usize) -> Result<Token, Error>
     mapped(read_value(value, p), output, to, p)
 }
 
-// A key is `platform` as it stands, before a sign is cut off.
+// A key is `platform` as it stands, before a sign is cut off. By `same_bytes`, as `xinput` is compared.
 fn is_platform(key: &[u8]) -> bool
     ensures { result ≡ same key.now (ascii "platform") }
 {
