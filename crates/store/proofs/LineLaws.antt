@@ -165,13 +165,15 @@ pub cut_at : (s : List ℕ) (at end : ℕ) → at < length s → end ≡ first_o
     → lines_of (drop at s) ≡ first_line (drop at s) ∷ lines_of (drop (at + (end + 1)) s)
 cut_at s at end l e = go (drop at s) refl
   where
-    go : (q : List ℕ) → drop at s ≡ q → lines_of (drop at s) ≡ first_line (drop at s) ∷ lines_of (drop (at + (end + 1)) s)
+    go : (q : List ℕ) → drop at s ≡ q
+        → lines_of (drop at s) ≡ first_line (drop at s) ∷ lines_of (drop (at + (end + 1)) s)
     go [] p = absurd (omega (arith, ap length p, length-drop at s, length_none))
       where
         length_none : length {A = ℕ} [] ≡ 0
         length_none = refl
     go (b ∷ q) p =
-        ap lines_of p ∙ cut_first b q ∙ sym (ap (λ (x : List ℕ). first_line x ∷ lines_of (drop (suc (first_of lf x)) x)) p)
+        ap lines_of p ∙ cut_first b q
+        ∙ sym (ap (λ (x : List ℕ). first_line x ∷ lines_of (drop (suc (first_of lf x)) x)) p)
         ∙ ap (λ (x : List ℕ). first_line (drop at s) ∷ lines_of x)
         (ap (λ (n : ℕ). drop n (drop at s)) n_is ∙ drop-drop (end + 1) at s)
       where

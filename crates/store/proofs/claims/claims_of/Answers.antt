@@ -40,7 +40,7 @@ returns-clause-sums c =
     let s = c.into_iter-used-iterator.result in
     let first : iter_rest (zip_first s) ≡ u = cc in
     let second : iter_rest (zip_second s) ≡ g = cc in
-    let end = zip_end u g loop.yielded s loop.used-iterator c.next.new.self c.next.result first second loop.yielded_by c.in-None.is
-    c.next.ensures.steps in
+    let end = zip_end u g loop.yielded s loop.used-iterator c.next.new.self c.next.result first second
+    loop.yielded_by c.in-None.is c.next.ensures.steps in
     (sum_end u g (words_given _ (search rules) (λ k. search rules)) (words_given _ (search rules) (λ k. search rules))
     (length loop.yielded) loop.sum loop.invariant.2 (omega (arith, end))).0
