@@ -1,5 +1,5 @@
--- The numbers before the first one that is struck out stay as they are; the index behind their records is lent, closed up
--- and given back.
+-- The numbers before the first one that is struck out stay as they are; the index behind their records is lent, closed
+-- up and given back.
 -- Assumes nothing.
 use mathlib.Core.List.{List, ◌++◌, append_assoc}
 use mathlib.Core.Option.{some}

@@ -1,14 +1,17 @@
 -- The lines of a text, one after the other: where the first one ends, and the lines behind it.
 -- Assumes nothing.
 use mathlib.Core.Bool.{Bool, true, false, ◌&&◌}
-use mathlib.Core.List.{List, [], ◌∷◌}
+use mathlib.Core.List.{List, [], ◌∷◌, ◌++◌}
 use mathlib.Core.Path.{◌≡◌, refl, sym, ap, ap₂, ◌∙◌}
 use Prim.Native.Nat.{ℕ, zero, suc, ◌+◌, ◌-◌, ◌≤◌, ◌<◌}
 use native.Mathlib.Omega.{arith}
 use lib.Dec.{eqb, ltb}
-use lib.ListN.{length, get_or, take, drop, drop_of_length-le, length-drop}
-use lib.Seq.{drop-drop, take_all}
-use borrow.Author.Tests.{eq-eqb, ne_eqb, lt-ltb, le-ltb, ltb-true, ltb-false}
+use lib.ListN.{length, get_or, take, drop, drop_of_length-le, length-drop, length-append}
+use lib.Seq.{drop-drop, take_all, take-suc, get_or-take, get_or-append_seam, length-take-le}
+use borrow.Author.Tests.{eq-eqb, ne_eqb, lt-ltb, le-ltb, ltb-true, ltb-false, eqb-true, eqb-false}
+use denote.Ref.{Bor}
+use Rattle.std.specs.Prelude.{Option, Some, None}
+use Rattle.std.specs.Option.{MatchOption, unwrap_or}
 use Rattle.text.specs.Bytes.{pick, first_of}
 use Rattle.store.specs.Inner.{without_cr, first_line}
 use Rattle.store.specs.Lines.{cr, lines_of}
@@ -127,18 +130,50 @@ module _ (s : List ℕ) where
         sym (cut ∙ ap (λ (m : ℕ). without_cr (take m s)) (sym q)
         ∙ cr_last s (end - 1) (omega (arith, more end n)) false (ne_eqb _ cr c) ∙ ap (λ (m : ℕ). take m s) q)
 
+    -- what is left of the line before the LF without one CR at its end
+    pub line_stripped : (b : Bor (List ℕ)) (r : Option (Bor (List ℕ))) (u : Bor (List ℕ)) → u ≡ unwrap_or r b
+        → b.now ≡ take end s
+        → MatchOption r ((front : List ℕ) → take end s ≡ front ++ (cr ∷ []) → ⊥) (λ x. take end s ≡ x.now ++ (cr ∷ []))
+        → (length u.now ≤ length s) × (take (length u.now) s ≡ first_line s)
+    line_stripped b None u eu eb m =
+        let now : u.now ≡ take end s = ap (λ (x : Bor (List ℕ)). x.now) eu ∙ eb in
+        let long : length u.now ≡ end = ap length now ∙ length-take-le end s (omega (arith, l)) in
+        (omega (arith, long, l), ap (λ (n : ℕ). take n s) long ∙ go (eqb end 0) refl)
+      where
+        go : (c : Bool) → eqb end 0 ≡ c → take end s ≡ first_line s
+        go true z = ap (λ (n : ℕ). take n s) (eqb-true end 0 z) ∙ line_none (eqb-true end 0 z)
+        go false z =
+            let n : end ≡ 0 → ⊥ = eqb-false end 0 z in
+            let q : end ≡ suc (end - 1) = omega (arith, more end n) in
+            line_plain n (λ w. m (take (end - 1) s)
+            (ap (λ (k : ℕ). take k s) q ∙ take-suc s (end - 1) 0 (omega (arith, l))
+            ∙ ap (λ (x : ℕ). take (end - 1) s ++ (x ∷ [])) w))
+    line_stripped b (Some x) u eu eb m =
+        let now : u.now ≡ x.now = ap (λ (y : Bor (List ℕ)). y.now) eu in
+        let long : length x.now + 1 ≡ end =
+        sym (length-append x.now (cr ∷ [])) ∙ ap length (sym m) ∙ length-take-le end s (omega (arith, l)) in
+        let last : end - 1 ≡ length x.now = omega (arith, long) in
+        let at : get_or s (end - 1) 0 ≡ cr =
+        sym (get_or-take end s (end - 1) 0 (omega (arith, long))) ∙ ap (λ (q : List ℕ). get_or q (end - 1) 0) m
+        ∙ ap (λ (n : ℕ). get_or (x.now ++ (cr ∷ [])) n 0) last ∙ get_or-append_seam x.now cr [] 0 in (
+          omega (arith, ap length now, long, l),
+          ap (λ (n : ℕ). take n s) (ap length now ∙ sym last) ∙ line_cr (λ z. omega (arith, z, long)) at,
+        )
+
 -- the lines from `at` on: the first one, and the lines behind its LF
 pub cut_at : (s : List ℕ) (at end : ℕ) → at < length s → end ≡ first_of lf (drop at s)
     → lines_of (drop at s) ≡ first_line (drop at s) ∷ lines_of (drop (at + (end + 1)) s)
 cut_at s at end l e = go (drop at s) refl
   where
-    go : (q : List ℕ) → drop at s ≡ q → lines_of (drop at s) ≡ first_line (drop at s) ∷ lines_of (drop (at + (end + 1)) s)
+    go : (q : List ℕ) → drop at s ≡ q
+        → lines_of (drop at s) ≡ first_line (drop at s) ∷ lines_of (drop (at + (end + 1)) s)
     go [] p = absurd (omega (arith, ap length p, length-drop at s, length_none))
       where
         length_none : length {A = ℕ} [] ≡ 0
         length_none = refl
     go (b ∷ q) p =
-        ap lines_of p ∙ cut_first b q ∙ sym (ap (λ (x : List ℕ). first_line x ∷ lines_of (drop (suc (first_of lf x)) x)) p)
+        ap lines_of p ∙ cut_first b q
+        ∙ sym (ap (λ (x : List ℕ). first_line x ∷ lines_of (drop (suc (first_of lf x)) x)) p)
         ∙ ap (λ (x : List ℕ). first_line (drop at s) ∷ lines_of x)
         (ap (λ (n : ℕ). drop n (drop at s)) n_is ∙ drop-drop (end + 1) at s)
       where

@@ -26,7 +26,7 @@ use Rattle.store.specs.Keys.{Sought}
 use Rattle.store.specs.Rows.{row_in, key_in, start_in, len_in, row_put, Long}
 use Rattle.store.specs.Table.{living, held_at, line_at, InRows, Stocks, len_before}
 use Rattle.store.specs.Sights.{Ready, Agree, Spot, Spots, nowhere, there, Sees}
-use Rattle.store.specs.Store.{Looked, nothing, unsound, looked_in, looked_at, look_by, says_of, line_of}
+use Rattle.store.specs.Store.{Looked, nothing, unsound, looked_in, looked_at, look_by}
 use Rattle.store.specs.Store as store
 use Rattle.store.proofs.ChainLaws.{unlike}
 use Rattle.store.proofs.HeldLaws.{same_refl, same_eq}

@@ -26,7 +26,7 @@ use Rattle.store.specs.Near.{nobody, near_in, plain_key, near_at, near_by}
 use Rattle.store.specs.Near.{near_up}
 use Rattle.store.specs.Near.{Beside, BesideLookUp, NeverNear, NearAfter}
 use Rattle.store.specs.Sights.{Spot, nowhere, there, NearSees, Tries}
-use Rattle.store.specs.Store.{Looked, nothing, unsound, no_owner, looked_in, looked_at, look_by, look_up}
+use Rattle.store.specs.Store.{no_owner, looked_in, looked_at, look_by, look_up}
 use Rattle.store.specs.Store as store
 use Rattle.store.specs.Table.{Stocks}
 use Rattle.store.proofs.Saves.{whole_guarantee}

@@ -120,7 +120,8 @@ unfolding row_use row_lengths
 row_use_most q a zero = omega arith
 row_use_most q a (suc n) = go (eqb (key_in a n).owner q) (row_use_most q a n)
   where
-    go : (b : Bool) → row_use q a n ≤ row_lengths a n → row_use q a n + pick b (len_in a n) 0 ≤ row_lengths a n + len_in a n
+    go : (b : Bool) → row_use q a n ≤ row_lengths a n
+        → row_use q a n + pick b (len_in a n) 0 ≤ row_lengths a n + len_in a n
     go true l = omega arith
     go false l = omega arith
 

@@ -59,10 +59,8 @@ pub fn claims_of(uses: &[u16; OWNERS], shares: &[u16; OWNERS]) -> usize
     ensures covers { Covers uses.now shares.now result }
 {
     let mut sum = 0;
-    // By number: over a `zip` of the two the loop's turn (`loop-used-preserved`) and what it sums to
-    // (`returns-clause-sums`) stayed open.
-    for o in 0..OWNERS {
-        sum += larger_of(uses[o] as usize, shares[o] as usize);
+    for (used, share) in uses.iter().zip(shares) {
+        sum += larger_of(*used as usize, *share as usize);
     }
     sum
 }

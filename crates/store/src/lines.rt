@@ -9,8 +9,7 @@ use crate::search::{find_far, find_text};
 use text::bytes::find_byte;
 use text::uuid::{Spelled, Uuid};
 
-// The length of the first line, of which the LF stands at that place: without a CR before it. By hand: with
-// `strip_suffix` the goal `returns`, that what is left is the first line, stayed open.
+// The length of the first line, of which the LF stands at that place: without a CR before it.
 pub fn line_length(s: &[u8], end: usize) -> usize
     requires { end ≡ first_of lf s.now }
     ensures { (result ≤ length s.now) × (take result s.now ≡ first_line s.now) }
@@ -18,13 +17,8 @@ pub fn line_length(s: &[u8], end: usize) -> usize
     if s.len() <= end {
         return s.len();
     }
-    if end == 0 {
-        return 0;
-    }
-    if s[end - 1] == b'\r' {
-        return end - 1;
-    }
-    end
+    let line = &s[..end];
+    line.strip_suffix(b"\r").unwrap_or(line).len()
 }
 
 // Whether the first `platform:` anywhere in a line, if any, is followed by exactly `Linux` up to a comma or the end.

@@ -20,5 +20,6 @@ pub returns : goal.returns
 returns c =
     let args = c.args in
     subst (λ (x : Looked). Sees args.text.now x c.look_by.result)
-    (look_owner args.party args.index.now args.text.now _ (sym c.owner_of.ensures ∙ c.in_ok-owner.ensures.ok_part) args.uuid)
+    (look_owner args.party args.index.now args.text.now _ (sym c.owner_of.ensures ∙ c.in_ok-owner.ensures.ok_part)
+    args.uuid)
     c.look_by.ensures

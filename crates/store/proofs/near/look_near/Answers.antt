@@ -20,5 +20,6 @@ pub returns : goal.returns
 returns c =
     let args = c.args in
     subst (λ (x : Nearby). NearSees args.text.now x c.near_by.result)
-    (near_owner args.party args.index.now args.text.now _ (sym c.owner_of.ensures ∙ c.in_ok-owner.ensures.ok_part) args.uuid)
+    (near_owner args.party args.index.now args.text.now _ (sym c.owner_of.ensures ∙ c.in_ok-owner.ensures.ok_part)
+    args.uuid)
     c.near_by.ensures
