@@ -1,6 +1,6 @@
 // What a pad reports of a code, and what is told of an element.
 ghost use Rattle.std.specs.Prelude.{◌≡◌, ◌<◌, []};
-ghost use Rattle.pad.specs.States.{events_in};
+ghost use Rattle.pad.specs.States.{events_in, caught};
 ghost use Rattle.pad.specs.Inner.{PushesEvent};
 
 use line::ev::{AxisOrBtn, Button, Code};
@@ -46,9 +46,20 @@ pub struct Events {
 }
 
 impl Events {
+    // The events of one that may be.
+    pub fn of(event: Option<Event>) -> Events
+        ensures { result ≡ events_in (caught event []) }
+    {
+        let mut events = Events::none();
+        if let Some(e) = event {
+            events.push(e);
+        }
+        events
+    }
+
     // No events.
     #[tactic(auto, unfolding(crate::specs::States::events_in))]
-    pub(crate) fn none() -> Events
+    pub fn none() -> Events
         ensures { result ≡ events_in [] }
     {
         Events {
