@@ -11,8 +11,8 @@ use desk::tally::count_one;
 use desk::words::put_refused;
 use line::ev::Code;
 use line::mapping::Entry;
-use line::refusal::Refusal;
 use pad::events::{Event, Raw};
+use pad::state::{TooManyCodes, pad_outcome};
 use pad::two::Which;
 use pad::value::{entry_value, event};
 
@@ -120,9 +120,11 @@ impl Telling<'_> {
     }
 
     // A code that the pad has no room for.
-    fn say_refused(&mut self, refusal: Refusal) {
+    fn say_refused(&mut self, e: TooManyCodes) {
         say(self.console, b"no event: ");
-        put_refused(self.console, OUT, refusal.number as usize);
+        if let Err(refusal) = pad_outcome(Err(e)) {
+            put_refused(self.console, OUT, refusal.number as usize);
+        }
         say(self.console, b"\n");
         count_one(&mut self.play.tally.refused);
     }
@@ -133,7 +135,7 @@ impl Telling<'_> {
         match self.play.pads.raw_event(self.which, self.code, self.raw) {
             Ok(Some(told)) => self.say_told(told),
             Ok(None) => self.say_none(),
-            Err(e) => self.say_refused(e.refusal()),
+            Err(e) => self.say_refused(e),
         }
     }
 }

@@ -72,8 +72,8 @@ pub extern "C" fn raspteal_pad_raw_event(pad: Pad, code: u32, raw: u8, v: i16) -
 {
     let mut pad = pad;
     match pad.raw_event(Code(code), raw_of(raw, v)) {
-        Ok(event) => FlatTold::new(Ok(()), pad, &Events::of(event)),
-        Err(e) => FlatTold::new(Err(e), pad, &Events::of(None)),
+        Ok(event) => FlatTold::new(Ok(()), pad, &Events::from(event)),
+        Err(e) => FlatTold::new(Err(e), pad, &Events::from(None)),
     }
 }
 

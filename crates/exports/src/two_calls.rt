@@ -71,8 +71,8 @@ pub extern "C" fn raspteal_pads_raw_event(
 {
     let mut pads = pads;
     match pads.raw_event(which_of(second), Code(code), raw_of(raw, v)) {
-        Ok(event) => FlatPadsTold::new(Ok(()), pads, &Events::of(event)),
-        Err(e) => FlatPadsTold::new(Err(e), pads, &Events::of(None)),
+        Ok(event) => FlatPadsTold::new(Ok(()), pads, &Events::from(event)),
+        Err(e) => FlatPadsTold::new(Err(e), pads, &Events::from(None)),
     }
 }
 

@@ -45,21 +45,23 @@ pub struct Events {
     pub list: [Event; ELEMENTS],
 }
 
-impl Events {
-    // The events of one that may be.
-    pub fn of(event: Option<Event>) -> Events
-        ensures { result ≡ events_in (caught event []) }
-    {
+// The events of one that may be.
+impl From<Option<Event>> for Events {
+    ghost from_gives = { λ event events. events ≡ events_in (caught event []) };
+
+    fn from(event: Option<Event>) -> Events {
         let mut events = Events::none();
         if let Some(e) = event {
             events.push(e);
         }
         events
     }
+}
 
+impl Events {
     // No events.
     #[tactic(auto, unfolding(crate::specs::States::events_in))]
-    pub fn none() -> Events
+    pub(crate) fn none() -> Events
         ensures { result ≡ events_in [] }
     {
         Events {

@@ -36,7 +36,7 @@ pub struct TooManyCodes;
 
 impl TooManyCodes {
     // Number of the refusal.
-    pub fn refusal(self) -> Refusal
+    fn refusal(self) -> Refusal
         ensures { result ≡ refusal 27 }
     {
         Refusal::plain(27)
