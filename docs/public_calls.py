@@ -49,8 +49,9 @@ NAMED = {"event": "raspteal_mapping_event", "share_of": "raspteal_store_share"}
 REFUSING = re.compile(r"^(kind_number|\w+_refusal) :")
 
 # A promise of an answer and a buffer at once; a C function says the two apart. That an ident is short follows from the
-# table, and the struct that crosses has room for it.
-PARTS = {"Wrote": ["write_answer", "write_buffer"], "Builds": ["build_of", "output_of"], "ident_max": []}
+# table, and the struct that crosses has room for it. A raw event's call on a pad crosses with the pad after it.
+PARTS = {"Wrote": ["write_answer", "write_buffer"], "Builds": ["build_of", "output_of"], "ident_max": [],
+         "told_by": ["flat_told"], "pads_told_by": ["flat_pads_told"]}
 
 HEAD = """# The public calls
 

@@ -41,7 +41,7 @@ impl Found<'_> {
         let code = (held / CODE_UNIT) as u32;
         let map = self.play.seat(self.which).map;
         let raw = raw_of((held % CODE_UNIT) as u32);
-        match event(map, Code(code), raw) {
+        match event(&map, Code(code), raw) {
             Some(told) if told.element == self.element && told.value == self.value => { Some(code) }
             _ => None,
         }

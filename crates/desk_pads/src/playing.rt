@@ -40,11 +40,12 @@ pub struct Play {
 impl Play {
     // Nothing is told, and both pads have their maps.
     pub fn new(two: bool, first: Seat, second: Seat) -> Play {
-        let one = Pads::new().change_map(Which::First, first.map);
-        let both = one.pads.change_map(Which::Second, second.map);
+        let mut pads = Pads::new();
+        pads.change_map(Which::First, &first.map);
+        pads.change_map(Which::Second, &second.map);
         Play {
             two,
-            pads: both.pads,
+            pads,
             first,
             second,
             tally: Tally::default(),

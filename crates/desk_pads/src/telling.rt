@@ -11,9 +11,8 @@ use desk::tally::count_one;
 use desk::words::put_refused;
 use line::ev::Code;
 use line::mapping::Entry;
-use line::refusal::Refusal;
 use pad::events::{Event, Raw};
-use pad::state::pad_outcome;
+use pad::state::{TooManyCodes, pad_outcome};
 use pad::two::Which;
 use pad::value::{entry_value, event};
 
@@ -48,7 +47,7 @@ impl Telling<'_> {
             value: told.value,
         };
         let map = found.play.seat(self.which).map;
-        match event(map, self.code, self.raw) {
+        match event(&map, self.code, self.raw) {
             Some(own) if own.value == told.value => {}
             None if told.value == 0 => {
                 say(console, b", since it has no value there");
@@ -121,9 +120,11 @@ impl Telling<'_> {
     }
 
     // A code that the pad has no room for.
-    fn say_refused(&mut self, refusal: Refusal) {
+    fn say_refused(&mut self, e: TooManyCodes) {
         say(self.console, b"no event: ");
-        put_refused(self.console, OUT, refusal.number as usize);
+        if let Err(refusal) = pad_outcome(Err(e)) {
+            put_refused(self.console, OUT, refusal.number as usize);
+        }
         say(self.console, b"\n");
         count_one(&mut self.play.tally.refused);
     }
@@ -131,12 +132,10 @@ impl Telling<'_> {
     // Its event, if there is one.
     fn tell(&mut self) {
         say_raw(self.console, self.code.0, self.raw);
-        let told = self.play.pads.raw_event(self.which, self.code, self.raw);
-        self.play.pads = told.pads;
-        match pad_outcome(told.answer) {
-            Err(refusal) => self.say_refused(refusal),
-            Ok(()) if told.events.count == 0 => self.say_none(),
-            Ok(()) => self.say_told(told.events.list[0]),
+        match self.play.pads.raw_event(self.which, self.code, self.raw) {
+            Ok(Some(told)) => self.say_told(told),
+            Ok(None) => self.say_none(),
+            Err(e) => self.say_refused(e),
         }
     }
 }

@@ -116,14 +116,13 @@ fn say_events(console: &Console, play: &Play, which: Which, events: Events) {
 
 // Gives a pad another map, and tells what comes of it.
 fn give_map(console: &Console, play: &mut Play, which: Which, map: Mapping) {
-    let told = play.pads.change_map(which, map);
-    play.pads = told.pads;
+    let events = play.pads.change_map(which, &map);
     let mut seat = play.seat(which);
     seat.map = map;
     play.set_seat(which, seat);
     count_one(&mut play.tally.changes);
-    play.tally.changed = play.tally.changed.wrapping_add(told.events.count);
-    say_events(console, play, which, told.events);
+    play.tally.changed = play.tally.changed.wrapping_add(events.count);
+    say_events(console, play, which, events);
 }
 
 impl Test<'_> {

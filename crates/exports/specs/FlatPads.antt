@@ -5,7 +5,7 @@ use Rattle.text.specs.Bytes.{pick}
 use Rattle.pad.specs.declared.events.Raw.{Raw}
 use Rattle.pad.specs.declared.events.Raw.TheVariants as Rw
 use Rattle.pad.specs.declared.events.Event.{Event}
-use Rattle.pad.specs.declared.state.Told.{Told}
+use Rattle.pad.specs.States.{Told}
 use Rattle.pad.specs.Refusals.{pad_outcome}
 use Rattle.exports.specs.declared.state_calls.FlatEvent.{FlatEvent}
 use Rattle.exports.specs.declared.state_calls.FlatTold.{FlatTold}

@@ -4,7 +4,7 @@ use Rattle.std.specs.Prelude.{Bool, map}
 use Rattle.text.specs.Bytes.{pick}
 use Rattle.pad.specs.declared.two.Which.{Which}
 use Rattle.pad.specs.declared.two.Which.TheVariants as Wh
-use Rattle.pad.specs.declared.two.PadsTold.{PadsTold}
+use Rattle.pad.specs.TwoPads.{PadsTold}
 use Rattle.pad.specs.Refusals.{pad_outcome}
 use Rattle.exports.specs.declared.two_calls.FlatPadsTold.{FlatPadsTold}
 use Rattle.exports.specs.Flat.{flat_outcome}

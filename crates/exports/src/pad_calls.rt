@@ -87,5 +87,5 @@ pub extern "C" fn raspteal_mapping_event(
 ) -> FlatEmitted
     ensures { result ≡ flat_emitted (event_of (held (mapping_in map)) (code_of code) (raw_of raw v)) }
 {
-    event(map.into(), Code(code), raw_of(raw, v)).into()
+    event(&map.into(), Code(code), raw_of(raw, v)).into()
 }

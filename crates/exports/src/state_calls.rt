@@ -13,8 +13,8 @@ use crate::flat::{FlatElement, FlatRefusal};
 use crate::flat_mapping::FlatMapping;
 use crate::pad_calls::raw_of;
 use line::ev::Code;
-use pad::events::{ELEMENTS, Event};
-use pad::state::{Pad, Told, pad_outcome};
+use pad::events::{ELEMENTS, Event, Events};
+use pad::state::{Pad, TooManyCodes, pad_outcome};
 use std::array;
 
 #[repr(C)]
@@ -45,15 +45,16 @@ impl From<Event> for FlatEvent {
     }
 }
 
-impl From<Told> for FlatTold {
-    ghost from_gives = { λ t f. f ≡ flat_told t };
-
-    fn from(t: Told) -> FlatTold {
+impl FlatTold {
+    // The state after a call, and what the call gave.
+    fn new(answer: Result<(), TooManyCodes>, pad: Pad, events: &Events) -> FlatTold
+        ensures { result ≡ flat_told (record { answer = answer; pad = pad; events = events.now }) }
+    {
         FlatTold {
-            refusal: pad_outcome(t.answer).into(),
-            pad: t.pad,
-            count: t.events.count,
-            events: array::from_fn(|i| t.events.list[i].into()),
+            refusal: pad_outcome(answer).into(),
+            pad,
+            count: events.count,
+            events: array::from_fn(|i| events.list[i].into()),
         }
     }
 }
@@ -69,14 +70,20 @@ pub extern "C" fn raspteal_pad_new() -> Pad
 pub extern "C" fn raspteal_pad_raw_event(pad: Pad, code: u32, raw: u8, v: i16) -> FlatTold
     ensures { (result ≡ flat_told (raw_event_of pad (code_of code) (raw_of raw v))) × RawWithin (raw_of raw v) }
 {
-    pad.raw_event(Code(code), raw_of(raw, v)).into()
+    let mut pad = pad;
+    match pad.raw_event(Code(code), raw_of(raw, v)) {
+        Ok(event) => FlatTold::new(Ok(()), pad, &Events::from(event)),
+        Err(e) => FlatTold::new(Err(e), pad, &Events::from(None)),
+    }
 }
 
 #[unsafe(no_mangle)]
 pub extern "C" fn raspteal_pad_change_map(pad: Pad, map: FlatMapping) -> FlatTold
     ensures { (result ≡ flat_told (change_map_of pad (mapping_in map))) × ShortAll (held (mapping_in map)) }
 {
-    pad.change_map(map.into()).into()
+    let mut pad = pad;
+    let events = pad.change_map(&map.into());
+    FlatTold::new(Ok(()), pad, &events)
 }
 
 #[unsafe(no_mangle)]

@@ -15,9 +15,9 @@ use crate::flat_mapping::FlatMapping;
 use crate::pad_calls::raw_of;
 use crate::state_calls::FlatEvent;
 use line::ev::Code;
-use pad::events::ELEMENTS;
-use pad::state::pad_outcome;
-use pad::two::{Pads, PadsTold, Which};
+use pad::events::{ELEMENTS, Events};
+use pad::state::{TooManyCodes, pad_outcome};
+use pad::two::{Pads, Which};
 use std::array;
 
 // The state after a call, and its events: the first `count` of the list. FlatTold with two pads: C has no generic structs.
@@ -37,15 +37,16 @@ fn which_of(second: bool) -> Which
     if second { Which::Second } else { Which::First }
 }
 
-impl From<PadsTold> for FlatPadsTold {
-    ghost from_gives = { λ t f. f ≡ flat_pads_told t };
-
-    fn from(t: PadsTold) -> FlatPadsTold {
+impl FlatPadsTold {
+    // The state after a call, and what the call gave.
+    fn new(answer: Result<(), TooManyCodes>, pads: Pads, events: &Events) -> FlatPadsTold
+        ensures { result ≡ flat_pads_told (record { answer = answer; pads = pads; events = events.now }) }
+    {
         FlatPadsTold {
-            refusal: pad_outcome(t.answer).into(),
-            pads: t.pads,
-            count: t.events.count,
-            events: array::from_fn(|i| t.events.list[i].into()),
+            refusal: pad_outcome(answer).into(),
+            pads,
+            count: events.count,
+            events: array::from_fn(|i| events.list[i].into()),
         }
     }
 }
@@ -68,8 +69,11 @@ pub extern "C" fn raspteal_pads_raw_event(
     ensures { (result ≡ flat_pads_told (pads_raw_event_of pads (which_of second) (code_of code) (raw_of raw v)))
         × RawWithin (raw_of raw v) }
 {
-    pads.raw_event(which_of(second), Code(code), raw_of(raw, v))
-        .into()
+    let mut pads = pads;
+    match pads.raw_event(which_of(second), Code(code), raw_of(raw, v)) {
+        Ok(event) => FlatPadsTold::new(Ok(()), pads, &Events::from(event)),
+        Err(e) => FlatPadsTold::new(Err(e), pads, &Events::from(None)),
+    }
 }
 
 #[unsafe(no_mangle)]
@@ -81,7 +85,9 @@ pub extern "C" fn raspteal_pads_change_map(
     ensures { (result ≡ flat_pads_told (pads_change_map_of pads (which_of second) (mapping_in map)))
         × ShortAll (held (mapping_in map)) }
 {
-    pads.change_map(which_of(second), map.into()).into()
+    let mut pads = pads;
+    let events = pads.change_map(which_of(second), &map.into());
+    FlatPadsTold::new(Ok(()), pads, &events)
 }
 
 #[unsafe(no_mangle)]

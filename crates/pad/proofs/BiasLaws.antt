@@ -116,12 +116,3 @@ share_proper x Ar.LowerHalf n d h e = by (ltb 32768 x) refl
 
 pub turned_proper : (n d : ℕ) → Proper n d → Proper (d - n) d
 turned_proper n d p = record { within = omega arith; some = p.some; most = p.most }
-
--- how far a value is from zero
-pub size_below : (v : ℤ) (x : ℕ) → SFits w16 v → x ≡ shifted v → x < 32768 → 32768 - x ≡ nat_abs v
-size_below (pos k) x f e h = absurd (omega arith)
-size_below (negsuc k) x f e h = let l : k < 32768 = f.sfits in omega arith
-
-pub size_above : (v : ℤ) (x : ℕ) → SFits w16 v → x ≡ shifted v → 32768 ≤ x → x - 32768 ≡ nat_abs v
-size_above (pos k) x f e h = omega arith
-size_above (negsuc k) x f e h = absurd (omega arith)

@@ -19,8 +19,8 @@ use Rattle.pad.specs.declared.events.Event.{Event}
 use Rattle.pad.specs.Pads.{put_held, choose, value_in, value_of, values_of, element_at, place_of, sameℤ}
 use Rattle.pad.specs.Pads.{changes}
 use Rattle.pad.specs.declared.state.Pad.{Pad}
-use Rattle.pad.specs.States.{held_of, entries_of, pad_values, pad_value}
-use Rattle.pad.specs.Inner.{one_event, OnlyOf, Touched, caught, event_by}
+use Rattle.pad.specs.States.{caught, held_of, entries_of, pad_values, pad_value}
+use Rattle.pad.specs.Inner.{one_event, OnlyOf, Touched, event_by}
 use Rattle.pad.proofs.BiasLaws.{lt_or_le}
 use Rattle.pad.proofs.PlaceLaws.{element_place, other_element, place_most}
 use Rattle.pad.proofs.TouchLaws.{is_of, untouched, none-changed, one_changed}

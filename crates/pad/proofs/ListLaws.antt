@@ -22,9 +22,6 @@ use Rattle.pad.proofs.ReaderLaws.{same_value}
 use Rattle.pad.proofs.TouchLaws.{same_refl}
 
 -- ---- a place that is written
-map_snoc : {A B : Type 0} (f : A → B) (xs : List A) (x : A) → map f (xs ++ x ∷ []) ≡ map f xs ++ f x ∷ []
-map_snoc f [] x = refl
-map_snoc {A} {B} f (y ∷ xs) x = ap (λ (l : List B). f y ∷ l) (map_snoc f xs x)
 
 -- ---- the values
 tabulate_snoc : (f : ℕ → ℤ) (n k : ℕ) → tabulate f (suc n) k ≡ tabulate f n k ++ f (k + n) ∷ []

@@ -16,7 +16,6 @@ use Rattle.line.specs.declared.mapping.Entry.{Entry}
 use Rattle.line.specs.declared.mapping.Mapping.{Mapping}
 use Rattle.line.specs.Elements.{code_of}
 use Rattle.line.specs.Maps as M
-use Rattle.line.specs.Maps.{entry_at}
 use Rattle.line.specs.Numbers.{code_unit, entry_number, entry_in}
 use Rattle.line.proofs.NumberLaws.{number_back}
 use Rattle.pad.specs.declared.state.TooManyCodes.{TooManyCodes}

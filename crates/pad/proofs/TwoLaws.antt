@@ -18,10 +18,9 @@ use Rattle.pad.specs.declared.events.Raw.{Raw}
 use Rattle.pad.specs.declared.events.Event.{Event}
 use Rattle.pad.specs.declared.events.Events.{Events}
 use Rattle.pad.specs.declared.state.Pad.{Pad}
-use Rattle.pad.specs.declared.state.Told.{Told}
 use Rattle.pad.specs.Pads.{held_max, element_at, tabulate, value_of, sameℤ, changes}
 use Rattle.pad.specs.States.{held_of, entries_of, pad_values, pad_value, events_in, told_of, with_held, held_after_event}
-use Rattle.pad.specs.States.{refused_of, raw_event_of, change_map_of}
+use Rattle.pad.specs.States.{Told, caught, refused_of, raw_event_of, change_map_of}
 use Rattle.pad.specs.PadGuarantee.{told_events}
 use Rattle.pad.specs.declared.telling.Change.{Change}
 use Rattle.pad.specs.declared.two.Pads.{Pads}
@@ -29,7 +28,7 @@ use Rattle.pad.specs.declared.two.Which.{Which}
 use Rattle.pad.specs.declared.two.Which.TheVariants as Wh
 use Rattle.pad.specs.Refusals.{too_many}
 use Rattle.pad.specs.TwoPads.{pads_value, pads_values, pad_of, with_pad, pads_told_of}
-use Rattle.pad.specs.Inner.{one_event, event_by, Before, pad_beside, joined_of, joint_event, joined_by, joined_event, caught}
+use Rattle.pad.specs.Inner.{one_event, event_by, Before, pad_beside, joined_of, joint_event, joined_by, joined_event}
 use Rattle.pad.specs.Inner.{refined, PushesEvent, Refining, TellsItself, two}
 use Rattle.pad.proofs.PlaceLaws.{place_element}
 use Rattle.pad.proofs.TouchLaws.{same_refl}
@@ -246,9 +245,9 @@ away_lem w p t h k =
     (ap (λ (l : List Event). events_in (refined w own (pad_beside w p) l)) (sym one))
 
 -- ---- the pads after a raw value was put into one of them
-pub beside_after : (w : Which) (p r : Pads) → r ≡ with_pad w p (pad_of w r) → pad_beside w r ≡ pad_beside w p
-beside_after Wh.First p r e = ap (λ (x : Pads). x.second) e
-beside_after Wh.Second p r e = ap (λ (x : Pads). x.first) e
+pub beside_after : (w : Which) (p : Pads) (q : Pad) (r : Pads) → r ≡ with_pad w p q → pad_beside w r ≡ pad_beside w p
+beside_after Wh.First p q r e = ap (λ (x : Pads). x.second) e
+beside_after Wh.Second p q r e = ap (λ (x : Pads). x.first) e
 
 pub same_after : (w : Which) (p r : Pads) → r ≡ with_pad w p (pad_of w r) → pad_of w r ≡ pad_of w p → r ≡ p
 same_after Wh.First p r e q = e ∙ ap (λ (x : Pad). with_pad Wh.First p x) q

@@ -1,4 +1,4 @@
--- The output of a part, counted from the least value, is the output; every value fits, and is within. Assumes nothing.
+-- Every value fits, and is within. Assumes nothing.
 use Rattle.std.specs.Prelude.{Option, Some, None}
 use Prim.Native.Nat.{ℕ, zero, suc, ◌+◌, ◌-◌, ◌*◌, ◌/◌, ◌<◌, ◌≤◌}
 use mathlib.Core.Path.{◌≡◌, refl, sym, ap, subst, ◌∙◌}
@@ -23,24 +23,6 @@ use Rattle.line.specs.declared.ev.AxisOrBtn.TheVariants as El
 use Rattle.line.specs.declared.parser.AxisRange.{AxisRange}
 use Rattle.line.specs.declared.parser.AxisRange.TheVariants as Ar
 use Rattle.pad.proofs.ShareLaws.{scaled_le}
-
-pub above : (q : ℕ) → unshifted (32768 + q) ≡ pos q
-above q =
-    let l : 32768 ≤ 32768 + q = omega arith in
-    rw (le-ltb (32768 + q) 32768 l) (ap pos (omega arith))
-
-pub below : (q : ℕ) → q ≤ 32768 → unshifted (32768 - q) ≡ neg_ℤ (pos q)
-below zero h = refl
-below (suc k) h =
-    let l : 32768 - suc k < 32768 = omega arith in
-    rw (lt-ltb (32768 - suc k) 32768 l) (ap negsuc (omega arith))
-
-pub output_is : (e : AxisOrBtn) (half : AxisRange) (n d : ℕ) → Proper n d
-    → unshifted (output_at e half n d) ≡ output_of e half n d
-output_is (El.Btn b) half n d p = above (n * 32767 / d)
-output_is (El.Axis a) Ar.UpperHalf n d p = above (n * 32767 / d)
-output_is (El.Axis a) Ar.LowerHalf n d p = below (n * 32768 / d) (scaled_le n d 32768 p.within)
-output_is (El.Axis a) Ar.Full n d p = refl
 
 -- ---- every value fits
 pub unfold_neg : (q : ℕ) → q ≤ 32768 → SFits w16 (neg_ℤ (pos q))

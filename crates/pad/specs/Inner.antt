@@ -14,7 +14,6 @@ use Rattle.pad.specs.declared.events.Held.{Held}
 use Rattle.pad.specs.declared.events.Event.{Event}
 use Rattle.pad.specs.declared.choice.Best.{Best}
 use Rattle.pad.specs.declared.state.Pad.{Pad}
-use Rattle.pad.specs.declared.state.Told.{Told}
 use Rattle.pad.specs.declared.two.Pads.{Pads}
 use Rattle.pad.specs.declared.two.Which.TheVariants as Wh
 use Rattle.pad.specs.declared.two.Which.{Which}
@@ -23,7 +22,7 @@ use Rattle.pad.specs.declared.events.Raw.{Raw}
 use Rattle.pad.specs.declared.state.TooManyCodes.{TooManyCodes}
 use Rattle.pad.specs.declared.telling.Change.{Change}
 use Rattle.pad.specs.Pads.{held_max, put_held, gives, Chosen, none, chosen, preferred, choose, element_at, tabulate, sameℤ, changes}
-use Rattle.pad.specs.States.{held_in, pad_values, pad_value, events_in, refused_of, raw_event_of}
+use Rattle.pad.specs.States.{held_in, pad_values, pad_value, events_in, caught, Told, refused_of, raw_event_of}
 use Rattle.pad.specs.TwoPads.{farther}
 
 -- a value counted from the least one, and back
@@ -127,10 +126,6 @@ pub record Listed (bs cs : List ℤ) (events : Events) (k : ℕ) : Type 0 where
   pub are : events ≡ events_in es
   pub few : length es ≤ k
   pub told : es ++ changes k (drop k bs) (drop k cs) ≡ changes 0 bs cs
-
-abbrev pub caught : Option Event → List Event → List Event
-caught (Some e) es = e ∷ es
-caught None es = es
 
 -- the event of a change, if there is one and the value is another
 abbrev pub event_by : Option Change → Option Event

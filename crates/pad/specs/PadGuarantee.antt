@@ -15,10 +15,9 @@ use Rattle.pad.specs.declared.events.Held.{Held}
 use Rattle.pad.specs.declared.events.Event.{Event}
 use Rattle.pad.specs.declared.events.Events.{Events}
 use Rattle.pad.specs.declared.state.Pad.{Pad}
-use Rattle.pad.specs.declared.state.Told.{Told}
 use Rattle.pad.specs.ValueClaims.{RawWithin}
 use Rattle.pad.specs.Pads.{held_max, element_count, put_held, values_of, hears}
-use Rattle.pad.specs.States.{held_of, entries_of, pad_values, new_pad, raw_event_of, change_map_of}
+use Rattle.pad.specs.States.{held_of, entries_of, pad_values, new_pad, Told, raw_event_of, change_map_of}
 
 -- ---- "every list of raw events and map changes"
 pub data PadCall : Type 0 where

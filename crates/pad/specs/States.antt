@@ -1,6 +1,6 @@
 -- A pad's state as the program holds it, and what its calls answer (document 02, P13).
 -- Public contracts rest on these definitions; they assume nothing.
-use Rattle.std.specs.Prelude.{ℕ, ◌+◌, ◌-◌, ◌*◌, ◌/◌, ◌%◌, List, [], ◌∷◌, ◌++◌, map, eqb, leb, ltb, length, take, drop, replicate, ℤ, pos, nat_abs, ◌+ℤ◌, ◌-ℤ◌, Ok, Err}
+use Rattle.std.specs.Prelude.{ℕ, ◌+◌, ◌-◌, ◌*◌, ◌/◌, ◌%◌, List, [], ◌∷◌, ◌++◌, map, eqb, leb, ltb, length, take, drop, replicate, ℤ, pos, nat_abs, ◌+ℤ◌, ◌-ℤ◌, Option, Some, None, Result, Ok, Err, ⊤}
 use Rattle.text.specs.Bytes.{pick}
 use Rattle.line.specs.declared.ev.Code.{Code}
 use Rattle.line.specs.declared.ev.AxisOrBtn.{AxisOrBtn}
@@ -19,7 +19,7 @@ use Rattle.pad.specs.declared.events.Held.{Held}
 use Rattle.pad.specs.declared.events.Event.{Event}
 use Rattle.pad.specs.declared.events.Events.{Events}
 use Rattle.pad.specs.declared.state.Pad.{Pad}
-use Rattle.pad.specs.declared.state.Told.{Told}
+use Rattle.pad.specs.declared.state.TooManyCodes.{TooManyCodes}
 use Rattle.pad.specs.Pads.{held_max, element_count, place_of, value_of, values_of, changes}
 
 -- ---- a held code as a number: its code in the upper half, its last raw value in the lower
@@ -73,6 +73,22 @@ unused_event = record { element = El.Btn B.Unknown; value = pos 0 }
 -- events as the program holds them
 unfoldable pub events_in : List Event → Events
 events_in es = record { count = length es; list = es ++ replicate (element_count - length es) unused_event }
+
+-- one event or none, and others after it
+abbrev pub caught : Option Event → List Event → List Event
+caught (Some e) es = e ∷ es
+caught None es = es
+
+-- whether the call was refused, the state after it, and the events
+pub record Told : Type 0 where
+  pub answer : Result ⊤ TooManyCodes
+  pub pad : Pad
+  pub events : Events
+
+-- a raw event's call as it is told: it gives a refusal or at most one event, and leaves the pad p
+abbrev pub told_by : Result (Option Event) TooManyCodes → Pad → Told
+told_by (Ok event) p = record { answer = Ok tt; pad = p; events = events_in (caught event []) }
+told_by (Err e) p = record { answer = Err e; pad = p; events = events_in [] }
 
 -- from a state to a state: "one event per element whose value changed"
 unfoldable pub told_of : Pad → Pad → Told

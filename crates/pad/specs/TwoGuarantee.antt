@@ -6,11 +6,10 @@ use Rattle.pad.specs.declared.events.Held.{Held}
 use Rattle.pad.specs.declared.two.Pads.{Pads}
 use Rattle.pad.specs.declared.two.Which.{Which}
 use Rattle.pad.specs.declared.two.Which.TheVariants as Wh
-use Rattle.pad.specs.declared.two.PadsTold.{PadsTold}
 use Rattle.pad.specs.Pads.{hears}
 use Rattle.pad.specs.States.{new_pad, with_map}
 use Rattle.pad.specs.PadGuarantee.{PadCall, RawEvent, answered, pad_after, told_events, zeros}
-use Rattle.pad.specs.TwoPads.{pads_values, new_pads, pad_of, pads_told_of}
+use Rattle.pad.specs.TwoPads.{pads_values, new_pads, pad_of, PadsTold, pads_told_of}
 
 -- ---- a list of calls, each for one of the two pads
 pub record PadsCall : Type 0 where

@@ -1,19 +1,20 @@
 -- Two pads for one player: the values of the elements, and what the calls answer (document 02, P14).
 -- Public contracts rest on these definitions; they assume nothing.
-use Rattle.std.specs.Prelude.{List, ltb, ℤ, nat_abs}
+use Rattle.std.specs.Prelude.{List, [], ltb, ℤ, nat_abs, Option, Result, Ok, Err, ⊤}
 use Rattle.text.specs.Bytes.{pick}
 use Rattle.line.specs.declared.ev.Code.{Code}
 use Rattle.line.specs.declared.ev.AxisOrBtn.{AxisOrBtn}
 use Rattle.line.specs.declared.mapping.Mapping.{Mapping}
+use Rattle.pad.specs.declared.events.Event.{Event}
+use Rattle.pad.specs.declared.events.Events.{Events}
 use Rattle.pad.specs.declared.events.Raw.{Raw}
 use Rattle.pad.specs.declared.state.Pad.{Pad}
-use Rattle.pad.specs.declared.state.Told.{Told}
+use Rattle.pad.specs.declared.state.TooManyCodes.{TooManyCodes}
 use Rattle.pad.specs.declared.two.Pads.{Pads}
 use Rattle.pad.specs.declared.two.Which.{Which}
 use Rattle.pad.specs.declared.two.Which.TheVariants as Wh
-use Rattle.pad.specs.declared.two.PadsTold.{PadsTold}
 use Rattle.pad.specs.Pads.{element_count, element_at, tabulate, changes}
-use Rattle.pad.specs.States.{pad_value, new_pad, events_in, raw_event_of, change_map_of}
+use Rattle.pad.specs.States.{pad_value, new_pad, events_in, caught, Told, raw_event_of, change_map_of}
 
 -- ---- "Each element takes, of the two pads' values, the one farther from zero, and the first pad's between equals."
 -- equals are equal distances
@@ -42,6 +43,17 @@ pad_of Wh.Second p = p.second
 abbrev pub with_pad : Which → Pads → Pad → Pads
 with_pad Wh.First p q = record { first = q; second = p.second }
 with_pad Wh.Second p q = record { first = p.first; second = q }
+
+-- whether the call was refused, the pads after it, and the events
+pub record PadsTold : Type 0 where
+  pub answer : Result ⊤ TooManyCodes
+  pub pads : Pads
+  pub events : Events
+
+-- a raw event's call as it is told, as `told_by` of one pad
+abbrev pub pads_told_by : Result (Option Event) TooManyCodes → Pads → PadsTold
+pads_told_by (Ok event) p = record { answer = Ok tt; pads = p; events = events_in (caught event []) }
+pads_told_by (Err e) p = record { answer = Err e; pads = p; events = events_in [] }
 
 -- ".. yields P13's events, now for these values": that pad answers as it does by itself, and the events are those of
 -- the values of both; "27 counts that pad's codes alone", since it is that pad's answer

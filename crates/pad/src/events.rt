@@ -1,6 +1,6 @@
 // What a pad reports of a code, and what is told of an element.
 ghost use Rattle.std.specs.Prelude.{◌≡◌, ◌<◌, []};
-ghost use Rattle.pad.specs.States.{events_in};
+ghost use Rattle.pad.specs.States.{events_in, caught};
 ghost use Rattle.pad.specs.Inner.{PushesEvent};
 
 use line::ev::{AxisOrBtn, Button, Code};
@@ -43,6 +43,19 @@ impl Event {
 pub struct Events {
     pub count: usize,
     pub list: [Event; ELEMENTS],
+}
+
+// The events of one that may be.
+impl From<Option<Event>> for Events {
+    ghost from_gives = { λ event events. events ≡ events_in (caught event []) };
+
+    fn from(event: Option<Event>) -> Events {
+        let mut events = Events::none();
+        if let Some(e) = event {
+            events.push(e);
+        }
+        events
+    }
 }
 
 impl Events {

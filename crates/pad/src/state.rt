@@ -1,15 +1,15 @@
 // A pad while a game runs: the codes that it has reported with their last raw values, and the current map.
 ghost use Rattle.std.specs.Prelude.{◌≡◌};
 ghost use Rattle.pad.specs.ValueClaims.{RawWithin};
-ghost use Rattle.pad.specs.States.{new_pad, raw_event_of, change_map_of, pad_value, entry_numbers};
+ghost use Rattle.pad.specs.States.{new_pad, told_by, raw_event_of, change_map_of, pad_value, with_map, entry_numbers};
 ghost use Rattle.pad.specs.PadGuarantee.{ShortAll};
 ghost use Rattle.pad.specs.Refusals.{pad_outcome};
 ghost use Rattle.line.specs.Maps as specs;
 ghost use Rattle.line.specs.Refusals.{refusal};
 
-use crate::events::{Events, Raw};
+use crate::events::{Event, Events, Raw};
 use crate::put::put_code;
-use crate::telling::{change_event, differences, events_of};
+use crate::telling::{change_event, differences};
 use crate::values::{all_values, value_of};
 use line::ev::{AxisOrBtn, Code};
 use line::mapping::{CODES_MAX, Mapping};
@@ -19,9 +19,8 @@ use line::refusal::Refusal;
 pub const HELD_MAX: usize = 256;
 
 // Held codes and the entries of the map, as numbers. Any numbers mean something: counts over 256 are read as 256.
-// The counts stand beside the arrays, and the codes are numbers, since a C program holds the same struct and hands it
-// in: a `Held` could not hold each number that may come in, and would ask more of that program.
-// repr(C): C programs hold the same struct.
+// The counts stand beside the arrays, and the codes are numbers, since this is the struct that a C program holds and
+// hands in: a `Held` could not hold each number that may come in, and would ask more of that program.
 #[repr(C)]
 #[derive(Clone, Copy)]
 pub struct Pad {
@@ -51,14 +50,6 @@ pub fn pad_outcome(answer: Result<(), TooManyCodes>) -> Result<(), Refusal>
     answer.map_err(TooManyCodes::refusal)
 }
 
-// What a call answers: the state after it, and the events.
-#[derive(Clone, Copy)]
-pub struct Told {
-    pub answer: Result<(), TooManyCodes>,
-    pub pad: Pad,
-    pub events: Events,
-}
-
 impl Pad {
     // No codes and the empty map.
     #[tactic(auto, unfolding(crate::specs::States::new_pad))]
@@ -73,42 +64,39 @@ impl Pad {
         }
     }
 
-    // A raw value of a code: the state that holds it, and the event of its element, if that has another value now.
+    // A raw value of a code, which the pad holds then: the event of its element, if that has another value now.
     // A 257th code is refused, and nothing is changed.
-    pub fn raw_event(self, code: Code, raw: Raw) -> Told
-        ensures { (result ≡ raw_event_of self code raw) × RawWithin raw }
+    pub fn raw_event(&mut self, code: Code, raw: Raw) -> Result<Option<Event>, TooManyCodes>
+        ensures { (told_by result self.new ≡ raw_event_of self.old code raw) × RawWithin raw }
     {
-        let mut pad = self;
-        let (answer, change) = match put_code(&mut pad, code, raw) {
-            Ok(change) => (Ok(()), change),
-            Err(e) => (Err(e), None),
-        };
-        Told {
-            answer,
-            pad,
-            events: events_of(change_event(change)),
-        }
+        Ok(change_event(put_code(self, code, raw)?))
     }
 
-    // Another map: the state with it, and an event for each element that has another value now.
-    pub fn change_map(self, map: Mapping) -> Told
-        ensures { (result ≡ change_map_of self map) × ShortAll (specs.held map) }
+    // Another map, and an event for each element that has another value now.
+    pub fn change_map(&mut self, map: &Mapping) -> Events
+        ensures told { result ≡ (change_map_of self.old map.now).events }
+        ensures left { self.new ≡ (change_map_of self.old map.now).pad }
+        ensures short { ShortAll (specs.held map.now) }
     {
-        let mut pad = self;
-        pad.entry_count = map.count.min(CODES_MAX);
-        pad.entries = entry_numbers(map);
-        Told {
-            answer: Ok(()),
-            pad,
-            events: differences(&all_values(&self), &all_values(&pad)),
-        }
+        let before = all_values(self);
+        self.take_map(*map);
+        differences(&before, &all_values(self))
+    }
+
+    // A map's entries in the place of those before. The map is taken by value: of one that is lent by another crate it
+    // is not known that its array has 256 entries.
+    fn take_map(&mut self, map: Mapping)
+        ensures { (self.new ≡ with_map self.old map) × ShortAll (specs.held map) }
+    {
+        self.entry_count = map.count.min(CODES_MAX);
+        self.entries = entry_numbers(map);
     }
 
     // The value of an element; 0 for one that is left out.
-    pub fn value(self, element: AxisOrBtn) -> i16
-        ensures { result ≡ pad_value self element }
+    pub fn value(&self, element: AxisOrBtn) -> i16
+        ensures { result ≡ pad_value self.now element }
     {
-        value_of(&self, element)
+        value_of(self, element)
     }
 }
 

@@ -1,8 +1,8 @@
 // The events between two states of a pad.
-ghost use Rattle.std.specs.Prelude.{◌≡◌, [], ◌≤◌, ◌<◌};
+ghost use Rattle.std.specs.Prelude.{◌≡◌, ◌≤◌, ◌<◌};
 ghost use Rattle.pad.specs.Pads.{place_from, place_of, element_at, changes};
 ghost use Rattle.pad.specs.States.{events_in};
-ghost use Rattle.pad.specs.Inner.{caught, event_by};
+ghost use Rattle.pad.specs.Inner.{event_by};
 
 use crate::events::{ELEMENTS, Event, Events};
 use line::ev::{Axis, AxisOrBtn, Button};
@@ -53,17 +53,6 @@ pub fn element_at(k: usize) -> AxisOrBtn
         return AxisOrBtn::Btn(Button(k as u16 + 1));
     }
     AxisOrBtn::Axis(Axis((k - 19) as u16 + 1))
-}
-
-// The events of one that may be.
-pub fn events_of(event: Option<Event>) -> Events
-    ensures { result ≡ events_in (caught event []) }
-{
-    let mut events = Events::none();
-    if let Some(e) = event {
-        events.push(e);
-    }
-    events
 }
 
 // The event of a change.

@@ -2,15 +2,16 @@
 ghost use Rattle.std.specs.Prelude.{◌≡◌};
 ghost use Rattle.line.specs.Maps.{held};
 ghost use Rattle.pad.specs.ValueClaims.{RawWithin};
-ghost use Rattle.pad.specs.States.{events_in};
+ghost use Rattle.pad.specs.States.{events_in, change_map_of};
 ghost use Rattle.pad.specs.PadGuarantee.{ShortAll, told_events};
-ghost use Rattle.pad.specs.TwoPads.{farther, pads_value, new_pads, pad_of, with_pad, pads_raw_event_of, pads_change_map_of};
+ghost use Rattle.pad.specs.TwoPads.{farther, pads_value, new_pads, pad_of, with_pad, pads_told_by, pads_raw_event_of};
+ghost use Rattle.pad.specs.TwoPads.{pads_change_map_of};
 ghost use Rattle.pad.specs.Inner.{PutsCode, TellsFew, pad_beside, joined_of, joined_by, refined};
 
 use crate::events::{Event, Events, Raw};
 use crate::put::put_code;
 use crate::state::{Pad, TooManyCodes};
-use crate::telling::{Change, change_event, events_of};
+use crate::telling::{Change, change_event};
 use crate::values::value_of;
 use line::ev::{AxisOrBtn, Code};
 use line::mapping::Mapping;
@@ -30,14 +31,6 @@ pub enum Which {
     Second,
 }
 
-// What a call answers: the state after it, and the events.
-#[derive(Clone, Copy)]
-pub struct PadsTold {
-    pub answer: Result<(), TooManyCodes>,
-    pub pads: Pads,
-    pub events: Events,
-}
-
 impl Pads {
     // No codes and the empty map, on both pads.
     #[tactic(auto, unfolding(crate::specs::TwoPads::new_pads))]
@@ -52,37 +45,32 @@ impl Pads {
 
     // A raw value of a code of one pad, and the event of its element, if that has another value now. A 257th code of
     // that pad is refused, and nothing is changed.
-    pub fn raw_event(self, which: Which, code: Code, raw: Raw) -> PadsTold
-        ensures { (result ≡ pads_raw_event_of self which code raw) × RawWithin raw }
+    pub fn raw_event(
+        &mut self,
+        which: Which,
+        code: Code,
+        raw: Raw,
+    ) -> Result<Option<Event>, TooManyCodes>
+        ensures { (pads_told_by result self.new ≡ pads_raw_event_of self.old which code raw) × RawWithin raw }
     {
-        let mut pads = self;
-        let (answer, change) = match pads.put(which, code, raw) {
-            Ok(change) => (Ok(()), change),
-            Err(e) => (Err(e), None),
-        };
-        PadsTold {
-            answer,
-            pads,
-            events: events_of(joined_change(which, change, pads.beside(which))),
-        }
+        let change = self.put(which, code, raw)?;
+        Ok(joined_change(which, change, self.beside(which)))
     }
 
     // Another map for one pad, and an event for each element that has another value now.
-    pub fn change_map(self, which: Which, map: Mapping) -> PadsTold
-        ensures { (result ≡ pads_change_map_of self which map) × ShortAll (held map) }
+    pub fn change_map(&mut self, which: Which, map: &Mapping) -> Events
+        ensures told { result ≡ (pads_change_map_of self.old which map.now).events }
+        ensures left { self.new ≡ (pads_change_map_of self.old which map.now).pads }
+        ensures short { ShortAll (held map.now) }
     {
-        let own = self.pad(which);
-        let told = own.change_map(map);
-        PadsTold {
-            answer: told.answer,
-            pads: self.with_pad(which, told.pad),
-            events: joined_events(which, own, self.beside(which), told.events),
-        }
+        let own = *self.pad(which);
+        let told = self.change(which, map);
+        joined_events(which, &own, self.beside(which), told)
     }
 
     // The value of an element: that of the pad where it is farther from zero, the first one's between equals.
-    pub fn value(self, element: AxisOrBtn) -> i16
-        ensures { result ≡ pads_value self element }
+    pub fn value(&self, element: AxisOrBtn) -> i16
+        ensures { result ≡ pads_value self.now element }
     {
         farthest(
             value_of(&self.first, element),
@@ -90,7 +78,7 @@ impl Pads {
         )
     }
 
-    // A raw value of a code put into the pad that a call is for, where it stands: a copy of two pads costs more.
+    // A raw value of a code put into the pad that a call is for.
     fn put(&mut self, which: Which, code: Code, raw: Raw) -> Result<Option<Change>, TooManyCodes>
         ensures told { PutsCode (pad_of which self.old) code raw result (pad_of which self.new) }
         ensures there { self.new ≡ with_pad which self.old (pad_of which self.new) }
@@ -99,6 +87,18 @@ impl Pads {
         match which {
             Which::First => put_code(&mut self.first, code, raw),
             Which::Second => put_code(&mut self.second, code, raw),
+        }
+    }
+
+    // Another map for the pad that a call is for, and that pad's events.
+    fn change(&mut self, which: Which, map: &Mapping) -> Events
+        ensures told { result ≡ (change_map_of (pad_of which self.old) map.now).events }
+        ensures left { self.new ≡ with_pad which self.old (change_map_of (pad_of which self.old) map.now).pad }
+        ensures short { ShortAll (held map.now) }
+    {
+        match which {
+            Which::First => self.first.change_map(map),
+            Which::Second => self.second.change_map(map),
         }
     }
 
@@ -120,22 +120,6 @@ impl Pads {
         match which {
             Which::First => &self.second,
             Which::Second => &self.first,
-        }
-    }
-
-    // The pads with another one in its place.
-    fn with_pad(self, which: Which, pad: Pad) -> Pads
-        ensures { result ≡ with_pad which self pad }
-    {
-        match which {
-            Which::First => Pads {
-                first: pad,
-                second: self.second,
-            },
-            Which::Second => Pads {
-                first: self.first,
-                second: pad,
-            },
         }
     }
 }

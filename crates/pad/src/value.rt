@@ -81,8 +81,8 @@ fn entry_event(e: Entry, raw: Raw) -> Option<Event>
 
 // What a raw value of a code gives by a map: its element and the value, or none.
 #[tactic(auto, unfolding(crate::specs::Values::event_of))]
-pub fn event(map: Mapping, code: Code, raw: Raw) -> Option<Event>
-    ensures { result ≡ event_of (held map) code raw }
+pub fn event(map: &Mapping, code: Code, raw: Raw) -> Option<Event>
+    ensures { result ≡ event_of (held map.now) code raw }
 {
     let e = map.entry(code)?;
     entry_event(e, raw)

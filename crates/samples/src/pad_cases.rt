@@ -46,7 +46,7 @@ pub fn event_case<R: Print + AllocGlobal>(rt: &R, args: &[u8]) -> io::Result<boo
     let code = rest(args);
     let raw = rest(code);
     let map = odd_map(number(word(args)));
-    let told = event(map, Code(short(word(code)) as u32), raw_of(word(raw)));
+    let told = event(&map, Code(short(word(code)) as u32), raw_of(word(raw)));
     let out = format!(in rt.alloc(); "{}", OrDash(told.map(|e| EventText(e))))?;
     is(rt, out.as_bytes(), rest(raw))
 }

@@ -1,19 +1,15 @@
 -- All values before and after, and their differences. Assumes nothing.
-use mathlib.Core.Path.{◌≡◌, ◌∙◌}
-use native.Mathlib.Omega.{arith}
-use borrow.Author.Rules.{rules}
-use lib.ListN.{length}
-use Rattle.line.proofs.MapLaws.{entries_long}
-use Rattle.pad.proofs.StateLaws.{min_is, capped_most, map_next, changed}
+use Rattle.std.proofs.Common.{ap}
+use Rattle.pad.specs.States.{Told}
+use Rattle.pad.proofs.StateLaws.{changed}
 use Rattle.pad.proofs.state.Pad.change_map.Goals as goal
 
-pub returns : goal.returns
-returns c =
-    let p = c.args.self in
-    let m = c.args.map in
-    let lm : length m.entries ≡ 256 = search (rules, entries_long) in
-    let em = c.min.ensures ∙ min_is m.count in
-    let q = map_next p m c.min.result lm em (omega (arith, em, capped_most m.count)) c.entry_numbers-pad.result
-    c.entry_numbers-pad.ensures.0 in
-    let d = rw (c.all_values.ensures, c.all_values-2.ensures) at c.differences.ensures in
-    (changed p m _ c.differences.result q d, c.entry_numbers-pad.ensures.1)
+pub returns-clause-told : goal.returns-clause-told
+returns-clause-told c =
+    let d = rw (c.all_values-before.ensures, c.all_values.ensures) at c.differences.ensures in
+    ap (λ (t : Told). t.events) (changed c.args.self.now c.args.map.now _ c.differences.result c.take_map.ensures.0 d)
+
+pub returns-clause-left : goal.returns-clause-left
+returns-clause-left c =
+    let d = rw (c.all_values-before.ensures, c.all_values.ensures) at c.differences.ensures in
+    ap (λ (t : Told). t.pad) (changed c.args.self.now c.args.map.now _ c.differences.result c.take_map.ensures.0 d)

@@ -18,4 +18,4 @@ returns c =
     let f = c.farthest in
     answered_value f.result _ f.type_inv f.ensures
     ∙ ap (λ (z : ℤ). farther z (to_z w16 (of_z w16 b.result))) ea
-    ∙ ap (λ (z : ℤ). farther (pad_value c.args.self.first c.args.element) z) eb
+    ∙ ap (λ (z : ℤ). farther (pad_value c.args.self.now.first c.args.element) z) eb

@@ -2,13 +2,13 @@
 use Rattle.std.proofs.Common.{rules}
 use Rattle.exports.specs.FlatPads.{flat_event, flat_told}
 use Rattle.exports.proofs.FlatLaws.{laid, no_event}
-use Rattle.exports.proofs.state_calls.FlatToldFromTold.from.Goals as goal
+use Rattle.exports.proofs.state_calls.FlatTold.new.Goals as goal
 
 pub returns : goal.returns
 unfolding flat_told
 returns c =
     simp (
-      laid flat_event _ _ c.args.t.events.list c.from_fn.result 27 no_event c.from_fn.ensures.items (search rules) (λ i y q l e. (search rules, search rules)),
+      laid flat_event _ _ c.args.events.now.list c.from_fn.result 27 no_event c.from_fn.ensures.items (search rules) (λ i y q l e. (search rules, search rules)),
       c.into.ensures,
       c.pad_outcome.ensures,
     )
