@@ -174,8 +174,8 @@ pub fn start_state(line: &[u8]) -> State
     State::NotUtf8
 }
 
-// One step of the walker, over plain values: `Parser`'s calls are thin ones over it, and the reading of a whole line takes
-// the same steps without a `Parser`.
+// One step of the walker, over plain values: `Parser`'s calls are thin ones over it, and the reading of a whole line
+// takes the same steps without a `Parser`.
 pub fn step(line: &[u8], pos: usize, state: State) -> Stepped
     ensures { result ≡ step_of line.now pos state }
 {
