@@ -2,7 +2,7 @@
 -- Assumes nothing.
 use Rattle.std.specs.Prelude.{Option, Some, None, Ok}
 use Prim.Native.Nat.{ℕ, zero, suc, ◌+◌, ◌-◌, ◌≤◌, ◌<◌}
-use mathlib.Core.Path.{◌≡◌, refl, ap, ◌∙◌}
+use mathlib.Core.Path.{◌≡◌, refl, ap}
 use mathlib.Core.List.{List, [], ◌∷◌, ◌++◌}
 use mathlib.Core.Bool.{Bool, true, false}
 use native.Mathlib.Nat.{add-zero}
@@ -30,13 +30,12 @@ use Rattle.line.specs.Pairs.{half_of, ranges_of, keyed_of, pair_of}
 use Rattle.line.specs.Puts.{listed, puts_of}
 use Rattle.line.specs.Effects.{does, answer_effect, effect_of}
 use Rattle.line.proofs.TableLaws.{both-T}
-use Rattle.line.proofs.CountLaws.{count_append, count_none}
+use Rattle.line.proofs.CountLaws.{count_none}
 use Rattle.line.proofs.JoinLaws.{Free, count_one, take-before, drop-after}
 
 -- ---- a key that names an element, and nothing else
 pub record Named (key : List ℕ) (e : AxisOrBtn) : Type 0 where
   pub colons : Free (byte ":") key
-  pub commas : Free (byte ",") key
   pub sign : half_of key ≡ Ar.Full
   pub other : same key (ascii "platform") ≡ false
   pub element : key_element key ≡ Some e
@@ -59,9 +58,6 @@ module _ (key : List ℕ) (e : AxisOrBtn) where
   abbrev no_colon : Bool
   no_colon = eqb (count_of (byte ":") key) 0
 
-  abbrev no_comma : Bool
-  no_comma = eqb (count_of (byte ",") key) 0
-
   abbrev no_sign : Bool
   no_sign = is_full (half_of key)
 
@@ -72,7 +68,7 @@ module _ (key : List ℕ) (e : AxisOrBtn) where
   itself = is_element e (key_element key)
 
   names : Bool
-  names = both no_colon (both no_comma (both no_sign (both not_platform itself)))
+  names = both no_colon (both no_sign (both not_platform itself))
 
 all_named_of : (ℕ → AxisOrBtn) → ℕ → ℕ → Bool
 all_named_of f k zero = true
@@ -110,17 +106,14 @@ module _ (key : List ℕ) (e : AxisOrBtn) where
   named_by : T (names key e) → Named key e
   unfolding names
   named_by t =
-      let a = both-T (no_colon key e)
-      (both (no_comma key e) (both (no_sign key e) (both (not_platform key e) (itself key e)))) t in
-      let b = both-T (no_comma key e) (both (no_sign key e) (both (not_platform key e) (itself key e))) a.1 in
-      let c = both-T (no_sign key e) (both (not_platform key e) (itself key e)) b.1 in
-      let d = both-T (not_platform key e) (itself key e) c.1 in
+      let a = both-T (no_colon key e) (both (no_sign key e) (both (not_platform key e) (itself key e))) t in
+      let b = both-T (no_sign key e) (both (not_platform key e) (itself key e)) a.1 in
+      let c = both-T (not_platform key e) (itself key e) b.1 in
       record {
         colons = eqb→eq (count_of (byte ":") key) 0 a.0;
-        commas = eqb→eq (count_of (byte ",") key) 0 b.0;
-        sign = full_is (half_of key) c.0;
-        other = not_is (same key (ascii "platform")) d.0;
-        element = element_is (key_element key) e d.1;
+        sign = full_is (half_of key) b.0;
+        other = not_is (same key (ascii "platform")) c.0;
+        element = element_is (key_element key) e c.1;
       }
 
 all_named : (f : ℕ → AxisOrBtn) (k n i : ℕ) → T (all_named_of f k n) → i < n → Named (ident_text (f (k + i))) (f (k + i))
@@ -162,13 +155,6 @@ digits_low (x ∷ s) h zero =
 digits_low (x ∷ s) h (suc j) = digits_low s (both_parts (is_digit x) (every is_digit s) h).1 j
 
 module _ (key : List ℕ) (to : AxisOrBtn) (is : Named key to) (i : ℕ) where
-  -- the pair has no comma, whatever its kind
-  pub pair_commas : (kind : ℕ) → eqb kind (byte ",") ≡ false → Free (byte ",") (pair_text key kind i)
-  unfolding count_of
-  pair_commas kind h =
-      count_append (byte ",") key (byte ":" ∷ kind ∷ decimal i)
-      ∙ rw (is.commas, h, digits_free (byte ",") i refl)
-
   module _ (small : i ≤ number_max) where
     button_token_lem : pair_of (pair_text key (byte "b") i) 0
         ≡ Some (Ok (Tk.ButtonMapping i to (ranges_of Ar.Full Ar.Full false)))

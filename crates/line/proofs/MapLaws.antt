@@ -6,8 +6,7 @@ use Prim.Native.Nat.{min, ℕ, zero, suc, ◌+◌, ◌-◌, ◌<◌, ◌≤◌}
 use mathlib.Core.Path.{◌≡◌, refl, sym, ap, ◌∙◌}
 use mathlib.Core.List.{List, [], ◌∷◌, ◌++◌, append_assoc, map}
 use native.Mathlib.Omega.{arith}
-use lib.ListN.{length, take, drop, get_or, set, length-map, length-set, length-take}
-use lib.Seq.{drop-cons, get_or-take}
+use lib.ListN.{length, take, drop, get_or, set, length-map, length-set}
 use borrow.Author.Tests.{eq-eqb, ne_eqb, lt-ltb, le-ltb, le-leb, lt-leb, leb-true, leb-false, ltb-true, ltb-false}
 use Rattle.line.specs.declared.mapping.Entry.{Entry}
 use Rattle.line.specs.declared.mapping.Mapping.{Mapping}
@@ -28,13 +27,6 @@ entries_long l n p = sym (length-map l the_field.into) ∙ p
 -- what a read past an array's end is taken to give, in a need
 abbrev pub past : Entry
 past = unused_entry
-
--- the entries from i on begin with the one that the array has at i
-pub held-from : (m : Mapping) (i : ℕ) (d : Entry) → i < length (held m) → drop i (held m)
-    ≡ get_or m.entries i d ∷ drop (suc i) (held m)
-held-from m i d h =
-    let k : i < m.count = omega (arith, simp length-take at h) in
-    drop-cons (held m) i d h ∙ ap (λ (x : Entry). x ∷ drop (suc i) (held m)) (get_or-take m.count m.entries i d k)
 
 -- ---- the look-up
 pub entry_found : (xs : List Entry) (c : Code) → find (λ x. eqb x.code.0 c.0) xs ≡ entry_at xs c

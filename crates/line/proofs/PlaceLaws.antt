@@ -5,7 +5,7 @@ use mathlib.Core.List.{List, [], ◌∷◌, ◌++◌, append_assoc}
 use native.Mathlib.Omega.{arith}
 use native.Mathlib.Numerals.{add-one}
 use lib.ListN.{length, take, drop, get_or, set, length-append, length-drop, take-append-drop}
-use lib.Seq.{drop-cons, take-suc, set_at, get_or_at, take_at, length-take-le, take-set-lt}
+use lib.Seq.{drop-cons, take-suc, set_at, length-take-le, take-set-lt}
 use lib.Seq.{drop-set-lt}
 
 module _ {A : Type 0} where
@@ -30,13 +30,6 @@ module _ {A : Type 0} where
       let p = length-take-le i xs h in
       simp (length-append, length-drop) (omega arith)
 
-  pub inserted_before : (i : ℕ) (xs : List A) (e : A) → i ≤ length xs → take i (take i xs ++ e ∷ drop i xs) ++ drop i xs
-      ≡ xs
-  inserted_before i xs e h = rw (take_at (take i xs) (e ∷ drop i xs) i (length-take-le i xs h)) (take-append-drop i xs)
-
-  pub inserted_first : (i : ℕ) (xs : List A) (e d : A) → i ≤ length xs → get_or (take i xs ++ e ∷ drop i xs) i d ≡ e
-  inserted_first i xs e d h = get_or_at (take i xs) e (drop i xs) d i (length-take-le i xs h)
-
   pub inserted_later : (i k : ℕ) (xs : List A) (e d : A) → i ≤ k → i ≤ length xs → get_or (take i xs ++ e ∷ drop i xs)
       (suc k) d ≡ get_or xs k d
   inserted_later zero k xs e d h l = refl
@@ -58,9 +51,6 @@ module _ {A : Type 0} where
 
   -- ---- a list that is being copied over another: the first k of l, then those of xs
   module _ (xs l : List A) (k : ℕ) (d : A) (in-xs : k < length xs) (in-l : k < length l) where
-    pub copied_read : get_or (take k l ++ drop k xs) k d ≡ get_or xs k d
-    copied_read = rw (drop-cons xs k d in-xs) (get_or_at (take k l) _ _ d k (length-take-le k l (omega arith)))
-
     pub copied_more : set (take k l ++ drop k xs) k (get_or l k d) ≡ take (k + 1) l ++ drop (k + 1) xs
     copied_more =
         rw (drop-cons xs k d in-xs, add-one, take-suc l k d in-l, append_assoc)

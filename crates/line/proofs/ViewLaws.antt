@@ -1,8 +1,7 @@
 -- Laws of puts over the list of entries. Assumes nothing.
 use Rattle.std.specs.Prelude.{Ok, Err}
 use Prim.Native.Nat.{ℕ, zero, suc, ◌+◌, ◌-◌, ◌<◌, ◌≤◌}
-use mathlib.Core.Path.{◌≡◌, refl, ap, subst, ◌∙◌}
-use mathlib.Core.Bool.{Bool, true, false}
+use mathlib.Core.Path.{◌≡◌, ap, subst, ◌∙◌}
 use mathlib.Core.List.{List, [], ◌∷◌, ◌++◌}
 use native.Mathlib.Omega.{arith}
 use borrow.Author.Tests.{le-leb}
@@ -10,7 +9,6 @@ use lib.Dec.{ltb, leb, eqb}
 use lib.ListN.{length, drop, replicate}
 use lib.Seq.{take-append_seam, drop-append-add}
 use Rattle.line.specs.declared.mapping.Entry.{Entry}
-use Rattle.line.specs.declared.mapping.Mapping.{Mapping}
 use Rattle.line.specs.Maps.{PutAnswer}
 use Rattle.text.specs.Bytes.{pick}
 use Rattle.line.proofs.PickLaws.{picked}
@@ -72,28 +70,6 @@ put_to_map v e =
       padded_rest v.list codes_max (length (put_entry e v.list)) unused_entry
           (put_grows e v.list),
     )
-
--- what the answer of a put says of the entries
-abbrev answered : Bool → Mapping → Mapping → PutAnswer
-answered b x y = pick b (record { answer = Ok tt; map = x }) (record { answer = Err (record {}); map = y })
-
-by-stored : (b : Bool) (x y : Mapping) → (answered b x y).answer ≡ Ok tt → b ≡ true
-by-stored true x y e = refl
-by-stored false x y e = cc
-
-by_full : (b : Bool) (x y : Mapping) → (answered b x y).answer ≡ Err (record {}) → b ≡ false
-by_full true x y e = cc
-by_full false x y e = refl
-
-module _ (v : MapView) (e : Entry) where
-  pub stored_fits : (put_of (to_map v) e).answer ≡ Ok tt → leb (length (put_entry e v.list)) codes_max ≡ true
-  stored_fits p = by-stored _ _ _ (rw (put_to_map v e) at p)
-
-  pub full_over : (put_of (to_map v) e).answer ≡ Err (record {}) → leb (length (put_entry e v.list)) codes_max ≡ false
-  full_over p = by_full _ _ _ (rw (put_to_map v e) at p)
-
-  pub stored-map : (put_of (to_map v) e).answer ≡ Ok tt → (put_of (to_map v) e).map ≡ to_map (with v (put_entry e v.list))
-  stored-map p = rw (put_to_map v e, stored_fits p)
 
 -- ---- a put that is sure to fit
 pub put_adds : (e : Entry) (xs : List Entry) → length (put_entry e xs) ≤ length xs + 1

@@ -24,9 +24,9 @@ pub enum AxisOrBtn {
 }
 
 // The greatest number of a button and of an axis.
-const BUTTON_LAST: u16 = 19;
+pub const BUTTON_LAST: u16 = 19;
 
-const AXIS_LAST: u16 = 8;
+pub const AXIS_LAST: u16 = 8;
 
 impl Button {
     pub const Unknown: Button = Button(0);

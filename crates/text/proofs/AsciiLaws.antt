@@ -4,7 +4,7 @@ use Prim.Native.Nat.{ℕ, zero, suc, ◌+◌, ◌≤◌, ◌<◌}
 use mathlib.Core.Path.{◌≡◌, refl, sym, ap, ◌∙◌}
 use mathlib.Core.Logic.{⊎_elim}
 use mathlib.Core.Bool.{Bool, true, false}
-use mathlib.Core.List.{List, [], ◌∷◌, ◌++◌, append_assoc}
+use mathlib.Core.List.{List, [], ◌∷◌, ◌++◌}
 use native.Mathlib.Omega.{arith}
 use Rattle.std.specs.List.{position_or_len}
 use Rattle.std.specs.Prelude.{Option, Some, None, cond, not, ltb, unwrap_or}
@@ -228,23 +228,6 @@ module _ (d : ℕ) (ascii : d < 128) where
 
   pub valid_head : (b : List ℕ) → Valid b → Valid (d ∷ b)
   valid_head b v = valid_join [] b none_valid v
-
-  pub valid_tail : (b : List ℕ) → Valid (d ∷ b) → Valid b
-  valid_tail b v = (valid_split [] b v).1
-
-  pub join-before : (a b : List ℕ) → Valid a → Valid (d ∷ b) → Valid (a ++ d ∷ b)
-  join-before a b va vb = valid_join a b va (valid_tail b vb)
-
-  pub split-before : (a b : List ℕ) → Valid (a ++ d ∷ b) → Valid a × Valid (d ∷ b)
-  split-before a b v = let w = valid_split a b v in (w.0, valid_head b w.1)
-
-  -- ---- where the first part ends with an ASCII byte
-
-  pub join-after : (a b : List ℕ) → Valid (a ++ d ∷ []) → Valid b → Valid ((a ++ d ∷ []) ++ b)
-  join-after a b va vb = rw append_assoc (valid_join a b (valid_split a [] va).0 vb)
-
-  pub split_after : (a b : List ℕ) → Valid ((a ++ d ∷ []) ++ b) → Valid (a ++ d ∷ []) × Valid b
-  split_after a b v = let w = valid_split a b (rw append_assoc at v) in (valid_join a [] w.0 none_valid, w.1)
 
 -- ---- ASCII texts
 

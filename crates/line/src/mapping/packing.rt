@@ -5,11 +5,10 @@ ghost use Rattle.line.specs.Numbers.{code_unit, shape_unit, half_number, ranges_
 ghost use Rattle.line.specs.Numbers.{element_of_kind, shaped_entry, entry_in};
 
 use crate::ev::{Axis, AxisOrBtn, Button};
+use crate::mapping::CODE_UNIT;
 use crate::parser::{AxisRange, Ranges};
 
-// What a code counts in the number of an entry, and what its shape does: twice its ranges, and 1 for an axis.
-pub const CODE_UNIT: u64 = 4294967296;
-
+// What the shape counts in the number of an entry: twice its ranges, and 1 for an axis.
 pub const SHAPE_UNIT: u64 = 65536;
 
 // A half as a number: full is 0. C's structs of tokens and ranges number the halves otherwise, the lower one is 0 there:
