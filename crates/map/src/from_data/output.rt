@@ -1,5 +1,5 @@
 // The line of a build: its length, and its bytes in a lent output that has room for them.
-ghost use Rattle.std.specs.Prelude.{◌≡◌, ◌+◌, ◌≤◌, length};
+ghost use Rattle.std.specs.Prelude.{◌≡◌, ◌≤◌, length};
 ghost use Rattle.text.specs.Decimal.{decimal};
 ghost use Rattle.text.specs.Uuid.{uuid_text};
 ghost use Rattle.text.specs.Inner.{Put};
