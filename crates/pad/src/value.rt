@@ -72,7 +72,7 @@ pub fn entry_value(e: Entry, raw: Raw) -> Option<i16>
 }
 
 // The element of an entry with that value, or none.
-pub fn entry_event(e: Entry, raw: Raw) -> Option<Event>
+pub(crate) fn entry_event(e: Entry, raw: Raw) -> Option<Event>
     ensures { result ≡ emitted_by e raw }
 {
     let value = entry_value(e, raw)?;
