@@ -73,10 +73,10 @@ module _ (l : List ℕ) (at : ℕ) (xs ys zs : List ℕ) (h : Room l at ((xs ++ 
 -- the line: its head, the buttons' pairs and the axes'
 module _ (l : List ℕ) (p : Pairs) (name : List ℕ) (uuid : Uuid) (h : Room l 0 (line_text p name uuid)) (n : ℕ)
     (m : List ℕ) (x : Put l 0 (head_text uuid name) n m) where
-  abbrev pub buttons_text : List ℕ
+  abbrev buttons_text : List ℕ
   buttons_text = pairs_of (byte "b") p.buttons.items
 
-  abbrev pub axes_text : List ℕ
+  abbrev axes_text : List ℕ
   axes_text = pairs_of (byte "a") p.axes.items
 
   pub buttons_fit : Room m n buttons_text

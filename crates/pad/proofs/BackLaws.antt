@@ -1,6 +1,6 @@
 -- Numbers of a slice that are met from the last one on: the list of them begins with the one met last. Assumes nothing.
 use Rattle.std.proofs.Common.{ℕ, ◌≡◌, List, [], ◌∷◌, ◌++◌, map, reverse, Bor, ap, ◌∙◌}
-use mathlib.Core.List.{map-append, reverse-append, reverse-reverse}
+use mathlib.Core.List.{map-append, reverse-append}
 
 abbrev pub met : List (Bor ℕ) → List ℕ
 met xs = reverse (map (λ x. x.now) xs)
@@ -9,6 +9,3 @@ pub met-more : (xs : List (Bor ℕ)) (x : Bor ℕ) → met (xs ++ x ∷ []) ≡ 
 met-more xs x =
     ap reverse (map-append (λ (y : Bor ℕ). y.now) xs (x ∷ []))
     ∙ reverse-append (map (λ (y : Bor ℕ). y.now) xs) (x.now ∷ [])
-
-pub met-all : (xs : List (Bor ℕ)) (ys : List ℕ) → map (λ x. x.now) xs ≡ reverse ys → met xs ≡ ys
-met-all xs ys e = ap reverse e ∙ reverse-reverse ys

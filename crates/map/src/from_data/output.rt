@@ -16,6 +16,7 @@ use text::decimal::{index_len, write_index};
 use text::uuid::Uuid;
 
 // How long the pair of a slot is, with its comma.
+#[tactic(auto, using(crate::proofs::LengthLaws::pair_fits))]
 fn pair_len(slot: Placed) -> usize
     ensures is { result ≡ length_of slot }
     ensures short { result ≤ 36 }
