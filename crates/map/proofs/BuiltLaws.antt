@@ -2,7 +2,7 @@
 -- Assumes nothing.
 use Rattle.std.specs.Prelude.{Option, Some, None, Ok}
 use Prim.Native.Nat.{ℕ, zero, suc, ◌+◌, ◌-◌, ◌<◌, ◌≤◌}
-use mathlib.Core.Path.{◌≡◌, refl}
+use mathlib.Core.Path.{◌≡◌, refl, sym, ap}
 use mathlib.Core.Bool.{Bool, true, false}
 use mathlib.Core.List.{List, ◌∷◌}
 use native.Mathlib.Omega.{arith}
@@ -11,6 +11,7 @@ use lib.Dec.{leb, ltb}
 use lib.ListN.{length}
 use Rattle.text.specs.Bytes.{pick}
 use Rattle.text.specs.Decimal.{digits, decimal}
+use Rattle.text.specs.Inner.{Put}
 use Rattle.text.specs.declared.uuid.Uuid.{Uuid}
 use Rattle.line.specs.declared.ev.Code.{Code}
 use Rattle.line.specs.declared.ev.AxisOrBtn.{AxisOrBtn}
@@ -18,14 +19,19 @@ use Rattle.line.specs.declared.mapping.Entry.{Entry}
 use Rattle.line.specs.Maps.{entry_of}
 use Rattle.line.specs.Reading.{list_max}
 use Rattle.line.specs.Tables.{axes_sdl, axes_table, element_from, element_row, as_button, as_axis}
+use Rattle.map.specs.declared.error.MappingError.TheVariants as Me
+use Rattle.map.specs.declared.from_data.filled.Pairs.{Pairs}
 use Rattle.map.specs.declared.mapping_data.MappingData.{MappingData}
 use Rattle.map.specs.Lists.{place_of, in_list}
 use Rattle.map.specs.Slots.{button_of, axis_of}
-use Rattle.map.specs.Build.{also, filled_from, filled_buttons, filled_axes, missing_of, checks_of, built_line}
+use Rattle.map.specs.Build.{also, filled_from, filled_buttons, filled_axes, missing_of, checks_of, built_line, refused_build, Builds}
 use Rattle.map.specs.Inner.{pair_max, pairs_max, built_max}
 use Rattle.map.specs.Inner.{pair_length, pairs_length, line_length, built_line_max, short_of}
-use Rattle.map.proofs.CheckLaws.{Passed, passed}
+use Rattle.map.specs.Inner.{Gathered, Room, line_text, line_len_of, put_map_of}
+use Rattle.map.proofs.CheckLaws.{Passed, passed, short_build, whole_build}
 use Rattle.map.proofs.LengthLaws.{decimal_grows, line_length_lem}
+use Rattle.map.proofs.OutputLaws.{line_held, length-held}
+use Rattle.map.proofs.PutsLaws.{map-held}
 use Rattle.map.proofs.PlainLaws.{AllPlain, buttons_plain, axes_plain, named_buttons, named_axes, buttons_named}
 use Rattle.map.proofs.PlainLaws.{axes_named}
 
@@ -104,14 +110,14 @@ module _ (d : MappingData) (buttons axes name : List ℕ) (uuid : Uuid) where
   built_positive = omega (arith, line_length_lem d buttons axes name uuid)
 
 -- ---- whether an output is too short: one that holds every line is not
-pub short_so : (room n : ℕ) → short_of room n ≡ true → room < n
+short_so : (room n : ℕ) → short_of room n ≡ true → room < n
 short_so room n h = by (leb built_line_max room) h
   where
     by : (t : Bool) → pick t false (ltb room n) ≡ true → room < n
     by true q = let z : ◌≡◌ {A = ℕ} 0 1 = cc in absurd (omega arith)
     by false q = ltb-true room n q
 
-pub fits_so : (d : MappingData) (buttons axes name : List ℕ) (uuid : Uuid) → checks_of d buttons axes name ≡ Ok tt
+fits_so : (d : MappingData) (buttons axes name : List ℕ) (uuid : Uuid) → checks_of d buttons axes name ≡ Ok tt
     → (room n : ℕ) → n ≡ line_length d buttons axes name → short_of room n ≡ false → n ≤ room
 fits_so d buttons axes name uuid c room n e h = by (leb built_line_max room) refl h
   where
@@ -126,3 +132,34 @@ fits_so d buttons axes name uuid c room n e h = by (leb built_line_max room) ref
           line_length_lem d buttons axes name uuid,
         )
     by false p q = ltb-false room n q
+
+-- ---- what a build answers where the checks pass and the slots are gathered
+module _ (d : MappingData) (buttons axes name : List ℕ) (uuid : Uuid) (p : Pairs) (g : Gathered d buttons axes p)
+    (c : checks_of d buttons axes name ≡ Ok tt) (out : List ℕ) where
+  long : line_len_of p name ≡ line_length d buttons axes name
+  long = length-held d buttons axes name uuid p g
+
+  pub built_short : short_of (length out) (line_len_of p name) ≡ true
+      → Builds d buttons axes name uuid out (refused_build Me.OutputTooShort) out
+  built_short h =
+      short_build d buttons axes name uuid out (Ok tt) (sym c) refl (line_len_of p name) long
+      (short_so (length out) (line_len_of p name) h)
+
+  module _ (h : short_of (length out) (line_len_of p name) ≡ false) where
+    most : line_length d buttons axes name ≤ length out
+    most = omega (arith, long, fits_so d buttons axes name uuid c (length out) (line_len_of p name) long h)
+
+    same : line_text p name uuid ≡ built_line d buttons axes name uuid
+    same = line_held d buttons axes name uuid p g
+
+    pub line_fits : Room out 0 (line_text p name uuid)
+    line_fits = omega (arith, most, ap length same, line_length_lem d buttons axes name uuid)
+
+    pub built_whole : (n : ℕ) (m : List ℕ) → Put out 0 (line_text p name uuid) n m
+        → Builds d buttons axes name uuid out (record { answer = Ok tt; map = put_map_of p (length name); len = n }) m
+    built_whole n m q =
+        let wrote = rw same at q in
+        let len : n ≡ line_length d buttons axes name =
+        omega (arith, wrote.0, line_length_lem d buttons axes name uuid) in
+        rw (map-held d name buttons axes p g, wrote.1)
+        (whole_build d buttons axes name uuid out (Ok tt) (sym c) refl n len (omega (arith, most, len)))

@@ -110,26 +110,24 @@ same_filled f g to m zero k h e = refl
 same_filled f g to m (suc n) k h e =
     rw (e k (omega arith), same_filled f g to m n (suc k) (omega arith) e)
 
+after_is : (kind : Kind) (slots : List (Option Code)) (f : ℕ → Option Code) (n : ℕ) → length slots ≡ n
+    → ((i : ℕ) → i < n → get_or slots i empty_slot ≡ f i)
+    → filled_after kind slots 0 ≡ filled_from f (element_of kind) n 0
+after_is kind slots f n e h =
+    let z : n - 0 ≡ n = omega arith in
+    rw (e, z) (same_filled (λ k. get_or slots k empty_slot) f (element_of kind) n n 0 (omega arith) h)
+
 pub buttons_after : (d : MappingData) → length d.buttons ≡ button_slots
     → filled_after Kd.Button d.buttons 0 ≡ filled_buttons d
 unfolding button_of
 buttons_after d n =
-    rw n
-    (same_filled (λ k. get_or d.buttons k empty_slot) (λ k. button_of d (record { 0 = k })) as_button button_slots
-    button_slots 0 (omega arith) here)
-  where
-    here : (i : ℕ) → i < button_slots → get_or d.buttons i empty_slot ≡ button_of d (record { 0 = i })
-    here i h = rw (lt-ltb i button_slots h)
+    after_is Kd.Button d.buttons (λ k. button_of d (record { 0 = k })) button_slots n
+    (λ i h. rw (lt-ltb i button_slots h))
 
 pub axes_after : (d : MappingData) → length d.axes ≡ axis_slots → filled_after Kd.Axis d.axes 0 ≡ filled_axes d
 unfolding axis_of
 axes_after d n =
-    rw n
-    (same_filled (λ k. get_or d.axes k empty_slot) (λ k. axis_of d (record { 0 = k })) as_axis axis_slots
-    axis_slots 0 (omega arith) here)
-  where
-    here : (i : ℕ) → i < axis_slots → get_or d.axes i empty_slot ≡ axis_of d (record { 0 = i })
-    here i h = rw (lt-ltb i axis_slots h)
+    after_is Kd.Axis d.axes (λ k. axis_of d (record { 0 = k })) axis_slots n (λ i h. rw (lt-ltb i axis_slots h))
 
 -- ---- there are no more than slots
 also_few : (s : Option Code) (to : AxisOrBtn) (rest : List Entry) → length (also s to rest) ≤ suc (length rest)

@@ -10,10 +10,13 @@ use native.Mathlib.Omega.{arith}
 use lib.ListN.{length, take, drop, get_or, length-append, take-append-drop}
 use lib.Seq.{take-suc}
 use Rattle.text.specs.Bytes.{byte, written, Wrote}
+use Rattle.text.specs.Decimal.{decimal}
 use Rattle.text.specs.Inner.{Put}
+use Rattle.text.specs.Uuid.{uuid_text}
 use Rattle.text.specs.declared.uuid.Uuid.{Uuid}
 use Rattle.text.proofs.BytesLaws.{answer_fits, buffer_fits, written-length, written-append, written_none}
 use Rattle.line.specs.declared.mapping.Entry.{Entry}
+use Rattle.line.specs.Tables.{ident_text}
 use Rattle.map.specs.declared.from_data.filled.Pairs.{Pairs}
 use Rattle.map.specs.declared.from_data.filled.Placed.{Placed}
 use Rattle.map.specs.declared.from_data.output.Output.{Output}
@@ -26,7 +29,8 @@ use Rattle.map.specs.Inner.{lengths_of, pairs_length, line_length, line_len_of}
 -- what a writer of the text layer leaves where there is room
 pub wrote_put : (l : List ℕ) (at : ℕ) (v : List ℕ) (w : Option ℕ) (m : List ℕ) (r d : ℕ) → at + length v ≤ length l
     → Wrote l at v w m → r ≡ unwrap_or w d → Put l at v r m
-wrote_put l at v w m r d h p e = (e ∙ ap (λ (o : Option ℕ). unwrap_or o d) (p.0 ∙ answer_fits l at v h), p.1 ∙ buffer_fits l at v h)
+wrote_put l at v w m r d h p e =
+    (e ∙ ap (λ (o : Option ℕ). unwrap_or o d) (p.0 ∙ answer_fits l at v h), p.1 ∙ buffer_fits l at v h)
 
 module _ (l : List ℕ) (at : ℕ) (xs : List ℕ) (n : ℕ) (m : List ℕ) (p : Put l at xs n m) where
   pub put_length : at + length xs ≤ length l → length m ≡ length l
@@ -66,6 +70,25 @@ module _ (l : List ℕ) (at : ℕ) (xs ys zs : List ℕ) (h : Room l at ((xs ++ 
       pub three_put : (s : ℕ) (o : List ℕ) → Put k r zs s o → Put l at ((xs ++ ys) ++ zs) s o
       three_put s o t = put_then l at (xs ++ ys) r k both_put zs h s o t
 
+-- the line: its head, the buttons' pairs and the axes'
+module _ (l : List ℕ) (p : Pairs) (name : List ℕ) (uuid : Uuid) (h : Room l 0 (line_text p name uuid)) (n : ℕ)
+    (m : List ℕ) (x : Put l 0 (head_text uuid name) n m) where
+  abbrev buttons_text : List ℕ
+  buttons_text = pairs_of (byte "b") p.buttons.items
+
+  abbrev axes_text : List ℕ
+  axes_text = pairs_of (byte "a") p.axes.items
+
+  pub buttons_fit : Room m n buttons_text
+  buttons_fit = three_second l 0 (head_text uuid name) buttons_text axes_text h n m x
+
+  module _ (r : ℕ) (k : List ℕ) (y : Put m n buttons_text r k) where
+    pub axes_fit : Room k r axes_text
+    axes_fit = three_last l 0 (head_text uuid name) buttons_text axes_text h n m x r k y
+
+    pub line_put : (s : ℕ) (o : List ℕ) → Put k r axes_text s o → Put l 0 (line_text p name uuid) s o
+    line_put s o z = three_put l 0 (head_text uuid name) buttons_text axes_text h n m x r k y s o z
+
 -- ---- puts into an output
 -- what fits as a whole fits in parts
 pub first_fits : (o : Output) (xs ys : List ℕ) → Holds o (xs ++ ys) → Holds o xs
@@ -78,37 +101,68 @@ module _ (o : Output) (xs ys : List ℕ) (h : Holds o (xs ++ ys)) (p : Output) (
   pub puts_then : (q : Output) → Puts p ys q → Puts o (xs ++ ys) q
   puts_then q y = (y.0 ∙ x.0, put_then o.out.now o.at xs p.at p.out.now x.1 ys h q.at q.out.now y.1)
 
--- four texts, one after the other
-module _ (o : Output) (w a b c d : List ℕ) (e : w ≡ a ++ (b ++ (c ++ d))) (h : Holds o w) where
-  whole_fits : Holds o (a ++ (b ++ (c ++ d)))
-  whole_fits = omega (arith, ap (λ (v : List ℕ). length v) e)
+-- a text in four parts
+pub record InFour (w : List ℕ) : Type 0 where
+  pub a : List ℕ
+  pub b : List ℕ
+  pub c : List ℕ
+  pub d : List ℕ
+  pub is : w ≡ a ++ (b ++ (c ++ d))
 
-  pub four_first : Holds o a
-  four_first = first_fits o a (b ++ (c ++ d)) whole_fits
+-- they are put one after the other
+module _ (w : List ℕ) (f : InFour w) (o : Output) (h : Holds o w) where
+  whole_fits : Holds o (f.a ++ (f.b ++ (f.c ++ f.d)))
+  whole_fits = omega (arith, ap (λ (v : List ℕ). length v) f.is)
 
-  module _ (p : Output) (x : Puts o a p) where
-    three_fit : Holds p (b ++ (c ++ d))
-    three_fit = rest_fits o a (b ++ (c ++ d)) whole_fits p x
+  pub four_first : Holds o f.a
+  four_first = first_fits o f.a (f.b ++ (f.c ++ f.d)) whole_fits
 
-    pub four_second : Holds p b
-    four_second = first_fits p b (c ++ d) three_fit
+  module _ (p : Output) (x : Puts o f.a p) where
+    three_fit : Holds p (f.b ++ (f.c ++ f.d))
+    three_fit = rest_fits o f.a (f.b ++ (f.c ++ f.d)) whole_fits p x
 
-    module _ (q : Output) (y : Puts p b q) where
-      two_fit : Holds q (c ++ d)
-      two_fit = rest_fits p b (c ++ d) three_fit q y
+    pub four_second : Holds p f.b
+    four_second = first_fits p f.b (f.c ++ f.d) three_fit
 
-      pub four_third : Holds q c
-      four_third = first_fits q c d two_fit
+    module _ (q : Output) (y : Puts p f.b q) where
+      two_fit : Holds q (f.c ++ f.d)
+      two_fit = rest_fits p f.b (f.c ++ f.d) three_fit q y
 
-      module _ (r : Output) (z : Puts q c r) where
-        pub four_last : Holds r d
-        four_last = rest_fits q c d two_fit r z
+      pub four_third : Holds q f.c
+      four_third = first_fits q f.c f.d two_fit
 
-        pub four_put : (s : Output) → Puts r d s → Puts o w s
+      module _ (r : Output) (z : Puts q f.c r) where
+        pub four_last : Holds r f.d
+        four_last = rest_fits q f.c f.d two_fit r z
+
+        pub four_put : (s : Output) → Puts r f.d s → Puts o w s
         four_put s t =
-            rw e
-            (puts_then o a (b ++ (c ++ d)) whole_fits p x s
-            (puts_then p b (c ++ d) three_fit q y s (puts_then q c d two_fit r z s t)))
+            rw f.is
+            (puts_then o f.a (f.b ++ (f.c ++ f.d)) whole_fits p x s
+            (puts_then p f.b (f.c ++ f.d) three_fit q y s (puts_then q f.c f.d two_fit r z s t)))
+
+-- the pair of a slot, and what stands before the pairs
+pub pair_is : (letter : ℕ) (s : Placed) → pair_of letter s
+    ≡ ident_text s.entry.element ++ ((byte ":" ∷ letter ∷ []) ++ (decimal s.place ++ byte "," ∷ []))
+pair_is letter s = simp append_assoc
+
+abbrev pub pair_in_four : (letter : ℕ) (s : Placed) → InFour (pair_of letter s)
+pair_in_four letter s =
+    record {
+      a = ident_text s.entry.element;
+      b = byte ":" ∷ letter ∷ [];
+      c = decimal s.place;
+      d = byte "," ∷ [];
+      is = pair_is letter s;
+    }
+
+pub head_is : (uuid : Uuid) (name : List ℕ) → head_text uuid name
+    ≡ uuid_text uuid ++ (byte "," ∷ [] ++ (name ++ byte "," ∷ []))
+head_is uuid name = simp append_assoc
+
+abbrev pub head_in_four : (uuid : Uuid) (name : List ℕ) → InFour (head_text uuid name)
+head_in_four uuid name =
+    record { a = uuid_text uuid; b = byte "," ∷ []; c = name; d = byte "," ∷ []; is = head_is uuid name }
 
 -- ---- the pairs
 module _ (letter : ℕ) where

@@ -59,21 +59,18 @@ all_letters_lem to k (suc n) (suc i) t h =
     let w = both-T (every is_ident_byte (ident_text (to k))) (all_letters to (suc k) n) t in
     rw e (all_letters_lem to (suc k) n i w.1 (omega arith))
 
+letters_at : (to : ℕ → AxisOrBtn) (n k : ℕ) → T (all_letters to 1 n) → 1 ≤ k → k ≤ n
+    → every is_ident_byte (ident_text (to k)) ≡ true
+letters_at to n k t h l =
+    let e : 1 + (k - 1) ≡ k = omega arith in
+    rw e at (all_letters_lem to 1 n (k - 1) t (omega arith))
+
 pub button_plain : (k : ℕ) → 1 ≤ k → k ≤ 19 → Plain (as_button k)
 button_plain k h l =
-    let e : 1 + (k - 1) ≡ k = omega arith in
-    record {
-      named = button_named k h l;
-      letters = rw e at (all_letters_lem as_button 1 19 (k - 1) buttons_letters (omega arith));
-    }
+    record { named = button_named k h l; letters = letters_at as_button 19 k buttons_letters h l }
 
 pub axis_plain : (k : ℕ) → 1 ≤ k → k ≤ 6 → Plain (as_axis k)
-axis_plain k h l =
-    let e : 1 + (k - 1) ≡ k = omega arith in
-    record {
-      named = axis_named k h l;
-      letters = rw e at (all_letters_lem as_axis 1 6 (k - 1) axes_letters (omega arith));
-    }
+axis_plain k h l = record { named = axis_named k h l; letters = letters_at as_axis 6 k axes_letters h l }
 
 -- ---- the filled slots
 unfoldable pub AllPlain : List Entry → Type 0

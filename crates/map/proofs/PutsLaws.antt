@@ -105,4 +105,5 @@ entries_placed codes (e ∷ es) = rw (entries_placed codes es)
 pub map-held : (d : MappingData) (name buttons axes : List ℕ) (p : Pairs) → Gathered d buttons axes p
     → put_map_of p (length name) ≡ built_map d name
 unfolding put_map_of built_map
-map-held d name buttons axes p g = rw (g.first, g.last, entries_placed buttons (filled_buttons d), entries_placed axes (filled_axes d))
+map-held d name buttons axes p g =
+    rw (g.first, g.last, entries_placed buttons (filled_buttons d), entries_placed axes (filled_axes d))

@@ -4,13 +4,13 @@ ghost use Rattle.line.specs.Elements.{code_of};
 ghost use Rattle.line.specs.Maps.{entry_of, to_map};
 ghost use Rattle.line.specs.Tables.{as_button};
 ghost use Rattle.map.specs.Keys.{key_count, key_first};
-ghost use Rattle.map.specs.Default.{button_rows, in_its_list, put_kept, flagged_map, kept_map};
+ghost use Rattle.map.specs.Default.{button_rows, put_kept, flagged_map, kept_map};
 ghost use Rattle.map.specs.Default.{default_of};
 ghost use Rattle.map.specs.Inner.{PutsListed};
 
 use crate::error::MappingError;
 use crate::keys::{KEY_FIRST, key_table};
-use crate::lists::{in_list, lists_fit};
+use crate::lists::Codes;
 use line::ev::{Axis, AxisOrBtn, Button, Code};
 use line::mapping::{Entry, Mapping};
 
@@ -38,17 +38,6 @@ pub struct DefaultMap {
     pub map: Mapping,
 }
 
-// The code of a button is sought among the buttons, that of an axis among the axes.
-#[tactic(auto, unfolding(crate::specs::Default::in_its_list))]
-fn in_its_list(buttons: &[u32], axes: &[u32], code: Code) -> bool
-    ensures { result ≡ in_its_list buttons.now axes.now code }
-{
-    if code.0 < Code::AXIS_LSTICKX.0 {
-        return in_list(buttons, code);
-    }
-    in_list(axes, code)
-}
-
 // The row of a key code's place in the table and of the button's number there.
 fn key_row(i: usize, n: u8) -> Entry
     requires { i < key_count }
@@ -58,36 +47,36 @@ fn key_row(i: usize, n: u8) -> Entry
 }
 
 // An entry put into a map, which has room, if its code is in its list.
-fn put_listed(map: &mut Mapping, buttons: &[u32], axes: &[u32], e: Entry)
-    ensures { PutsListed buttons.now axes.now e map.old map.new }
+fn put_listed(map: &mut Mapping, codes: Codes, e: Entry)
+    ensures { PutsListed codes.entry.buttons.now codes.entry.axes.now e map.old map.new }
 {
-    if in_its_list(buttons, axes, e.code) {
+    if codes.contains(e.code) {
         let _ = map.put(e);
     }
 }
 
 // The map of the buttons whose code is in its list, by the table of key codes.
-fn kept_buttons(buttons: &[u32], axes: &[u32]) -> Mapping
-    ensures { result ≡ to_map (flagged_map (put_kept buttons.now axes.now [] button_rows)) }
+fn kept_buttons(codes: Codes) -> Mapping
+    ensures { result ≡ to_map (flagged_map (put_kept codes.entry.buttons.now codes.entry.axes.now [] button_rows)) }
 {
     let table = key_table();
     let mut map = Mapping::new();
     map.is_default = true;
     for (i, n) in table.buttons.iter().enumerate() {
         if *n != 0 {
-            put_listed(&mut map, buttons, axes, key_row(i, *n));
+            put_listed(&mut map, codes, key_row(i, *n));
         }
     }
     map
 }
 
 // The same with the rows of the axes after them.
-fn kept_map(buttons: &[u32], axes: &[u32]) -> Mapping
-    ensures { result ≡ to_map (kept_map buttons.now axes.now) }
+fn kept_map(codes: Codes) -> Mapping
+    ensures { result ≡ to_map (kept_map codes.entry.buttons.now codes.entry.axes.now) }
 {
-    let mut map = kept_buttons(buttons, axes);
+    let mut map = kept_buttons(codes);
     for (code, element) in AXIS_ROWS {
-        put_listed(&mut map, buttons, axes, Entry::new(code, element));
+        put_listed(&mut map, codes, Entry::new(code, element));
     }
     map
 }
@@ -96,10 +85,11 @@ fn kept_map(buttons: &[u32], axes: &[u32]) -> Mapping
 pub fn default(buttons: &[u32], axes: &[u32]) -> DefaultMap
     ensures { result ≡ default_of buttons.now axes.now }
 {
-    if lists_fit(buttons, axes) {
+    let codes = Codes { buttons, axes };
+    if codes.fit() {
         DefaultMap {
             answer: Ok(()),
-            map: kept_map(buttons, axes),
+            map: kept_map(codes),
         }
     } else {
         DefaultMap {

@@ -12,6 +12,7 @@ use crate::error::MappingError;
 use crate::from_data::checks::checked;
 use crate::from_data::output::{put_line, too_short};
 use crate::from_data::puts::built_map;
+use crate::lists::Codes;
 use crate::mapping_data::MappingData;
 use line::mapping::Mapping;
 use text::uuid::Uuid;
@@ -60,7 +61,7 @@ pub fn from_data(
     ensures { Builds «data» buttons.now axes.now name.now uuid
         out.old result out.new }
 {
-    match checked(&data, buttons, axes, name) {
+    match checked(&data, Codes { buttons, axes }, name) {
         Err(e) => refused(e),
         Ok(pairs) => {
             if too_short(out.len(), &pairs, name) {

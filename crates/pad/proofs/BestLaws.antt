@@ -1,13 +1,12 @@
--- The code and the value of each element, from the last held code on. Assumes nothing.
-use Rattle.std.specs.Prelude.{Option, Some, None, get_or}
-use Prim.Native.Nat.{ℕ, ◌+◌, ◌<◌}
+-- The code and the value of each element, one held code after the other. Assumes nothing.
+use Rattle.std.specs.Prelude.{Option, Some, None}
+use Rattle.std.specs.Borrow.{Bor}
+use Prim.Native.Nat.{ℕ}
 use mathlib.Core.Path.{◌≡◌, refl, sym, ap, ◌∙◌}
 use mathlib.Core.Bool.{Bool, true, false}
-use mathlib.Core.List.{List, ◌∷◌, map}
-use native.Mathlib.Numerals.{add-one}
+use mathlib.Core.List.{List, [], ◌∷◌, ◌++◌, map}
 use lib.IntN.{ℤ}
-use lib.ListN.{length, drop, replicate}
-use lib.Seq.{drop-cons}
+use lib.ListN.{replicate}
 use Rattle.std.proofs.lemmas.List.{get_or-replicate}
 use Rattle.text.specs.Bytes.{pick}
 use Rattle.line.specs.declared.ev.AxisOrBtn.{AxisOrBtn}
@@ -22,7 +21,7 @@ use Rattle.pad.specs.Values.{entry_value, emitted_of, emitted_in, event_of}
 use Rattle.pad.specs.Pads.{given_by, Chosen, preferred, prefer, choose, element_at}
 use Rattle.pad.specs.States.{held_in}
 use Rattle.pad.specs.Inner.{chosen_by, AllChosen, event_counted, CountsIn}
-use Rattle.pad.proofs.NumberLaws.{none_yet}
+use Rattle.pad.proofs.BackLaws.{met, met-more}
 
 -- ---- the event of a held code, and what it gives to an element
 abbrev given_in : Option Event → AxisOrBtn → Option ℤ
@@ -56,27 +55,22 @@ module _ (es : List Entry) (hs : List Held) (h : Held) (el : AxisOrBtn) (r : Cho
       by true = refl
       by false = refl
 
--- ---- of all elements, those from k on
-module _ (xs : List ℕ) (i k : ℕ) (es : List Entry) (h : Held) (l : k < length xs) (one : i ≡ k + 1)
-    (is : h ≡ held_in (get_or xs k 0)) (bests : List (Option Best))
-    (all : AllChosen (map held_in (drop i xs)) es bests) where
-  next : (el : AxisOrBtn) → choose (map held_in (drop k xs)) es el ≡ choose (h ∷ map held_in (drop i xs)) es el
-  next el = rw (drop-cons xs k 0 l, is, one, add-one)
+-- ---- of all elements, after those that are met
+module _ (seen : List (Bor ℕ)) (x : Bor ℕ) (es : List Entry) (h : Held) (is : h ≡ held_in x.now)
+    (bests : List (Option Best)) (all : AllChosen (map held_in (met seen)) es bests) where
+  next : (el : AxisOrBtn)
+      → choose (map held_in (met (seen ++ x ∷ []))) es el ≡ choose (h ∷ map held_in (met seen)) es el
+  next el = rw (met-more seen x, is)
 
-  pub all_more : (e : Event) (more : List (Option Best)) → Some e ≡ event_of es h.code h.raw → CountsIn h.code.0 e bests more
-      → AllChosen (map held_in (drop k xs)) es more
+  pub all_more : (e : Event) (more : List (Option Best)) → Some e ≡ event_of es h.code h.raw
+      → CountsIn h.code.0 e bests more → AllChosen (map held_in (met (seen ++ x ∷ []))) es more
   all_more e more q c j lt =
-      c j lt
-      ∙ sym (next (element_at j) ∙ counts_event es (map held_in (drop i xs)) h (element_at j) _ (all j lt) e q)
+      c j lt ∙ sym (next (element_at j) ∙ counts_event es (map held_in (met seen)) h (element_at j) _ (all j lt) e q)
 
-  pub all_passed : None ≡ event_of es h.code h.raw → AllChosen (map held_in (drop k xs)) es bests
+  pub all_passed : None ≡ event_of es h.code h.raw → AllChosen (map held_in (met (seen ++ x ∷ []))) es bests
   all_passed q j lt =
-      sym (next (element_at j) ∙ counts es (map held_in (drop i xs)) h (element_at j) _ (all j lt) None q)
+      sym (next (element_at j) ∙ counts es (map held_in (met seen)) h (element_at j) _ (all j lt) None q)
 
-pub none_chosen : (xs : List ℕ) (es : List Entry) → AllChosen (map held_in (drop (length xs) xs)) es (replicate 27 None)
-none_chosen xs es k l =
-    ap chosen_by (get_or-replicate 27 k None None l) ∙ none_yet xs es (element_at k)
-
-pub all_chosen : (xs : List ℕ) (i : ℕ) (es : List Entry) (bests : List (Option Best)) → i ≡ 0
-    → AllChosen (map held_in (drop i xs)) es bests → AllChosen (map held_in xs) es bests
-all_chosen xs i es bests e all k l = rw e at all k l
+pub none_chosen : (es : List Entry) → AllChosen [] es (replicate 27 None)
+unfolding choose
+none_chosen es k l = ap chosen_by (get_or-replicate 27 k None None l)

@@ -5,6 +5,7 @@ pub mod OrderLaws
 pub mod PlaceLaws
 pub mod TouchLaws
 pub mod ReaderLaws
+pub mod BackLaws
 pub mod NumberLaws
 pub mod MarkLaws
 pub mod BestLaws

@@ -8,8 +8,8 @@ use native.Mathlib.Omega.{arith}
 use native.Mathlib.Numerals.{add-one}
 use lib.ListN.{length, take, drop, get_or, set, replicate, length-map, length-append, get_or-map}
 use lib.ListN.{drop_of_length-le, length-replicate}
-use lib.Seq.{drop-cons, take-suc-set}
-use lib.IntN.{ℤ}
+use lib.Seq.{drop-cons}
+use lib.IntN.{ℤ, pos}
 use Rattle.line.specs.declared.mapping.Entry.{Entry}
 use Rattle.line.specs.Numbers.{entry_number}
 use Rattle.line.proofs.PlaceLaws.{copied_more}
@@ -17,28 +17,22 @@ use Rattle.pad.specs.declared.events.Event.{Event}
 use Rattle.pad.specs.declared.events.Events.{Events}
 use Rattle.pad.specs.Pads.{element_at, sameℤ, changes, tabulate}
 use Rattle.pad.specs.States.{unused_event, events_in, entry_numbers}
-use Rattle.pad.specs.Inner.{one_event, Filled, PushesEvent, Listed}
+use Rattle.pad.specs.Inner.{one_event, PushesEvent, Listed}
 use Rattle.pad.proofs.ReaderLaws.{same_value}
 use Rattle.pad.proofs.TouchLaws.{same_refl}
 
--- ---- a place that is written
-
 -- ---- the values
-tabulate_snoc : (f : ℕ → ℤ) (n k : ℕ) → tabulate f (suc n) k ≡ tabulate f n k ++ f (k + n) ∷ []
+pub all_tabulated : (f : ℕ → ℤ) (n k : ℕ) (out : List ℤ) → length out ≡ n
+    → ((i : ℕ) → i < n → get_or out i (pos 0) ≡ f (k + i)) → out ≡ tabulate f n k
 unfolding tabulate
-tabulate_snoc f zero k = ap (λ (j : ℕ). f j ∷ []) (omega arith)
-tabulate_snoc f (suc n) k =
-    let e : suc k + n ≡ k + suc n = omega arith in
-    ap (λ (l : List ℤ). f k ∷ l) (tabulate_snoc f n (suc k) ∙ ap (λ (j : ℕ). tabulate f n (suc k) ++ f j ∷ []) e)
-
-pub filled_more : (f : ℕ → ℤ) (k : ℕ) (x : ℤ) (out : List ℤ) → Filled f k out → k < length out → x ≡ f k
-    → Filled f (k + 1) (set out k x)
-filled_more f k x out h l e =
-    let z : tabulate f (k + 1) 0 ≡ tabulate f k 0 ++ f (0 + k) ∷ [] = rw (add-one k) (tabulate_snoc f k 0) in
-    let q : 0 + k ≡ k = omega arith in
-    rw (add-one k) (take-suc-set out k x l)
-    ∙ ap (λ (vs : List ℤ). vs ++ x ∷ []) h
-    ∙ ap (λ (v : ℤ). tabulate f k 0 ++ v ∷ []) (e ∙ ap f (sym q)) ∙ sym z
+all_tabulated f zero k [] e h = refl
+all_tabulated f zero k (x ∷ xs) e h = absurd (omega arith)
+all_tabulated f (suc n) k [] e h = absurd (omega arith)
+all_tabulated f (suc n) k (x ∷ xs) e h =
+    let first : x ≡ f k = h 0 (omega arith) ∙ ap f (omega arith) in
+    let rest : xs ≡ tabulate f n (suc k) =
+    all_tabulated f n (suc k) xs (omega arith) (λ i l. h (suc i) (omega arith) ∙ ap f (omega arith)) in
+    ap (λ (v : ℤ). v ∷ xs) first ∙ ap (λ (l : List ℤ). f k ∷ l) rest
 
 -- ---- events, one after the other
 pub events_many : (es : List Event) (e : Events) → e ≡ events_in es → e.count ≡ length es

@@ -1,15 +1,13 @@
--- A code that is not marked gives nothing, from the last entry on. Assumes nothing.
+-- A code that is not marked gives nothing, one entry after the other. Assumes nothing.
 use Rattle.std.specs.Prelude.{Option, Some, None, get_or}
-use Prim.Native.Nat.{ℕ, suc, ◌+◌, ◌/◌, ◌%◌, ◌<◌, ◌≤◌}
+use Rattle.std.specs.Borrow.{Bor}
+use Prim.Native.Nat.{ℕ, ◌/◌, ◌%◌, ◌<◌}
 use mathlib.Core.Path.{◌≡◌, refl, sym, ap, ◌∙◌}
 use mathlib.Core.Bool.{Bool, true, false}
-use mathlib.Core.List.{List, map}
-use native.Mathlib.Omega.{arith}
-use native.Mathlib.Numerals.{add-one}
+use mathlib.Core.List.{List, [], ◌∷◌, ◌++◌, map}
 use borrow.Author.Tests.{eqb-true, eqb-false}
 use lib.Dec.{eqb}
-use lib.ListN.{length, drop, set, drop_of_length-le}
-use lib.Seq.{drop-cons}
+use lib.ListN.{length, set}
 use Rattle.std.proofs.lemmas.List.{get_or-set_same, get_or-set_other}
 use Rattle.text.specs.Bytes.{pick}
 use Rattle.line.specs.declared.ev.AxisOrBtn.{AxisOrBtn}
@@ -22,14 +20,11 @@ use Rattle.pad.specs.declared.events.Held.{Held}
 use Rattle.pad.specs.Pads.{given_by, gives}
 use Rattle.pad.specs.States.{held_in}
 use Rattle.pad.specs.Inner.{Marked}
+use Rattle.pad.proofs.BackLaws.{met, met-more}
 
-pub none_marked : (el : AxisOrBtn) (xs : List ℕ) (marks : List Bool) → Marked el (drop (length xs) xs) marks
+pub none_marked : (el : AxisOrBtn) (marks : List Bool) → Marked el [] marks
 unfolding entry_at
-none_marked el xs marks h q = let l : length xs ≤ length xs = omega arith in rw (drop_of_length-le xs l)
-
-pub all_marked : (el : AxisOrBtn) (xs : List ℕ) (marks : List Bool) (i : ℕ) → i ≡ 0 → Marked el (drop i xs) marks
-    → Marked el xs marks
-all_marked el xs marks i e m h q = rw e at m h q
+none_marked el marks h q = refl
 
 -- the first entry gives nothing, nor do the others
 neither : (el : AxisOrBtn) (e : Entry) (r : Option Entry) (raw : Raw) (t : Bool)
@@ -37,22 +32,22 @@ neither : (el : AxisOrBtn) (e : Entry) (r : Option Entry) (raw : Raw) (t : Bool)
 neither el e r raw true f g = f refl
 neither el e r raw false f g = g
 
-module _ (el : AxisOrBtn) (xs : List ℕ) (i k : ℕ) (marks : List Bool) (e : Entry) (l : k < length xs) (one : i ≡ k + 1)
-    (is : e ≡ entry_in (get_or xs k 0)) (m : Marked el (drop i xs) marks) where
+module _ (el : AxisOrBtn) (seen : List (Bor ℕ)) (x : Bor ℕ) (marks : List Bool) (e : Entry) (is : e ≡ entry_in x.now)
+    (m : Marked el (met seen) marks) where
   next : (h : Held) → (eqb e.code.0 h.code.0 ≡ true → given_by (Some e) h.raw el ≡ None)
-      → get_or marks (h.code.0 % 256) false ≡ false → gives (map entry_in (drop k xs)) h el ≡ None
+      → get_or marks (h.code.0 % 256) false ≡ false → gives (map entry_in (met (seen ++ x ∷ []))) h el ≡ None
   unfolding entry_at
   next h f q =
-      rw (drop-cons xs k 0 l, sym is)
-      (neither el e (entry_at (map entry_in (drop (suc k) xs)) h.code) h.raw (eqb e.code.0 h.code.0) f
-      (rw (one, add-one) at m h q))
+      rw (met-more seen x, sym is)
+      (neither el e (entry_at (map entry_in (met seen)) h.code) h.raw (eqb e.code.0 h.code.0) f (m h q))
 
   -- an entry of another element
-  pub marked_passed : same_element e.element el ≡ false → Marked el (drop k xs) marks
+  pub marked_passed : same_element e.element el ≡ false → Marked el (met (seen ++ x ∷ [])) marks
   marked_passed s h q = next h (λ t. rw s) q
 
   -- an entry of the element: its code is marked
-  pub marked_taken : (j : ℕ) → j ≡ e.code.0 % 256 → j < length marks → Marked el (drop k xs) (set marks j true)
+  pub marked_taken : (j : ℕ) → j ≡ e.code.0 % 256 → j < length marks
+      → Marked el (met (seen ++ x ∷ [])) (set marks j true)
   marked_taken j at b h q = next h this (by (eqb (h.code.0 % 256) j) refl)
     where
       clash : {A : Type 0} → h.code.0 % 256 ≡ j → A

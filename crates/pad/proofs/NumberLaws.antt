@@ -1,8 +1,6 @@
 -- Laws of held codes and entries as numbers, one after the other. Assumes nothing.
-use Rattle.std.proofs.Common.{ℕ, suc, ◌+◌, ◌/◌, ◌<◌, ◌≤◌, ◌≡◌, Bool, true, false, cond, Option, Some, None, List, [], ◌∷◌, map, length, drop, get_or, eqb, ltb, refl, sym, ◌∙◌, add-one, arith, position, unwrap_or}
+use Rattle.std.proofs.Common.{ℕ, suc, ◌+◌, ◌/◌, ◌<◌, ◌≤◌, ◌≡◌, Bool, true, false, cond, Option, Some, None, Bor, List, [], ◌∷◌, ◌++◌, map, length, get_or, eqb, ltb, refl, sym, ◌∙◌, arith, position, unwrap_or}
 use borrow.Author.Tests.{ltb-true, ltb-false}
-use lib.ListN.{drop_of_length-le}
-use lib.Seq.{drop-cons}
 use lib.IntN.{ℤ}
 use Rattle.std.specs.List.{position_or_len}
 use Rattle.std.proofs.lemmas.List.Recursion.{is_position_or_len}
@@ -13,9 +11,10 @@ use Rattle.line.specs.declared.mapping.Entry.{Entry}
 use Rattle.line.specs.Maps.{entry_at}
 use Rattle.line.specs.Numbers.{code_unit, entry_in, shaped_entry}
 use Rattle.pad.specs.declared.events.Held.{Held}
-use Rattle.pad.specs.Pads.{gives, Chosen, none, preferred, prefer, choose}
+use Rattle.pad.specs.Pads.{gives, Chosen, preferred, prefer, choose}
 use Rattle.pad.specs.States.{held_in}
 use Rattle.pad.specs.Inner.{place_in}
+use Rattle.pad.proofs.BackLaws.{met, met-more}
 use Rattle.pad.proofs.PlaceLaws.{place_within}
 
 -- ---- the first place of a code
@@ -90,19 +89,16 @@ entry_none c (y ∷ ys) h = by (eqb (y / code_unit) c.0) refl h (λ l. entry_non
     by true e l ih = absurd (omega arith)
     by false e l ih = rw (code_in y, e) (ih (omega arith))
 
--- ---- one held code more, from the last one on
-module _ (xs : List ℕ) (i k : ℕ) (es : List Entry) (el : AxisOrBtn) (h : Held) (l : k < length xs) (one : i ≡ k + 1)
-    (is : h ≡ held_in (get_or xs k 0)) (r : Chosen) (rest : r ≡ choose (map held_in (drop i xs)) es el) where
-  step : choose (map held_in (drop k xs)) es el ≡ prefer h.code.0 (gives es h el) r
+-- ---- one held code more, after those that are met
+module _ (seen : List (Bor ℕ)) (x : Bor ℕ) (es : List Entry) (el : AxisOrBtn) (h : Held) (is : h ≡ held_in x.now)
+    (r : Chosen) (rest : r ≡ choose (map held_in (met seen)) es el) where
+  step : choose (map held_in (met (seen ++ x ∷ []))) es el ≡ prefer h.code.0 (gives es h el) r
   unfolding choose
-  step = rw (drop-cons xs k 0 l, is, rest, one, add-one)
+  step = rw (met-more seen x, is, rest)
 
-  pub one_more : (v : ℤ) → gives es h el ≡ Some v → preferred h.code.0 v r ≡ choose (map held_in (drop k xs)) es el
+  pub one_more : (v : ℤ) → gives es h el ≡ Some v
+      → preferred h.code.0 v r ≡ choose (map held_in (met (seen ++ x ∷ []))) es el
   one_more v e = sym (step ∙ rw e)
 
-  pub none_more : gives es h el ≡ None → r ≡ choose (map held_in (drop k xs)) es el
+  pub none_more : gives es h el ≡ None → r ≡ choose (map held_in (met (seen ++ x ∷ []))) es el
   none_more e = sym (step ∙ rw e)
-
-pub none_yet : (xs : List ℕ) (es : List Entry) (el : AxisOrBtn) → none ≡ choose (map held_in (drop (length xs) xs)) es el
-unfolding choose
-none_yet xs es el = let h : length xs ≤ length xs = omega arith in rw (drop_of_length-le xs h)

@@ -1,9 +1,10 @@
 -- The place of an element among the 27, and of a number among the held ones. Assumes nothing.
+use Rattle.std.specs.Prelude.{Option, Some, None}
+use Rattle.std.specs.Option.{is_some}
 use Prim.Native.Nat.{ℕ, zero, suc, ◌+◌, ◌-◌, ◌/◌, ◌<◌, ◌≤◌}
 use mathlib.Core.Path.{◌≡◌, refl, sym, ap, ◌∙◌}
 use mathlib.Core.Bool.{Bool, true, false}
 use mathlib.Core.List.{List, [], ◌∷◌, ◌++◌, map}
-use mathlib.Core.Logic.{⊎_elim}
 use native.Mathlib.Omega.{arith}
 use borrow.Author.Tests.{eqb-true, ltb-true, ltb-false, lt-ltb, le-ltb, le-leb, leb-true}
 use lib.Dec.{eqb, ltb, leb}
@@ -16,8 +17,7 @@ use Rattle.pad.specs.declared.events.Held.{Held}
 use Rattle.pad.specs.Pads.{put_held, element_at, counts, place_from, place_of}
 use Rattle.line.specs.Numbers.{code_unit}
 use Rattle.pad.specs.States.{held_in, put_number}
-use Rattle.pad.specs.Inner.{place_in}
-use Rattle.pad.proofs.BiasLaws.{lt_or_le}
+use Rattle.pad.specs.Inner.{place_in, IsPlace}
 
 -- ---- elements
 counts-yes : (last n : ℕ) → 1 ≤ n → n ≤ last → counts last n ≡ true
@@ -45,25 +45,23 @@ button_at b k e l = rw (lt-ltb k 19 l, e)
 axis_at : (a k : ℕ) → 19 ≤ k → k - 19 + 1 ≡ a → element_at k ≡ El.Axis (record { 0 = a })
 axis_at a k l e = rw (le-ltb k 19 l, e)
 
+from_counted : (first last n : ℕ) → place_from first last n < 27
+    → (1 ≤ n) × (n ≤ last) × (place_from first last n ≡ first + (n - 1))
+from_counted first last n h = by (leb 1 n) (leb n last) refl refl
+  where
+    by : (s t : Bool) → leb 1 n ≡ s → leb n last ≡ t
+        → (1 ≤ n) × (n ≤ last) × (place_from first last n ≡ first + (n - 1))
+    by true true p q = (leb-true 1 n p, leb-true n last q, rw (p, q))
+    by true false p q = let z : 27 < 27 = rw (p, q) at h in absurd (omega arith)
+    by false t p q = let z : 27 < 27 = rw p at h in absurd (omega arith)
+
 pub element_place : (el : AxisOrBtn) → place_of el < 27 → element_at (place_of el) ≡ el
-element_place (El.Btn b) h = by (leb 1 b.0) (leb b.0 19) refl refl
-  where
-    by : (s t : Bool) → leb 1 b.0 ≡ s → leb b.0 19 ≡ t → element_at (place_of (El.Btn b)) ≡ El.Btn b
-    by true true p q =
-        let l = leb-true 1 b.0 p in
-        let m = leb-true b.0 19 q in
-        rw (p, q) (button_at b.0 (0 + (b.0 - 1)) (omega arith) (omega arith))
-    by true false p q = let z : 27 < 27 = rw (p, q) at h in absurd (omega arith)
-    by false t p q = let z : 27 < 27 = rw p at h in absurd (omega arith)
-element_place (El.Axis a) h = by (leb 1 a.0) (leb a.0 8) refl refl
-  where
-    by : (s t : Bool) → leb 1 a.0 ≡ s → leb a.0 8 ≡ t → element_at (place_of (El.Axis a)) ≡ El.Axis a
-    by true true p q =
-        let l = leb-true 1 a.0 p in
-        let m = leb-true a.0 8 q in
-        rw (p, q) (axis_at a.0 (19 + (a.0 - 1)) (omega arith) (omega arith))
-    by true false p q = let z : 27 < 27 = rw (p, q) at h in absurd (omega arith)
-    by false t p q = let z : 27 < 27 = rw p at h in absurd (omega arith)
+element_place (El.Btn b) h =
+    let w = from_counted 0 19 b.0 h in
+    rw w.2 (button_at b.0 (0 + (b.0 - 1)) (omega (arith, w.0)) (omega (arith, w.0, w.1)))
+element_place (El.Axis a) h =
+    let w = from_counted 19 8 a.0 h in
+    rw w.2 (axis_at a.0 (19 + (a.0 - 1)) (omega arith) (omega (arith, w.0)))
 
 from_most : (first last n : ℕ) → first + last ≤ 27 → place_from first last n ≤ 27
 from_most first last n h = by (leb 1 n) (leb n last) refl refl
@@ -80,9 +78,14 @@ pub place_most : (el : AxisOrBtn) → place_of el ≤ 27
 place_most (El.Btn b) = from_most 0 19 b.0 (omega arith)
 place_most (El.Axis a) = from_most 19 8 a.0 (omega arith)
 
-pub has_place_lem : (el : AxisOrBtn) (k : ℕ) → k ≡ place_of el → (k ≡ 27 → ⊥) → place_of el < 27
-has_place_lem el k e d =
-    ⊎_elim (λ l. l) (λ l. absurd (d (omega (arith, e, place_most el)))) (lt_or_le (place_of el) 27)
+-- whether an element has a place
+pub no_place : (k : ℕ) (o : Option ℕ) → IsPlace k o → is_some o ≡ false → k ≡ 27
+no_place k None p e = p
+no_place k (Some j) p e = absurd cc
+
+pub has_place : (k : ℕ) (o : Option ℕ) → IsPlace k o → is_some o ≡ true → k < 27
+has_place k None p e = absurd cc
+has_place k (Some j) p e = omega (arith, p.0, p.1)
 
 -- the same element is the same
 same_is : (a b : AxisOrBtn) → same_element a b ≡ true → a ≡ b

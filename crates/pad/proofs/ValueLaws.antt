@@ -1,11 +1,10 @@
 -- Every value fits, and is within. Assumes nothing.
 use Rattle.std.specs.Prelude.{Option, Some, None}
-use Prim.Native.Nat.{ℕ, zero, suc, ◌+◌, ◌-◌, ◌*◌, ◌/◌, ◌<◌, ◌≤◌}
-use mathlib.Core.Path.{◌≡◌, refl, sym, ap, subst, ◌∙◌}
+use Prim.Native.Nat.{ℕ, zero, suc, ◌-◌, ◌*◌, ◌/◌, ◌<◌, ◌≤◌}
+use mathlib.Core.Path.{◌≡◌, refl, sym, subst, ◌∙◌}
 use mathlib.Core.Bool.{Bool, true, false}
 use native.Mathlib.Omega.{arith}
 use lib.IntN.{ℤ, pos, negsuc, neg_ℤ}
-use borrow.Author.Tests.{lt-ltb, le-ltb}
 use mir.Syntax.{w16}
 use mir.Val.{SFits}
 use Rattle.pad.specs.Values.{output_of, axis_value, turned, part_of, pressed_value, raw_value}
@@ -16,7 +15,7 @@ use Rattle.pad.specs.declared.events.Raw.TheVariants as Rw
 use Rattle.pad.proofs.BiasLaws.{unshifted_fits, turned_proper, share_proper, share_is, shifted_small}
 use lib.Dec.{le→leb, leb→le}
 use lib.Signed.{◌≤ℤ◌}
-use Rattle.pad.specs.Inner.{shifted, unshifted, output_at, Proper}
+use Rattle.pad.specs.Inner.{shifted, Proper}
 use Rattle.line.specs.declared.ev.Button.{Button}
 use Rattle.line.specs.declared.ev.AxisOrBtn.{AxisOrBtn}
 use Rattle.line.specs.declared.ev.AxisOrBtn.TheVariants as El

@@ -1,6 +1,6 @@
 -- Values counted from the least one: what private functions compute with. No public contract cites these.
 -- Assumes nothing.
-use Rattle.std.specs.Prelude.{ℕ, suc, ◌+◌, ◌-◌, ◌*◌, ◌/◌, ◌%◌, ◌≤◌, ◌<◌, ◌≡◌, Bool, false, List, [], ◌∷◌, ◌++◌, map, eqb, ltb, length, take, drop, get_or, ℤ, pos, negsuc, ◌-ℤ◌, Option, Some, None, set, Result, Ok, MatchResult}
+use Rattle.std.specs.Prelude.{ℕ, suc, ◌+◌, ◌-◌, ◌*◌, ◌/◌, ◌%◌, ◌≤◌, ◌<◌, ◌≡◌, Bool, false, List, [], ◌∷◌, ◌++◌, map, eqb, ltb, length, take, drop, get_or, ℤ, pos, negsuc, ◌-ℤ◌, Option, Some, None, set, MatchOption, Result, Ok, MatchResult}
 use Rattle.text.specs.Bytes.{pick}
 use Rattle.line.specs.declared.ev.AxisOrBtn.{AxisOrBtn}
 use Rattle.line.specs.declared.ev.AxisOrBtn.TheVariants as El
@@ -21,7 +21,7 @@ use Rattle.pad.specs.declared.events.Events.{Events}
 use Rattle.pad.specs.declared.events.Raw.{Raw}
 use Rattle.pad.specs.declared.state.TooManyCodes.{TooManyCodes}
 use Rattle.pad.specs.declared.telling.Change.{Change}
-use Rattle.pad.specs.Pads.{held_max, put_held, gives, Chosen, none, chosen, preferred, choose, element_at, tabulate, sameℤ, changes}
+use Rattle.pad.specs.Pads.{held_max, put_held, gives, Chosen, none, chosen, preferred, choose, element_count, element_at, sameℤ, changes}
 use Rattle.pad.specs.States.{held_in, pad_values, pad_value, events_in, caught, Told, refused_of, raw_event_of}
 use Rattle.pad.specs.TwoPads.{farther}
 
@@ -77,6 +77,10 @@ place_in c (y ∷ ys) = pick (eqb (y / code_unit) c) 0 (suc (place_in c ys))
 abbrev pub Marked : AxisOrBtn → List ℕ → List Bool → Type 0
 Marked el xs marks = (h : Held) → get_or marks (h.code.0 % 256) false ≡ false → gives (map entry_in xs) h el ≡ None
 
+-- the place k of an element, if that has one
+abbrev pub IsPlace : ℕ → Option ℕ → Type 0
+IsPlace k r = MatchOption r (k ≡ element_count) (λ j. (j ≡ k) × (j < element_count))
+
 -- what was chosen for an element, and the event of a code more: it counts for its own element alone
 abbrev pub event_counted : ℕ → Event → AxisOrBtn → Chosen → Chosen
 event_counted c e el rest = pick (same_element e.element el) (preferred c e.value rest) rest
@@ -110,10 +114,6 @@ capped_of count = pick (ltb count held_max) count held_max
 -- how many codes are held after a put at place i of n
 abbrev pub grown_of : ℕ → ℕ → ℕ
 grown_of i n = pick (ltb i n) n (n + 1)
-
--- the first k values of out are those of f
-abbrev pub Filled : (ℕ → ℤ) → ℕ → List ℤ → Type 0
-Filled f k out = take k out ≡ tabulate f k 0
 
 -- ---- events
 -- events and one more after them, where there is room

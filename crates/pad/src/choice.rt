@@ -10,7 +10,7 @@ ghost use Rattle.pad.specs.Inner.{chosen_by, place_in, Marked, AllChosen, Counts
 use crate::events::{ELEMENTS, Event, Held};
 use crate::numbers::{CODE_UNIT, held_of};
 use crate::telling::place_of;
-use crate::value::entry_value;
+use crate::value::{entry_event, entry_value};
 use line::ev::{AxisOrBtn, Code};
 use line::mapping::Entry;
 
@@ -87,11 +87,10 @@ fn prefer(first: Best, rest: Option<Best>) -> Best
 fn mark(marks: &mut [bool; MARKS], entries: &[u64], el: AxisOrBtn)
     ensures { Marked el entries.now marks.new }
 {
-    for i in (0..entries.len()).rev() {
-        let x = entries[i];
-        let e = Entry::of_number(x);
+    for x in entries.iter().rev() {
+        let e = Entry::of_number(*x);
         if e.element == el {
-            marks[mark_of(x)] = true;
+            marks[mark_of(*x)] = true;
         }
     }
 }
@@ -110,10 +109,9 @@ fn best_of(held: &[u64], entries: &[u64], el: AxisOrBtn) -> Option<Best>
     let mut marks = [false; MARKS];
     mark(&mut marks, entries, el);
     let mut best = None;
-    for i in (0..held.len()).rev() {
-        let x = held[i];
-        if marks[mark_of(x)] {
-            let h = held_of(x);
+    for x in held.iter().rev() {
+        if marks[mark_of(*x)] {
+            let h = held_of(*x);
             if let Some(value) = given(entries, h, el) {
                 let code = h.code.0;
                 best = Some(prefer(Best { code, value }, best));
@@ -135,18 +133,14 @@ pub fn element_value(held: &[u64], entries: &[u64], el: AxisOrBtn) -> i16
 fn told_by(entries: &[u64], h: Held) -> Option<Event>
     ensures { result ≡ event_of (map entry_in entries.now) h.code h.raw }
 {
-    let e = first_entry(entries, h.code)?;
-    let value = entry_value(e, h.raw)?;
-    let element = e.element;
-    Some(Event { element, value })
+    entry_event(first_entry(entries, h.code)?, h.raw)
 }
 
 // One held code more, which counts for the element of its entry alone.
 fn count_in(bests: &mut [Option<Best>; ELEMENTS], code: u32, e: Event)
     ensures { CountsIn code e bests.old bests.new }
 {
-    let k = place_of(e.element);
-    if k < ELEMENTS {
+    if let Some(k) = place_of(e.element) {
         let value = e.value;
         bests[k] = Some(prefer(Best { code, value }, bests[k]));
     }
@@ -157,8 +151,8 @@ pub fn all_bests(held: &[u64], entries: &[u64]) -> [Option<Best>; ELEMENTS]
     ensures { AllChosen (map held_in held.now) (map entry_in entries.now) result }
 {
     let mut bests = [None; ELEMENTS];
-    for i in (0..held.len()).rev() {
-        let h = held_of(held[i]);
+    for x in held.iter().rev() {
+        let h = held_of(*x);
         if let Some(e) = told_by(entries, h) {
             count_in(&mut bests, h.code.0, e);
         }

@@ -10,29 +10,29 @@ use crate::events::{Held, Raw};
 use line::ev::{AxisOrBtn, Code};
 use line::parser::AxisRange;
 
-// What a code counts in the number of a held code, and in that of an entry.
+// What a code counts in the number of a held code, and in that of an entry: crate line has it for entries, in a private
+// module.
 pub const CODE_UNIT: u64 = 4294967296;
 
 // A value counted from the least one.
-pub fn biased(v: i16) -> u32
-    ensures { (result ≡ shifted v) × (result < 65536) }
+pub fn biased(v: i16) -> u16
+    ensures { result ≡ shifted v }
 {
-    (v as i32 + 32768) as u32
+    (v as i32 + 32768) as u16
 }
 
 // And back.
-pub fn unbiased(x: u32) -> i16
-    requires { x < 65536 }
+pub fn unbiased(x: u16) -> i16
     ensures { result ≡ unshifted x }
 {
     (x as i32 - 32768) as i16
 }
 
 // The part of its input that a value is, by its number.
-fn share(x: u32, input: AxisRange) -> Option<(u32, u32)>
-    requires { x < 65536 }
+fn share(x: u16, input: AxisRange) -> Option<(u32, u32)>
     ensures { result ≡ share_of x input }
 {
+    let x = x as u32;
     match input {
         AxisRange::Full => Some((x, 65535)),
         AxisRange::UpperHalf => {
@@ -59,18 +59,19 @@ pub fn part_of(v: i16, input: AxisRange) -> Option<(u32, u32)>
 
 // The output that n of d is, by its number. That n is at most d is asked of three functions here and needs no struct:
 // they pass one part from hand to hand.
-fn output(e: AxisOrBtn, half: AxisRange, n: u32, d: u32) -> u32
+fn output(e: AxisOrBtn, half: AxisRange, n: u32, d: u32) -> u16
     requires { Proper n d }
-    ensures { (result ≡ output_at e half n d) × (result < 65536) }
+    ensures { result ≡ output_at e half n d }
 {
-    match e {
+    let x = match e {
         AxisOrBtn::Btn(_) => 32768 + n * 32767 / d,
         AxisOrBtn::Axis(_) => match half {
             AxisRange::UpperHalf => 32768 + n * 32767 / d,
             AxisRange::LowerHalf => 32768 - n * 32768 / d,
             AxisRange::Full => n * 65535 / d,
         },
-    }
+    };
+    x as u16
 }
 
 // The output that n of d is.
@@ -85,13 +86,11 @@ pub fn scaled(e: AxisOrBtn, half: AxisRange, n: u32, d: u32) -> i16
 fn raw_of(y: u32) -> Raw
     ensures { result ≡ raw_in y }
 {
-    if y == 0 {
-        return Raw::ButtonReleased;
+    match y {
+        0 => Raw::ButtonReleased,
+        1 => Raw::ButtonPressed,
+        _ => Raw::AxisValueChanged(unbiased(((y - 2) % 65536) as u16)),
     }
-    if y == 1 {
-        return Raw::ButtonPressed;
-    }
-    Raw::AxisValueChanged(unbiased((y - 2) % 65536))
 }
 
 // A raw value as a number.
@@ -101,7 +100,7 @@ fn raw_number(raw: Raw) -> u32
     match raw {
         Raw::ButtonReleased => 0,
         Raw::ButtonPressed => 1,
-        Raw::AxisValueChanged(v) => biased(v) + 2,
+        Raw::AxisValueChanged(v) => biased(v) as u32 + 2,
     }
 }
 

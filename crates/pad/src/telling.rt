@@ -1,13 +1,13 @@
 // The events between two states of a pad.
-ghost use Rattle.std.specs.Prelude.{◌≡◌, ◌≤◌, ◌<◌};
+ghost use Rattle.std.specs.Prelude.{◌≡◌, ◌+◌, ◌≤◌, ◌<◌};
 ghost use Rattle.pad.specs.Pads.{place_from, place_of, element_at, changes};
 ghost use Rattle.pad.specs.States.{events_in};
-ghost use Rattle.pad.specs.Inner.{event_by};
+ghost use Rattle.pad.specs.Inner.{event_by, IsPlace};
 
 use crate::events::{ELEMENTS, Event, Events};
 use line::ev::{Axis, AxisOrBtn, Button};
 
-// The last button and the last axis that have a place.
+// The last button and the last axis that have a place: numbers that crate line has too, and keeps to itself.
 const BUTTON_LAST: u16 = 19;
 
 const AXIS_LAST: u16 = 8;
@@ -20,23 +20,20 @@ pub struct Change {
     pub later: i16,
 }
 
-// The place of a number of 1 up to the last, those before it passed over; 27, which is the place of none, for another:
-// it is the end of the list of values, as in the definition, and one comparison tells it.
-fn place_from(first: usize, last: u16, n: u16) -> usize
-    requires { first ≤ 19 }
-    ensures { result ≡ place_from first last n }
+// The place of a number of 1 up to the last, those before it passed over; none for another.
+fn place_from(first: usize, last: u16, n: u16) -> Option<usize>
+    requires { first + last ≤ 27 }
+    ensures { IsPlace (place_from first last n) result }
 {
-    if 1 <= n {
-        if n <= last {
-            return first + (n as usize - 1);
-        }
+    if 1 <= n && n <= last {
+        return Some(first + (n as usize - 1));
     }
-    ELEMENTS
+    None
 }
 
-// The place of an element.
-pub fn place_of(el: AxisOrBtn) -> usize
-    ensures { result ≡ place_of el }
+// The place of an element; one that is left out has none.
+pub fn place_of(el: AxisOrBtn) -> Option<usize>
+    ensures { IsPlace (place_of el) result }
 {
     match el {
         AxisOrBtn::Btn(b) => place_from(0, BUTTON_LAST, b.0),

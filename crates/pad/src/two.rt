@@ -16,7 +16,7 @@ use crate::values::value_of;
 use line::ev::{AxisOrBtn, Code};
 use line::mapping::Mapping;
 
-// The pads of one player. repr(C): C programs hold the same struct.
+// The two pads of one player, each with codes and a map of its own. repr(C), since C programs hold the same struct.
 #[repr(C)]
 #[derive(Clone, Copy)]
 pub struct Pads {

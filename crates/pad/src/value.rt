@@ -71,7 +71,8 @@ pub fn entry_value(e: Entry, raw: Raw) -> Option<i16>
     raw_value(element, ranges, raw)
 }
 
-fn entry_event(e: Entry, raw: Raw) -> Option<Event>
+// The element of an entry with that value, or none.
+pub(crate) fn entry_event(e: Entry, raw: Raw) -> Option<Event>
     ensures { result ≡ emitted_by e raw }
 {
     let value = entry_value(e, raw)?;

@@ -28,7 +28,7 @@ pub fn rows(pad: &Pad) -> &[u64]
 pub fn value_of(pad: &Pad, element: AxisOrBtn) -> i16
     ensures { result ≡ pad_value pad.now element }
 {
-    if place_of(element) == ELEMENTS {
+    if place_of(element).is_none() {
         return 0;
     }
     element_value(codes(pad), rows(pad), element)
@@ -38,10 +38,5 @@ pub fn value_of(pad: &Pad, element: AxisOrBtn) -> i16
 pub fn all_values(pad: &Pad) -> [i16; ELEMENTS]
     ensures { result ≡ pad_values pad.now }
 {
-    let bests = all_bests(codes(pad), rows(pad));
-    let mut values = [0i16; ELEMENTS];
-    for k in 0..ELEMENTS {
-        values[k] = bests[k].map_or(0, |best| best.value);
-    }
-    values
+    all_bests(codes(pad), rows(pad)).map(|best| best.map_or(0, |best| best.value))
 }

@@ -7,7 +7,7 @@ use crate::error::MappingError;
 use crate::from_data::NAME_MAX;
 use crate::from_data::filled::{Filled, Pairs};
 use crate::from_data::gather::{Kind, gather};
-use crate::lists::lists_fit;
+use crate::lists::Codes;
 use crate::mapping_data::MappingData;
 use line::ev::{Axis, Button};
 use text::bytes::find_byte;
@@ -31,14 +31,15 @@ fn axes_checked(slots: &MappingData, axes: &[u32]) -> Result<Filled, MappingErro
 
 // The buttons' slots: 14, 15; then the axes'.
 #[tactic(auto, using(crate::proofs::FilledLaws::buttons_after), unfolding(crate::specs::Build::slot_checks))]
-fn slots_checked(slots: &MappingData, buttons: &[u32], axes: &[u32]) -> Result<Pairs, MappingError>
-    ensures { Passes result (slot_checks slots.now buttons.now axes.now) (Gathered slots.now buttons.now axes.now) }
+fn slots_checked(slots: &MappingData, codes: Codes) -> Result<Pairs, MappingError>
+    ensures { Passes result (slot_checks slots.now codes.entry.buttons.now codes.entry.axes.now)
+        (Gathered slots.now codes.entry.buttons.now codes.entry.axes.now) }
 {
     if slots.button(Button::Unknown).is_some() {
         return Err(MappingError::UnknownElement);
     }
-    let first = gather(&slots.buttons, Kind::Button, buttons)?;
-    let last = axes_checked(slots, axes)?;
+    let first = gather(&slots.buttons, Kind::Button, codes.buttons)?;
+    let last = axes_checked(slots, codes.axes)?;
     Ok(Pairs {
         buttons: first,
         axes: last,
@@ -47,14 +48,9 @@ fn slots_checked(slots: &MappingData, buttons: &[u32], axes: &[u32]) -> Result<P
 
 // The name and the lists: 10, 17, 12, 13; then the slots, whose pairs are handed back.
 #[tactic(auto, unfolding(crate::specs::Build::checks_of, text::specs::Utf8::is_utf8))]
-pub fn checked(
-    slots: &MappingData,
-    buttons: &[u32],
-    axes: &[u32],
-    name: &[u8],
-) -> Result<Pairs, MappingError>
-    ensures { Passes result (checks_of slots.now buttons.now axes.now name.now)
-        (Gathered slots.now buttons.now axes.now) }
+pub fn checked(slots: &MappingData, codes: Codes, name: &[u8]) -> Result<Pairs, MappingError>
+    ensures { Passes result (checks_of slots.now codes.entry.buttons.now codes.entry.axes.now name.now)
+        (Gathered slots.now codes.entry.buttons.now codes.entry.axes.now) }
 {
     let run = valid_up_to(name);
     if run != name.len() {
@@ -63,11 +59,11 @@ pub fn checked(
     if NAME_MAX < name.len() {
         return Err(MappingError::NameTooLong);
     }
-    if !lists_fit(buttons, axes) {
+    if !codes.fit() {
         return Err(MappingError::ListTooLong);
     }
     if find_byte(name, b',') != name.len() {
         return Err(MappingError::InvalidName);
     }
-    slots_checked(slots, buttons, axes)
+    slots_checked(slots, codes)
 }

@@ -1,5 +1,5 @@
 // The line of a build: its length, and its bytes in a lent output that has room for them.
-ghost use Rattle.std.specs.Prelude.{◌≡◌, ◌+◌, ◌≤◌, length};
+ghost use Rattle.std.specs.Prelude.{◌≡◌, ◌≤◌, length};
 ghost use Rattle.text.specs.Decimal.{decimal};
 ghost use Rattle.text.specs.Uuid.{uuid_text};
 ghost use Rattle.text.specs.Inner.{Put};
@@ -16,6 +16,7 @@ use text::decimal::{index_len, write_index};
 use text::uuid::Uuid;
 
 // How long the pair of a slot is, with its comma.
+#[tactic(auto, using(crate::proofs::LengthLaws::pair_fits))]
 fn pair_len(slot: Placed) -> usize
     ensures is { result ≡ length_of slot }
     ensures short { result ≤ 36 }

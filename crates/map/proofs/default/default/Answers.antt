@@ -3,10 +3,10 @@ use mathlib.Core.Path.{sym, ◌∙◌}
 use Rattle.map.specs.Default.{default_of}
 use Rattle.map.proofs.default.default.Goals as goal
 
-pub returns-then-lists_fit : goal.returns-then-lists_fit
+pub returns-then-fit : goal.returns-then-fit
 unfolding default_of
-returns-then-lists_fit c = rw (sym c.lists_fit.ensures ∙ c.if-lists_fit.true, c.kept_map.ensures)
+returns-then-fit c = rw (sym c.fit.ensures ∙ c.if-fit.true, c.kept_map.ensures)
 
-pub returns-else-lists_fit : goal.returns-else-lists_fit
+pub returns-else-fit : goal.returns-else-fit
 unfolding default_of
-returns-else-lists_fit c = rw (sym c.lists_fit.ensures ∙ c.if-lists_fit.false, c.new.ensures)
+returns-else-fit c = rw (sym c.fit.ensures ∙ c.if-fit.false, c.new.ensures)

@@ -6,18 +6,21 @@ use Rattle.line.specs.Tables.{as_button}
 use Rattle.map.specs.Keys.{key_first, key_count, key_number}
 use Rattle.map.specs.Default.{button_rows}
 use Rattle.map.proofs.KeyLaws.{table_number}
-use Rattle.map.proofs.DefaultLaws.{key_row, rows_from, rows-first, rows_last, rows_none, rows-some, buttons_many, fill_none, fill_turn, fill_end, flagged_empty}
+use Rattle.map.proofs.DefaultLaws.{key_row, rows_from, rows-first, rows_last, rows_none, rows-some, buttons_many}
+use Rattle.map.proofs.DefaultLaws.{fill_none, fill_turn, fill_end, flagged_empty}
 use Rattle.map.proofs.default.kept_buttons.Goals as goal
 use Rattle.map.proofs.default.kept_buttons.Goals.{then-n-ne0, else-n-ne0}
 
 pub loop-i-init : goal.loop-i-init
 loop-i-init c =
-    rw rows-first (fill_none c.args.buttons.now c.args.axes.now button_rows _ (omega (arith, buttons_many)) (flagged_empty c.new-map.result c.new-map.ensures))
+    rw rows-first
+    (fill_none c.args.codes.buttons.now c.args.codes.axes.now button_rows _ (omega (arith, buttons_many))
+    (flagged_empty c.new-map.result c.new-map.ensures))
 
 pub loop-i-preserved : goal.loop-i-preserved
 loop-i-preserved c =
-    let b = c.args.buttons.now in
-    let a = c.args.axes.now in
+    let b = c.args.codes.buttons.now in
+    let a = c.args.codes.axes.now in
     let i = c.loop-i.i in
     let h : i < key_count = omega arith in
     let number : get_or c.key_table-table.result.buttons i 0 ≡ key_number (key_first + i) =
@@ -34,5 +37,5 @@ loop-i-preserved c =
 
 pub returns : goal.returns
 returns c =
-    fill_end c.args.buttons.now c.args.axes.now button_rows _
+    fill_end c.args.codes.buttons.now c.args.codes.axes.now button_rows _
     (rw (rows_last c.loop-i.i (omega arith)) at c.loop-i.invariant)

@@ -8,13 +8,13 @@ use Rattle.map.proofs.DefaultLaws.{row_of, fill_axes, fill_turn, fill_end}
 use Rattle.map.proofs.default.kept_map.Goals as goal
 
 pub loop-code-init : goal.loop-code-init
-loop-code-init c = fill_axes c.args.buttons.now c.args.axes.now _ c.kept_buttons-map.ensures
+loop-code-init c = fill_axes c.args.codes.buttons.now c.args.codes.axes.now _ c.kept_buttons-map.ensures
 
 pub loop-code-preserved : goal.loop-code-preserved
 unfolding axis_rows
 loop-code-preserved c =
-    let b = c.args.buttons.now in
-    let a = c.args.axes.now in
+    let b = c.args.codes.buttons.now in
+    let a = c.args.codes.axes.now in
     let i = c.loop-code.code-index in
     let h : i < length axis_rows = omega arith in
     let made = c.new.ensures ∙ row_of AXIS_ROWS axis_rows i _ h refl in
@@ -25,4 +25,5 @@ pub returns : goal.returns
 unfolding axis_rows
 returns c =
     let h : length axis_rows ≤ c.loop-code.code-index = omega arith in
-    fill_end c.args.buttons.now c.args.axes.now rows _ (rw (drop_of_length-le axis_rows h) at c.loop-code.invariant)
+    fill_end c.args.codes.buttons.now c.args.codes.axes.now rows _
+    (rw (drop_of_length-le axis_rows h) at c.loop-code.invariant)

@@ -5,4 +5,4 @@ use Rattle.map.proofs.DefaultLaws.{Filling}
 use Rattle.map.proofs.default.kept_map.Given as goal
 
 abbrev pub invariant-loop-code : goal.invariant-loop-code
-invariant-loop-code l = Filling l.buttons l.axes rows (drop l.code-index axis_rows) l.map
+invariant-loop-code l = Filling l.codes.buttons.now l.codes.axes.now rows (drop l.code-index axis_rows) l.map

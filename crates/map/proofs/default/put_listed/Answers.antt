@@ -4,13 +4,13 @@ use Rattle.line.proofs.ViewLaws.{put_map}
 use Rattle.map.specs.Default.{flagged_map, put_kept}
 use Rattle.map.proofs.default.put_listed.Goals as goal
 
-pub returns-then-in_its_list : goal.returns-then-in_its_list
+pub returns-then-contains : goal.returns-then-contains
 unfolding put_kept
-returns-then-in_its_list c =
+returns-then-contains c =
     λ es few is.
-    rw (sym c.in_its_list.ensures ∙ c.if-in_its_list.true)
+    rw (sym c.contains.ensures ∙ c.if-contains.true)
     (rw is at c.put.ensures.1 ∙ put_map (flagged_map es) c.args.e few)
 
-pub returns-else-in_its_list : goal.returns-else-in_its_list
+pub returns-else-contains : goal.returns-else-contains
 unfolding put_kept
-returns-else-in_its_list c = λ es few is. rw (sym c.in_its_list.ensures ∙ c.if-in_its_list.false) is
+returns-else-contains c = λ es few is. rw (sym c.contains.ensures ∙ c.if-contains.false) is

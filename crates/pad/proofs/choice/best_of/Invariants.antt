@@ -1,11 +1,11 @@
--- What was chosen of those from i on. Assumes nothing.
-use Rattle.std.proofs.Common.{◌≡◌, ◌≤◌, length, drop, map}
+-- What was chosen of those so far. Assumes nothing.
+use Rattle.std.proofs.Common.{◌≡◌, map}
 use Rattle.line.specs.Numbers.{entry_in}
 use Rattle.pad.specs.Pads.{choose}
 use Rattle.pad.specs.States.{held_in}
 use Rattle.pad.specs.Inner.{chosen_by}
+use Rattle.pad.proofs.BackLaws.{met}
 use Rattle.pad.proofs.choice.best_of.Given as goal
 
-abbrev pub invariant-loop-i : goal.invariant-loop-i
-invariant-loop-i l =
-    (l.i ≤ length l.held) × (chosen_by l.best ≡ choose (map held_in (drop l.i l.held)) (map entry_in l.entries) l.el)
+abbrev pub invariant-loop-x : goal.invariant-loop-x
+invariant-loop-x l = chosen_by l.best ≡ choose (map held_in (met l.yielded)) (map entry_in l.entries) l.el

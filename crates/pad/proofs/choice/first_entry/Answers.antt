@@ -5,7 +5,8 @@ use Rattle.pad.proofs.choice.first_entry.Goals as goal
 
 pub returns-in_err-i : goal.returns-in_err-i
 returns-in_err-i c =
-    let n = entry_none c.args.code c.args.entries.now (place_none c.args.code.0 c.args.entries.now (sym c.in_err-i.ensures)) in
+    let none = place_none c.args.code.0 c.args.entries.now (sym c.in_err-i.ensures) in
+    let n = entry_none c.args.code c.args.entries.now none in
     rw n (search rules)
 
 pub returns : goal.returns

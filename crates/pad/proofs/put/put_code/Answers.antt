@@ -22,7 +22,8 @@ returns-in-Some-clause-told c =
     let el = answered_value v.result _ v.type_inv (rw c.hold.ensures at v.ensures) in
     rw c.hold.ensures
     (put_some c.args.pad.now c.args.code c.args.raw _ _ _ (search (rules, numbers_long)) (search (rules, numbers_long))
-    c.codes-held.ensures i.0 i.1 x.0 x.1 c.if-i-eq-HELD_MAX.false _ c.rows.ensures.are c.in-Some.e c.in-Some.ensures _ _ eb el)
+    c.codes-held.ensures i.0 i.1 x.0 x.1 c.if-i-eq-HELD_MAX.false _ c.rows.ensures.are c.in-Some.e c.in-Some.ensures
+    _ _ eb el)
 
 pub returns-in-None-clause-told : goal.returns-in-None-clause-told
 returns-in-None-clause-told c =

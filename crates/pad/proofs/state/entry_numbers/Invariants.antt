@@ -8,4 +8,5 @@ use Rattle.pad.proofs.state.entry_numbers.Given as goal
 
 abbrev pub invariant-loop-i : goal.invariant-loop-i
 invariant-loop-i l =
-    (l.numbers ≡ take l.i (map entry_number l.map.entries) ++ drop l.i (replicate 256 0)) × ShortAll (take l.i l.map.entries)
+    (l.numbers ≡ take l.i (map entry_number l.map.entries) ++ drop l.i (replicate 256 0))
+    × ShortAll (take l.i l.map.entries)

@@ -31,8 +31,8 @@ loop-e-preserved c =
     let b = c.value_of-before in
     let eb = answered_value b.result _ b.type_inv b.ensures in
     let f : SFits w16 e.value = search rules in
-    let is = joined_is c.args.which c.args.own.now c.args.beside.now e c.joined_change.result _ _ c.joined_change.ensures eb
-    (to_z-of_z w16 e.value f) in
+    let is = joined_is c.args.which c.args.own.now c.args.beside.now e c.joined_change.result _ _ c.joined_change.ensures
+    eb (to_z-of_z w16 e.value f) in
     elim c.match-joined_change.branch [
       | in-Some w ↦
           rw w.events-is

@@ -7,7 +7,8 @@ loop-slot-init c = putting_first c.args.slots.now c.args.map.now
 
 pub loop-slot-preserved : goal.loop-slot-preserved
 loop-slot-preserved c =
-    putting_turn c.args.slots.now c.args.map.now _ _ c.loop-slot.slot-index _ c.loop-slot-test.true c.loop-slot.invariant c.put.ensures.1
+    putting_turn c.args.slots.now c.args.map.now _ _ c.loop-slot.slot-index _ c.loop-slot-test.true
+    c.loop-slot.invariant c.put.ensures.1
 
 pub returns : goal.returns
 returns c =

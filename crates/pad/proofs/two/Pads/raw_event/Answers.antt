@@ -26,9 +26,11 @@ unfolding pads_raw_event_of
 returns c =
     let p = c.args.self.now in
     let w = c.args.which in
-    let h = c.in_ok-change.ensures in (
-      raw_done w p (pad_of w p) c.beside.result.now refl (c.beside.ensures ∙ beside_after w p (pad_of w c.put.new.self) c.put.new.self h.there)
-          c.args.code c.args.raw (pad_of w c.put.new.self) c.put.new.self c.in_ok-change.change _ h.there h.told.0 h.told.1
+    let h = c.in_ok-change.ensures in
+    let q = c.put.new.self in
+    let beside = c.beside.ensures ∙ beside_after w p (pad_of w q) q h.there in (
+      raw_done w p (pad_of w p) c.beside.result.now refl beside c.args.code c.args.raw (pad_of w q) q
+          c.in_ok-change.change _ h.there h.told.0 h.told.1
           (ap (λ (v : Option Event). events_in (caught v [])) c.joined_change.ensures),
       h.within,
     )

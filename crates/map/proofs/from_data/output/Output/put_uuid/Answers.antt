@@ -8,4 +8,5 @@ pub returns : goal.returns
 returns c =
     let a = c.args in
     let o = a.self.now in
-    (refl, wrote_put o.out.now o.at (uuid_text a.uuid) _ _ _ _ c.requires c.write_simple.ensures c.unwrap_or-self.ensures)
+    let u = uuid_text a.uuid in
+    (refl, wrote_put o.out.now o.at u _ _ _ _ c.requires c.write_simple.ensures c.unwrap_or-self.ensures)
