@@ -53,8 +53,8 @@ pub record Stocked (i t g : List ℕ) (a : List Row) (r : Stock) : Type 0 where
   pub index_most : length i ≤ index_max
   pub text_most : length t ≤ text_max
 
-pub stocked : (i t : List ℕ) (l : Ledger) (r : Stock) → Bytes i → Stocks i t l r → Stocked i t l.shares l.table.rows r
-stocked i t l r b s =
+pub stocked : {i t : List ℕ} {l : Ledger} {r : Stock} → Bytes i → Stocks i t l r → Stocked i t l.shares l.table.rows r
+stocked {i} {t} {l} {r} b s =
     let p = s.front in
     let h : Holds i t l.shares r.front = stock_holds i t l r s in
     let x = stock_rows i t l r s in
@@ -150,7 +150,7 @@ module _ (i t : List ℕ) (y : Bytes i) (c : Content) (e : content i t ≡ some 
 module _ {i t : List ℕ} {l : Ledger} {r : Stock} (y : Bytes i) (s : Stocks i t l r) (o b : ℕ) (lo : o < owners) where
   pub set_large : length t < b → unchanged i t (Err E.ShareTooLarge) ≡ store_share i t o b
   set_large m =
-      let w : Stocked i t l.shares l.table.rows r = stocked i t l r y s in
+      let w : Stocked i t l.shares l.table.rows r = stocked y s in
       let c = w.all in
       let has : o < length c.shares = omega (arith, lo, w.given.each, ap length w.shares) in
       let later : List ℕ = set c.shares o b in
@@ -184,7 +184,7 @@ module _ {i t : List ℕ} {l : Ledger} {r : Stock} {o b : ℕ} (s : Setting i t 
   g' = set l.shares o b
 
   w : Stocked i t l.shares l.table.rows r
-  w = stocked i t l r s.bytes s.stock
+  w = stocked s.bytes s.stock
 
   has : o < length g
   has = omega (arith, s.owner, w.given.each)
