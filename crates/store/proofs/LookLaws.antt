@@ -221,7 +221,7 @@ module _ (k : Key) (i t : List ℕ) where
           (record { how = refl; within = w; line = refl }))
 
 -- the lines of a sound store are in their chains, and the key's chain tells the line that is held
-module _ (i t : List ℕ) (l : Ledger) (s : Stock) (w : Stocks i t l s) where
+module _ {i t : List ℕ} {l : Ledger} {s : Stock} (w : Stocks i t l s) where
   pub stock_ready : Ready l.table.rows l.table.heads l.table.next s.fill.count
   stock_ready =
       let x = stock_rows i t l s w in

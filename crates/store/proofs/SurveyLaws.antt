@@ -17,7 +17,6 @@ use Rattle.store.specs.declared.rows.Row.{Row}
 use Rattle.store.specs.declared.chains.Verdict.{Verdict}
 use Rattle.store.specs.declared.chains.Verdict.TheVariants as Vd
 use Rattle.store.specs.declared.records.Head.{Head}
-use Rattle.store.specs.declared.table.Fill.{Fill}
 use Rattle.store.specs.declared.soundness.Stock.{Stock}
 use Rattle.store.specs.declared.soundness.Surveyed.{Surveyed}
 use Rattle.store.specs.declared.soundness.Ledger.{Ledger}

@@ -2,7 +2,6 @@
 use mathlib.Core.List.{List}
 use mathlib.Core.Option.{some}
 use mathlib.Core.Path.{◌≡◌}
-use Prim.Native.Nat.{ℕ}
 use borrow.Author.Rules.{rules}
 use Rattle.store.specs.Claims.{Owed}
 use Rattle.store.specs.Decode.{decode}

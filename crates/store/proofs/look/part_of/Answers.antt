@@ -8,25 +8,21 @@ seek_before-r-requires c =
     record { k_lt_rows_max = c.requires.few; chained = (put_ready c.args.key c.requires refl).chained }
 
 pub returns-then-len-eq0 : goal.returns-then-len-eq0
-returns-then-len-eq0 c =
-    let r = c.seek_before-r.ensures in
-    let agree = put_agree c.args.key c.requires refl in
-    record {
-      ready = put_ready c.args.key c.requires refl;
-      chains_kept = (refl, refl);
-      agree = agree;
-      spots = λ i t b hs ag x. spot_none _ x (λ j l. ag j l ∙ agree j l) (put_new c.args.key c.requires refl)
-          r.sought r.upper_bound c.len_before-len.ensures c.if-len-eq0.true;
-    }
+returns-then-len-eq0 c = record {
+  ready = put_ready c.args.key c.requires refl;
+  chains_kept = (refl, refl);
+  agree = put_agree c.args.key c.requires refl;
+  spots = λ i t b hs ag x.
+      spot_none _ x (λ j l. ag j l ∙ put_agree c.args.key c.requires refl j l) (put_new c.args.key c.requires refl)
+      c.seek_before-r.ensures.sought c.seek_before-r.ensures.upper_bound c.len_before-len.ensures c.if-len-eq0.true;
+}
 
 pub returns : goal.returns
-returns c =
-    let r = c.seek_before-r.ensures in
-    let agree = put_agree c.args.key c.requires refl in
-    record {
-      ready = put_ready c.args.key c.requires refl;
-      chains_kept = (refl, refl);
-      agree = agree;
-      spots = λ i t b hs ag x. spot_line _ x (λ j l. ag j l ∙ agree j l) (put_new c.args.key c.requires refl)
-          r.sought r.upper_bound c.len_before-len.ensures c.if-len-eq0.false refl;
-    }
+returns c = record {
+  ready = put_ready c.args.key c.requires refl;
+  chains_kept = (refl, refl);
+  agree = put_agree c.args.key c.requires refl;
+  spots = λ i t b hs ag x.
+      spot_line _ x (λ j l. ag j l ∙ put_agree c.args.key c.requires refl j l) (put_new c.args.key c.requires refl)
+      c.seek_before-r.ensures.sought c.seek_before-r.ensures.upper_bound c.len_before-len.ensures c.if-len-eq0.false refl;
+}

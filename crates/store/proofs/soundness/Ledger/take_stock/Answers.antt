@@ -1,7 +1,6 @@
 -- The tests are those of `content`, in its order; the lines are walked in the part behind the shares.
 use mathlib.Core.Bool.{Bool}
 use mathlib.Core.Path.{◌≡◌, sym, ◌∙◌}
-use native.Mathlib.Omega.{arith}
 use borrow.Author.Rules.{rules}
 use Rattle.store.specs.Decode.{content}
 use Rattle.store.specs.Inner.{known}
