@@ -43,6 +43,11 @@ use Rattle.store.specs.declared.table.Full.TheVariants as R
 use Rattle.store.specs.declared.calls.StoreError.{StoreError}
 use Rattle.store.specs.declared.table.Full.{Full}
 
+wanted_part : (s : List ℕ) (at len : ℕ) (v p : Option Spelled) → v ≡ wanted (take (at + len - at) (drop at s)) → v ≡ p
+    → wanted (take len (drop at s)) ≡ p
+wanted_part s at len v p e q =
+    ap (λ (k : ℕ). wanted (take k (drop at s))) (sym (plus_minus at len)) ∙ sym e ∙ q
+
 -- the exits of `reach_row`
 module _ (d : Dues) (i t s : List ℕ) (a : List Row) (heads next : List ℕ) (f : Fill) (own at len : ℕ)
     (inside : at + len ≤ length s) where
@@ -52,10 +57,16 @@ module _ (d : Dues) (i t s : List ℕ) (a : List Row) (heads next : List ℕ) (f
   pub part_long : length (take len (drop at s)) ≡ len
   part_long = length-take-le len (drop at s) (omega (arith, length-drop at s))
 
-  pub slot_not : wanted l ≡ None → ReachesRow d i t s a heads next f own l a heads next (Ok f)
-  slot_not e g old hs o w = goes f hs (reach-not (behind g i t own) hs l e) refl w
+  pub slot_not : {v : Option Spelled} → v ≡ wanted (take (at + len - at) (drop at s)) → v ≡ None
+      → ReachesRow d i t s a heads next f own l a heads next (Ok f)
+  slot_not e q g old hs o w =
+      goes f hs (reach-not (behind g i t own) hs l (wanted_part s at len _ _ e q)) refl w
 
-  module _ (u : Spelled) (e : wanted l ≡ Some u) where
+  -- the line is wanted: the part of the text that is read is the line
+  module _ {v : Option Spelled} (u : Spelled) (e' : v ≡ wanted (take (at + len - at) (drop at s))) (q : v ≡ Some u) where
+    e : wanted l ≡ Some u
+    e = wanted_part s at len _ _ e' q
+
     pub slot_long : line_max < len → ReachesRow d i t s a heads next f own l a heads next (Err E.LineTooLong)
     slot_long p g old hs o w =
         stops E.LineTooLong (reach_long (behind g i t own) hs l u e (omega (arith, part_long))) refl w.tabled
@@ -104,11 +115,6 @@ module _ (d : Dues) (i t s : List ℕ) (a : List Row) (heads next : List ℕ) (f
                 (subst (λ (m : Fill). InRows i t s a' heads' next' old m (file (under own u.id l) hs)) n k)
             go (full x q c k) = let n : ◌≡◌ {A = ℕ} 0 1 = cc in absurd (omega arith)
 
-pub wanted_part : (s : List ℕ) (at len : ℕ) (v p : Option Spelled) → v ≡ wanted (take (at + len - at) (drop at s)) → v ≡ p
-    → wanted (take len (drop at s)) ≡ p
-wanted_part s at len v p e q =
-    ap (λ (k : ℕ). wanted (take k (drop at s))) (sym (plus_minus at len)) ∙ sym e ∙ q
-
 -- what the loop cut off: the first line from `at` on
 pub line_part : (s : List ℕ) (at len : ℕ)
     → take len (take (length s - at) (drop at s)) ≡ first_line (take (length s - at) (drop at s))
@@ -149,8 +155,8 @@ pub record Taking (d : Dues) (i t s : List ℕ) (a₀ : List Row) (heads₀ next
   pub took : (g : List ℕ) (old : ℕ) (hs : List Held) → Owed g own hs d → InRows i t s a₀ heads₀ next₀ old f₀ hs
       → Took g i t s a heads next own from old f at count hs
 
-module _ (d : Dues) (i t s : List ℕ) (a₀ : List Row) (heads₀ next₀ : List ℕ) (own from : ℕ) (f₀ : Fill) where
-  module _ (a : List Row) (heads next : List ℕ) (f : Fill) (at count : ℕ)
+module _ {d : Dues} {i t s : List ℕ} {a₀ : List Row} {heads₀ next₀ : List ℕ} {own from : ℕ} {f₀ : Fill} where
+  module _ {a : List Row} {heads next : List ℕ} {f : Fill} {at count : ℕ}
       (w : Taking d i t s a₀ heads₀ next₀ own from f₀ a heads next f at count) where
     pub taken : SomeRows d own i t s a₀ heads₀ next₀ f₀ → SomeRows d own i t s a heads next f
     taken (g, (old, (hs, (o, p)))) =
@@ -173,9 +179,13 @@ module _ (d : Dues) (i t s : List ℕ) (a₀ : List Row) (heads₀ next₀ : Lis
     )
 
     -- one line on
-    module _ (l : at < length s) (end : ℕ) (e : end ≡ first_of lf (drop at s)) (line : List ℕ)
-        (el : line ≡ first_line (drop at s)) (r : Result Fill StoreError) (a' : List Row) (heads' next' : List ℕ)
-        (y : ReachesRow d i t s a heads next f own line a' heads' next' r) where
+    module _ (l : at < length s) {end : ℕ} (e : end ≡ first_of lf (take (length s - at) (drop at s))) (len : ℕ)
+        (el : take len (take (length s - at) (drop at s)) ≡ first_line (take (length s - at) (drop at s)))
+        (r : Result Fill StoreError) (a' : List Row) (heads' next' : List ℕ)
+        (y : ReachesRow d i t s a heads next f own (take len (drop at s)) a' heads' next' r) where
+      abbrev line : List ℕ
+      line = take len (drop at s)
+
       module _ (g : List ℕ) (old : ℕ) (hs : List Held) (o : Owed g own hs d)
           (x : Took g i t s a heads next own from old f at count hs) where
         abbrev by : Caller
@@ -188,7 +198,8 @@ module _ (d : Dues) (i t s : List ℕ) (a₀ : List Row) (heads₀ next₀ : Lis
             → insert_lines by hs c (lines_of (drop from s))
             ≡ on_reached v (λ b. insert_turn x.ks b (c + count))
             (λ js. insert_lines by js (suc (c + count)) (lines_of (drop (at + (end + 1)) s)))
-        runs v q c = x.run c ∙ runs_line by s at end l e line el x.ks (c + count)
+        runs v q c = x.run c
+            ∙ runs_line by s at end l (e ∙ ap (first_of lf) (part_to_end s at)) line (line_part s at len el) x.ks (c + count)
             ∙ ap (λ (v : Reached). on_reached v (λ b. insert_turn x.ks b (c + count))
             (λ js. insert_lines by js (suc (c + count)) (lines_of (drop (at + (end + 1)) s)))) q
 
@@ -233,10 +244,10 @@ module _ (d : Dues) (i t s : List ℕ) (a₀ : List Row) (heads₀ next₀ : Lis
         },
       )
 
-      pub take-turn : own < 256 → (f' : Fill) → r ≡ Ok f' → at + end ≤ length s
+      pub take-turn : own < 256 → (f' : Fill) → r ≡ Ok f'
           → Taking d i t s a₀ heads₀ next₀ own from f₀ a' heads' next' f' (at + (end + 1)) (count + 1)
-      take-turn byte f' z b = record {
-        within = omega arith;
+      take-turn byte f' z = record {
+        within = omega (arith, l, end_within at s end e);
         counted = omega (arith, w.counted);
         still = λ v. absurd (omega (arith, w.counted));
         took = λ g old hs o p.

@@ -102,34 +102,34 @@ pub chain_from : (K : ℕ → Key) (next : List ℕ) (n k c : ℕ) → Linked K 
 chain_from K next n k c links l e = subst (Last K (bucket (K k)) k) (sym e) (links k l)
 
 -- number k, of bucket h, is linked to c, the head of its chain
-module _ (K : ℕ → Key) (heads next : List ℕ) (k h c : ℕ) (s : Chained K heads next k) (hh : h ≡ bucket (K k))
-    (hl : h < rows_max) (hc : c ≡ get_or heads h 0) (kl : k < rows_max) where
+module _ {K : ℕ → Key} {heads next : List ℕ} {k h c : ℕ} (s : Chained K heads next k)
+    (at : (h ≡ bucket (K k)) × (h < rows_max)) (hc : c ≡ get_or heads h 0) (kl : k < rows_max) where
   pub here : Last K (bucket (K k)) k c
-  here = subst (λ (b : ℕ). Last K b k c) hh (subst (Last K h k) (sym hc) (s.ends h hl))
+  here = subst (λ (b : ℕ). Last K b k c) at.0 (subst (Last K h k) (sym hc) (s.ends h at.1))
 
-  pub sought : (r : ℕ) → Seeks K k c r → Sought K k r
-  sought r q = chain_sought K k c here r q
+  pub sought : {r : ℕ} → Seeks K k c r → Sought K k r
+  sought q = chain_sought K k c here _ q
+
+  pub links_turn : Linked K (set next k c) (k + 1)
+  links_turn =
+      below_more (λ (a : ℕ). Last K (bucket (K a)) a (get_or (set next k c) a 0)) k
+      (λ a l. subst (Last K (bucket (K a)) a) (sym (get_or-set_other next k a c 0 (λ e. omega arith))) (s.links a l))
+      (subst (Last K (bucket (K k)) k) (sym (get_or-set_same next k c 0 (omega (arith, s.next_long)))) here)
 
   module _ (v : ℕ) (hv : v ≡ k + 1) where
-    links_turn : Linked K (set next k c) (k + 1)
-    links_turn =
-        below_more (λ (a : ℕ). Last K (bucket (K a)) a (get_or (set next k c) a 0)) k
-        (λ a l. subst (Last K (bucket (K a)) a) (sym (get_or-set_other next k a c 0 (λ e. omega arith))) (s.links a l))
-        (subst (Last K (bucket (K k)) k) (sym (get_or-set_same next k c 0 (omega (arith, s.next_long)))) here)
-
     heads_turn : Headed K (set heads h v) (k + 1)
     heads_turn b l = go (eqb b h) refl
       where
         go : (t : Bool) → eqb b h ≡ t → Last K b (k + 1) (get_or (set heads h v) b 0)
         go true t =
             let e : b ≡ h = eqb-true b h t in
-            let at : get_or (set heads h v) b 0 ≡ k + 1
+            let head : get_or (set heads h v) b 0 ≡ k + 1
             = ap (λ (x : ℕ). get_or (set heads h v) x 0) e ∙ get_or-set_same heads h v 0 (omega (arith, s.heads_long))
             ∙ hv in
             let one : k ≡ k + 1 - 1 = omega arith in
-            subst (Last K b (k + 1)) (sym at) (record {
+            subst (Last K b (k + 1)) (sym head) (record {
               near = λ j m n q. omega arith;
-              kin = λ p. ap (λ (x : ℕ). bucket (K x)) (sym one) ∙ sym hh ∙ sym e;
+              kin = λ p. ap (λ (x : ℕ). bucket (K x)) (sym one) ∙ sym at.0 ∙ sym e;
               within = omega arith;
             })
         go false t =
@@ -137,7 +137,7 @@ module _ (K : ℕ → Key) (heads next : List ℕ) (k h c : ℕ) (s : Chained K 
             subst (Last K b (k + 1)) (sym (get_or-set_other heads h b v 0 n)) (record {
               near = λ j m l'.
                   below_more (λ (x : ℕ). get_or heads b 0 ≤ x → bucket (K x) ≡ b → ⊥) k
-                  (λ x lx mx. (s.ends b l).near x mx lx) (λ mx q. n (sym q ∙ sym hh)) j l' m;
+                  (λ x lx mx. (s.ends b l).near x mx lx) (λ mx q. n (sym q ∙ sym at.0)) j l' m;
               kin = (s.ends b l).kin;
               within = omega (arith, (s.ends b l).within);
             })

@@ -22,7 +22,6 @@ use Rattle.store.specs.Decode.{decode}
 use Rattle.store.specs.Held.{Held, index_max, text_max}
 use Rattle.store.specs.Layout.{Bytes}
 use Rattle.store.specs.Inner.{Sized, sizes}
-use Rattle.store.specs.Keys.{rows_max}
 use Rattle.store.specs.Rows.{row_in, key_in, start_in, len_in, unused}
 use Rattle.store.specs.Layout.{record_bytes, records, texts, encode_records}
 use Rattle.store.specs.Table.{living, line_at, Whole, Tabled, Takes_up, Keepable, Keeps, Extends}
@@ -53,9 +52,6 @@ keep-first a old g = record {
 }
 
 module _ (a : List Row) (old at off k : ℕ) (w : Keeping a old at off k) where
-  pub kept_most : k < old → k < rows_max
-  kept_most l = omega (arith, w.given.tabled.olds, w.given.tabled.most)
-
   pub keep_end : Keeps a old (record { rows = k; at = at; off = off })
   keep_end = record { rows = w.rows; whole = w.whole; takes = w.takes }
 
@@ -139,38 +135,10 @@ pub record Closing (part t s : List ℕ) (a : List Row) (kept : Kept) (was : Fil
   pub run : Settling (behind_kept t s a kept was part) t s a was.count c (behind_kept t s a kept was part') t'
       (kept.at + at) off k
 
-module _ (part t s : List ℕ) (a : List Row) (kept : Kept) (was : Fill) (c : ℕ) where
-  abbrev F : List ℕ
-  F = records 0 (living (line_at t s a was.count) kept.rows)
-
-  pub close_first : Closes part t s a kept was c → Closing part t s a kept was c part t 0 kept.off kept.rows
-  close_first g =
-      let w : Lent part t s a kept was c g.0 = g.1 in
-      let z : kept.at + 0 ≡ length F = omega (arith, w.takes.0) in
-      record {
-        given = g;
-        run = record {
-          hs = g.0;
-          tabled = w.tabled;
-          most = w.rows;
-          place = z;
-          used = w.takes.1;
-          index = ap (λ (m : ℕ). take m (F ++ part)) z ∙ take_at F part (length F) refl;
-          text = w.text;
-          index_rest = refl;
-          text_rest = refl;
-          index_long = refl;
-          text_long = refl;
-        };
-      }
-
 module _ {part t s : List ℕ} {a : List Row} {kept : Kept} {was : Fill} {c : ℕ} {part' t' : List ℕ} {at off k : ℕ}
     (w : Closing part t s a kept was c part' t' at off k) where
   abbrev G : List ℕ
   G = records 0 (living (line_at t s a was.count) kept.rows)
-
-  pub close_most : k < c → k < rows_max
-  close_most l = omega (arith, w.run.tabled.most)
 
   pub close_skip : k < c → len_in a k ≡ 0 → Closing part t s a kept was c part' t' at off (k + 1)
   close_skip l e = record { given = w.given; run = settle_skip w.run l e }
@@ -205,9 +173,6 @@ module _ {part t s : List ℕ} {a : List Row} {kept : Kept} {was : Fill} {c : �
     pub close_fits : length (record_bytes (key_in a k) off (len_in a k))
         ≤ length (mid_of at (length part' - at) part')
     close_fits = omega (arith, fits_index w.run l n, front_long, tail_length at part', close_within)
-
-    pub close_size : (size : ℕ) → Sized (key_in a k) size → at + size ≤ length part'
-    close_size size z = omega (arith, fits_index w.run l n, front_long, z off (len_in a k))
 
     pub close_turn : (size : ℕ) → Sized (key_in a k) size → (ys t'' : List ℕ)
         → ys ≡ record_bytes (key_in a k) off (len_in a k)

@@ -37,8 +37,8 @@ use Rattle.store.proofs.TableLaws.{chained_agree, living-same, living_most, give
 use Rattle.store.specs.declared.table.Full.TheVariants as R
 use Rattle.store.specs.declared.table.Full.{Full}
 
-module _ (g : List ℕ) (d : Dues) (i t s : List ℕ) (a : List Row) (heads next : List ℕ) (old : ℕ) (f : Fill)
-    (u : Key) (start len : ℕ) (hs : List Held) (w : Files' g d i t s a heads next old f u start len hs)
+module _ {g : List ℕ} {d : Dues} {i t s : List ℕ} {a : List Row} {heads next : List ℕ} {old : ℕ} {f : Fill}
+    {u : Key} {start len : ℕ} {hs : List Held} (w : Files' g d i t s a heads next old f u start len hs)
     (cl : f.count < rows_max)
   where
     abbrev a' : List Row
@@ -188,51 +188,66 @@ module _ (g : List ℕ) (d : Dues) (i t s : List ℕ) (a : List Row) (heads next
                   shorter k l = ⊎_elim (λ g. omega (arith, g)) (λ g. omega (arith, ap (λ (r : Row). r.len) g))
                       (y.either k l)
 
-    -- the exits of `file_row`: b is the table with the new row
-    module _ (b : List Row) (eb : b ≡ row_put a f.count u start len) (r : ℕ)
-        (so : Sought (key_in b) f.count r) (rl : r ≤ f.count) (had : ℕ)
-        (eh : had ≡ len_before b r) where
-      so' : Sought K' f.count r
-      so' = subst (λ (v : List Row). Sought (key_in v) f.count r) eb so
+    abbrev h' : Held
+    h' = record { key = u; line = take len (drop start s) }
+
+    -- the new line is put down as the last one of b, and the one held under its key takes `had` bytes
+    pub record Placed (b : List Row) (r had : ℕ) : Type 0 where
+      pub put : b ≡ row_put a f.count u start len
+      pub sought : Sought (key_in b) f.count r
+      pub least : r ≤ f.count
+      pub taken : had ≡ len_before b r
+
+    module _ {b : List Row} {r had : ℕ} (z : Placed b r had) where
+      sought' : Sought K' f.count r
+      sought' = subst (λ (v : List Row). Sought (key_in v) f.count r) z.put z.sought
 
       goes_out : (d : List Row) → d ≡ struck_before b r → Struck x u start len cl had d
       goes_out d el = struck x u start len cl had d
-          (subst (λ (v : ℕ). Before x u start len cl v d) (sym (eh ∙ ap (λ (v : List Row). len_before v r) eb))
+          (subst (λ (v : ℕ). Before x u start len cl v d)
+          (sym (z.taken ∙ ap (λ (v : List Row). len_before v r) z.put))
           (subst (λ (v : List Row). Before x u start len cl (len_before a' r) v)
-          (sym (el ∙ ap (λ (v : List Row). struck_before v r) eb)) (before x u start len cl r so' rl)))
+          (sym (el ∙ ap (λ (v : List Row). struck_before v r) z.put)) (before x u start len cl r sought' z.least)))
 
       pub had_less : had ≤ f.used
       had_less = used_had had _ (goes_out _ refl)
 
+      pub used_most : f.used - had + len ≤ 131070
+      used_most = omega (
+        arith,
+        x.used,
+        x.tabled.good.text,
+        x.limits.1,
+        w.shape.most,
+        length-take-le len (drop start s) (omega (arith, length-drop start s, w.inside)),
+      )
+
       pub dues_less : d.theirs ≤ f.used - had + len
       dues_less = others_below had _ (goes_out _ refl)
 
-      module _ (e : ℕ) (ee : Ends f.end had u e) (heads' next' : List ℕ) where
-        abbrev h' : Held
-        h' = record { key = u; line = take len (drop start s) }
-
+      module _ {e : ℕ} (ee : Ends f.end had u e) {heads' next' : List ℕ} where
         no_room : (v : Full) → room_for (behind g i t u.owner) h' hs ≡ Err v
             → Filed g i t s b heads' next' old f h' hs (Err v)
         no_room v ev =
-            full v ev refl (subst (λ (v : List Row). Tabled i t s v old f.count hs) (sym eb)
+            full v ev refl (subst (λ (v : List Row). Tabled i t s v old f.count hs) (sym z.put)
             (tabled_more x u start len cl))
 
         pub files_index : length i < e
-            → Filed g i t s b heads' next' old f (record { key = u; line = take len (drop start s) }) hs (Err R.Index)
+            → Filed g i t s b heads' next' old f h' hs (Err R.Index)
         files_index l = no_room R.Index (full_index had _ (goes_out _ refl) e ee l)
 
-        module _ (p : e ≤ length i) (all : ℕ)
+        module _ (p : e ≤ length i) {all : ℕ}
             (ev : all ≡ d.others + larger (f.used - had + len - d.theirs) d.share) where
           pub files_text : length t < all
-              → Filed g i t s b heads' next' old f (record { key = u; line = take len (drop start s) }) hs (Err R.Text)
+              → Filed g i t s b heads' next' old f h' hs (Err R.Text)
           files_text l = no_room R.Text (full_text had _ (goes_out _ refl) e ee p all ev l)
 
           pub files_fit : all ≤ length t → Chained (key_in b) heads' next' (f.count + 1)
-              → (c : List Row) → c ≡ struck_before b r
-              → Filed g i t s c heads' next' old f (record { key = u; line = take len (drop start s) }) hs
+              → {c : List Row} → c ≡ struck_before b r
+              → Filed g i t s c heads' next' old f h' hs
               (Ok (record { count = f.count + 1; end = e; used = f.used - had + len }))
-          files_fit q ch c el =
+          files_fit q ch {c} el =
               let y : Struck x u start len cl had c = goes_out c el in
               fits _ (has_room had c y e ee p all ev q) refl
               (rows_more had c y e ee p all ev q heads' next'
-              (subst (λ (v : List Row). Chained (key_in v) heads' next' (f.count + 1)) eb ch))
+              (subst (λ (v : List Row). Chained (key_in v) heads' next' (f.count + 1)) z.put ch))

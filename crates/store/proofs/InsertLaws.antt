@@ -136,7 +136,7 @@ insert_first g own i t s b e =
           };
     }
 
-module _ (g : List ℕ) (own : ℕ) (i₀ t₀ s i t : List ℕ) (at count : ℕ) (w : Inserting g own i₀ t₀ s i t at count) where
+module _ {g : List ℕ} {own : ℕ} {i₀ t₀ s i t : List ℕ} {at count : ℕ} (w : Inserting g own i₀ t₀ s i t at count) where
   good_in : (hs : List Held) → GoodFor (behind g i₀ t₀ own) hs → Good (length i₀) (length t₀) hs
   good_in hs x = subst (λ (n : ℕ). Good n (length t₀) hs) (part_long g i₀) x
 

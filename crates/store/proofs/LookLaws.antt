@@ -92,10 +92,10 @@ some-before a r len el z = go (eqb r 0) refl
     go false q = let y : r ≡ 0 → ⊥ = eqb-false r 0 q in omega arith
 
 -- a has the rows of the lines hs, and b has them too, and the key behind them
-module _ (k : Key) (i t : List ℕ) (a b : List Row) (heads next : List ℕ) (f : Fill) (hs : List Held)
+module _ {k : Key} {i t : List ℕ} {a : List Row} (b : List Row) {heads next : List ℕ} {f : Fill} {hs : List Held}
     (x : InRows i t [] a heads next f.count f hs)
     (agree : Agree a b f.count) (new : key_in b f.count ≡ k)
-    (r : ℕ) (so : Sought (key_in b) f.count r) (rl : r ≤ f.count) (len : ℕ) (el : len ≡ len_before b r) where
+    {r : ℕ} (so : Sought (key_in b) f.count r) (rl : r ≤ f.count) {len : ℕ} (el : len ≡ len_before b r) where
   abbrev K : ℕ → Key
   K j = key_in a j
 
@@ -165,9 +165,9 @@ module _ (k : Key) (i t : List ℕ) (a b : List Row) (heads next : List ℕ) (f 
           let p : 0 < r = omega arith in
           one p ∙ find_gone (r - 1) (sym (len_is p) ∙ z)
 
-  pub spot_line : (len ≡ 0 → ⊥) → (start : ℕ) → start ≡ start_in b (r - 1)
+  pub spot_line : (len ≡ 0 → ⊥) → {start : ℕ} → start ≡ start_in b (r - 1)
       → Spot t (find k hs) (Some (record { start = start; len = len }))
-  spot_line z start es =
+  spot_line z {start} es =
       let p : 0 < r = some-before b r len el z in
       let l : r - 1 < f.count = omega arith in
       let st : start ≡ start_in a (r - 1) = es ∙ sym (ap (λ (v : Row). v.start) (agree (r - 1) l)) in
@@ -183,7 +183,7 @@ module _ (k : Key) (i t : List ℕ) (a b : List Row) (heads next : List ℕ) (f 
 
 -- ---- a key written down under number n
 
-module _ (a : List Row) (heads next : List ℕ) (n : ℕ) (k : Key) (p : Ready a heads next n) (b : List Row)
+module _ {a : List Row} {heads next : List ℕ} {n : ℕ} (k : Key) (p : Ready a heads next n) {b : List Row}
     (eb : b ≡ row_put a n k 0 0) where
   pub put_agree : Agree a b n
   put_agree j m = sym (ap (λ (v : List Row). row_in v j) eb ∙ row_other a n k 0 0 j (λ z. omega arith))
@@ -221,7 +221,7 @@ module _ (k : Key) (i t : List ℕ) where
           (record { how = refl; within = w; line = refl }))
 
 -- the lines of a sound store are in their chains, and the key's chain tells the line that is held
-module _ (i t : List ℕ) (l : Ledger) (s : Stock) (w : Stocks i t l s) where
+module _ {i t : List ℕ} {l : Ledger} {s : Stock} (w : Stocks i t l s) where
   pub stock_ready : Ready l.table.rows l.table.heads l.table.next s.fill.count
   stock_ready =
       let x = stock_rows i t l s w in

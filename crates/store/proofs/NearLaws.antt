@@ -191,9 +191,9 @@ module _ (k : Key) (i t : List ℕ) where
   near_sound c e r s = subst (λ (o : Option Content). NearSees t (near_at k o) (Ok r)) (sym e) s
 
 -- both tries, in a sound store
-pub near_stock : (i t : List ℕ) (l : Ledger) (s : Stock) (w : Stocks i t l s) (k : Key)
+pub near_stock : {i t : List ℕ} {l : Ledger} {s : Stock} (w : Stocks i t l s) (k : Key)
     (r : Optional (Nearness × Part)) → Tries l.table.rows l.table.heads l.table.next s.fill k r
     → NearSees t (near_by k i t) (Ok r)
-near_stock i t l s w k r p =
+near_stock {i} {t} {l} {s} w k r p =
     let h : Holds i t l.shares s.front = stock_holds i t l s w in
     near_sound k i t h.all h.is r (p (drop s.front i) t h.all.held (stock_rows i t l s w))

@@ -15,13 +15,11 @@ use Rattle.text.specs.Bytes.{pick}
 use Rattle.store.specs.Book.{Caller, record_sizes, no_index_of, no_text, room_for, by_room}
 use Rattle.store.specs.Inner.{sizes}
 use Rattle.store.specs.Held.{Held, strike, file, record_size}
-use Rattle.store.specs.Shares.{no_shares, claims, share_sizes}
-use Rattle.store.specs.Layout.{share_records, records, texts}
-use Rattle.store.specs.Claims.{OwnersBelow}
+use Rattle.store.specs.Shares.{claims, share_sizes}
+use Rattle.store.specs.Layout.{share_records, records}
 use Rattle.store.proofs.RecordLaws.{length-record}
 use Rattle.store.proofs.RowLaws.{sizes_cons, sizes-none}
 use Rattle.store.proofs.ShareLaws.{length_shares}
-use Rattle.store.proofs.ClaimLaws.{none-lengths, lengths-texts}
 use Rattle.store.specs.declared.table.Full.TheVariants as R
 use Rattle.store.specs.declared.table.Full.{Full}
 
@@ -108,8 +106,3 @@ room_fits c h hs =
     long =
         length-append (share_records 0 c.shares) (records 0 (file h hs))
         ∙ ap₂ (λ (x y : ℕ). x + y) (length_shares 0 c.shares) (sizes-file h hs)
-
--- without shares all that is claimed are the texts of the lines
-pub text_fits : (h : Held) (hs : List Held) → OwnersBelow (file h hs)
-    → claims no_shares (file h hs) ≡ length (texts (file h hs))
-text_fits h hs w = none-lengths (file h hs) w ∙ lengths-texts (file h hs)

@@ -43,6 +43,15 @@ module _ (name : List ℕ) (r : ℕ) (e : r ≡ first_of lf name) where
 abbrev tries : List ℕ → List ℕ → ℕ → Attempt Saved → Done Saved
 tries = store_attempt (refused_save Sv.Unsound) (refused_save Sv.NoRoom) (refused_save Sv.NoText)
 
+-- a line that is built stands at the front of what is left
+pub record Made (a : SaveArgs) (r : Built) (after : List ℕ) : Type 0 where
+  pub passed : checks_of a.slots a.buttons a.axes a.name ≡ Ok tt
+  pub map : r.map ≡ built_map a.slots a.name
+  pub some : 1 ≤ r.len
+  pub most : r.len ≤ line_max
+  pub within : r.len ≤ length after
+  pub bytes : take (r.len - 0) (drop 0 after) ≡ built_line a.slots a.buttons a.axes a.name a.uuid
+
 -- what a party's save attempts, by its checks
 module _ (p : Party) (o : ℕ) (own : owner_of p ≡ Some o) (a : SaveArgs) where
   abbrev checks : Result ⊤ MappingError
@@ -82,18 +91,10 @@ module _ (p : Party) (o : ℕ) (own : owner_of p ≡ Some o) (a : SaveArgs) wher
             let z : ◌≡◌ {A = ℕ} 0 1 = cc in absurd (omega arith)
 
     -- the line that was built
-    pub record Made : Type 0 where
-      pub passed : checks ≡ Ok tt
-      pub map : r.map ≡ built_map a.slots a.name
-      pub some : 1 ≤ r.len
-      pub most : r.len ≤ line_max
-      pub within : r.len ≤ length after
-      pub bytes : take (r.len - 0) (drop 0 after) ≡ line
-
-    pub made : r.answer ≡ Ok tt → Made
+    pub made : r.answer ≡ Ok tt → Made a r after
     made q = go checks refl
       where
-        go : (x : Result ⊤ MappingError) → checks ≡ x → Made
+        go : (x : Result ⊤ MappingError) → checks ≡ x → Made a r after
         go (Err f) p =
             let b = refused_build_lem a.slots a.buttons a.axes a.name a.uuid out checks refl f p in
             let w : Err f ≡ Ok tt = ap (λ (x : Built). x.answer) (b.0 ∙ sym built.0) ∙ q in
@@ -116,32 +117,33 @@ module _ (p : Party) (o : ℕ) (own : owner_of p ≡ Some o) (a : SaveArgs) wher
                   ∙ take_at line (drop (0 + length line) out) _ refl;
             }
 
-    module _ (m : Made) (i t : List ℕ) where
-      named : (b : Bool) → unsaved_name a.name ≡ b
-          → store_save i t p a ≡ tries i t o
-          (pick b (refused (refused_save Sv.UnsavedName))
-          (files (under o a.uuid line) (accepted_save (built_map a.slots a.name))))
-      named b e =
-          attempted (Ok tt) m.passed i t
-          ∙ ap (λ (x : Bool). tries i t o
-          (pick x (refused (refused_save Sv.UnsavedName))
-          (files (under o a.uuid line) (accepted_save (built_map a.slots a.name))))) e
+  -- a line that is built, filed
+  module _ {r : Built} {after : List ℕ} (m : Made a r after) (i t : List ℕ) where
+    named : (b : Bool) → unsaved_name a.name ≡ b
+        → store_save i t p a ≡ tries i t o
+        (pick b (refused (refused_save Sv.UnsavedName))
+        (files (under o a.uuid line) (accepted_save (built_map a.slots a.name))))
+    named b e =
+        attempted (Ok tt) m.passed i t
+        ∙ ap (λ (x : Bool). tries i t o
+        (pick x (refused (refused_save Sv.UnsavedName))
+        (files (under o a.uuid line) (accepted_save (built_map a.slots a.name))))) e
 
-      pub save_unsaved : unsaved_name a.name ≡ true
-          → record { answer = refused_save Sv.UnsavedName; index = i; text = t } ≡ store_save i t p a
-      save_unsaved e = sym (named true e)
+    pub save_unsaved : unsaved_name a.name ≡ true
+        → record { answer = refused_save Sv.UnsavedName; index = i; text = t } ≡ store_save i t p a
+    save_unsaved e = sym (named true e)
 
-      said : (w : Mapping) (x : Result ⊤ SaveError)
-          → said_by w x ≡ value_of i t (under o a.uuid line) refused_save (accepted_save w) x
-      said w (Ok u) = refl
-      said w (Err e) = refl
+    said : (w : Mapping) (x : Result ⊤ SaveError)
+        → said_by w x ≡ value_of i t (under o a.uuid line) refused_save (accepted_save w) x
+    said w (Ok u) = refl
+    said w (Err e) = refl
 
-      pub save_filed : unsaved_name a.name ≡ false → (d : Done (Result ⊤ SaveError))
-          → d ≡ store_file i t (under o a.uuid (take (r.len - 0) (drop 0 after)))
-          → record { answer = said_by r.map d.answer; index = d.index; text = d.text } ≡ store_save i t p a
-      save_filed e d q =
-          ap (λ (x : Saved). record { answer = x; index = d.index; text = d.text })
-          (ap (λ (w : Mapping). said_by w d.answer) m.map ∙ said (built_map a.slots a.name) d.answer)
-          ∙ attempt_files i t (under o a.uuid line) refused_save (accepted_save (built_map a.slots a.name)) d
-          (q ∙ ap (λ (l : List ℕ). store_file i t (under o a.uuid l)) m.bytes)
-          ∙ sym (named false e)
+    pub save_filed : unsaved_name a.name ≡ false → (d : Done (Result ⊤ SaveError))
+        → d ≡ store_file i t (under o a.uuid (take (r.len - 0) (drop 0 after)))
+        → record { answer = said_by r.map d.answer; index = d.index; text = d.text } ≡ store_save i t p a
+    save_filed e d q =
+        ap (λ (x : Saved). record { answer = x; index = d.index; text = d.text })
+        (ap (λ (w : Mapping). said_by w d.answer) m.map ∙ said (built_map a.slots a.name) d.answer)
+        ∙ attempt_files i t (under o a.uuid line) refused_save (accepted_save (built_map a.slots a.name)) d
+        (q ∙ ap (λ (l : List ℕ). store_file i t (under o a.uuid l)) m.bytes)
+        ∙ sym (named false e)

@@ -86,13 +86,13 @@ module _ (i t : List ℕ) (h : Held) where
       (λ hs e. owed hs (ap (λ (q : List ℕ). decode q t) (tail_part p i) ∙ e))
 
   -- in a store of which stock is taken
-  pub file_stocked : (l : Ledger) (s : Stock) (w : Stocks i t l s) (b : Bytes i) (d : Dues)
+  pub file_stocked : {l : Ledger} {s : Stock} (w : Stocks i t l s) (b : Bytes i) (d : Dues)
       → DuesFrom l.table.rows s.fill l.shares h.key.owner d → (r : Result ⊤ Full) (part t' : List ℕ)
       → FilesLine d (mid_of s.front (length i - s.front) i) t h r part t' → (a : Result ⊤ SaveError)
       → a ≡ room_answer r
       → record { answer = a; index = put_mid s.front (length i - s.front) i part; text = t' } ≡ store_file i t h
-  file_stocked l s w b d f r part t' y =
-      file_lent l.shares s.front w.front b w.is d r part t' y (stock_owed i t l s w b h.key.owner d f)
+  file_stocked {l} {s} w b d f r part t' y =
+      file_lent l.shares s.front w.front b w.is d r part t' y (stock_owed w b h.key.owner d f)
 
   -- a save that gets as far answers by what filing answers: v when the line is filed
   module _ {B : Type 0} (refuse : SaveError → B) (v : B) where

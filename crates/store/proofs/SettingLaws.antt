@@ -77,7 +77,7 @@ encode_at n o g hs l =
 
 -- ---- `write_share`
 
-module _ (i s : List ℕ) (o had share : ℕ) (g : List ℕ) (hs : List Held) (w : Writes i s o had share g hs) where
+module _ {i s : List ℕ} {o had share : ℕ} {g : List ℕ} {hs : List Held} (w : Writes i s o had share g hs) where
   is : i ≡ front g o ++ (share_bytes o had ++ (behind g o hs ++ replicate (unused (length i) g hs) 0))
   is = w.index ∙ encode_at (length i) o g hs w.owner
       ∙ ap (λ (b : ℕ). front g o ++ (share_bytes o b ++ (behind g o hs ++ replicate (unused (length i) g hs) 0)))
@@ -88,7 +88,7 @@ module _ (i s : List ℕ) (o had share : ℕ) (g : List ℕ) (hs : List Held) (w
       ap₂ (λ (x : List ℕ) (b : ℕ). share_sizes x + share_size b) w.later w.former
       ∙ sizes-set g o share w.owner
 
-  module _ (at : ℕ) (e : at ≡ share_sizes (take o s)) where
+  module _ {at : ℕ} (e : at ≡ share_sizes (take o s)) where
     place : length (front g o) ≡ at
     place =
         length_shares 0 (take o g)
@@ -119,9 +119,9 @@ module _ (i s : List ℕ) (o had share : ℕ) (g : List ℕ) (hs : List Held) (w
       most = w.most;
     }
 
-    pub write_done : (p : List ℕ) → Changed (mid_of at (length i - at) i) o had share p
+    pub write_done : {p : List ℕ} → Changed (mid_of at (length i - at) i) o had share p
         → put_mid at (length i - at) i p ≡ encode_index (length i) s hs
-    write_done p x =
+    write_done {p} x =
         let v : o < length s = omega (arith, w.owner, ap length w.later, length-set g o share) in
         let new : p ≡ share_bytes o share ++ (behind g o hs ++ replicate (unused (length i) s hs) 0)
         = x (behind g o hs) (unused (length i) g hs) (unused (length i) s hs) part_is

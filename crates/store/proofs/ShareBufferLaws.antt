@@ -7,6 +7,8 @@ use Prim.Native.Nat.{ℕ, zero, suc, ◌+◌, ◌-◌, ◌*◌, ◌≤◌, ◌<�
 use native.Mathlib.Numerals.{add-one}
 use native.Mathlib.Omega.{arith}
 use lib.Dec.{eqb, leb}
+use borrow.Rule.Slice.PartMut.{mid_of}
+use Rattle.text.proofs.LentLaws.{tail_part}
 use lib.ListN.{length, get_or, set, take, drop, replicate, length-append, length-replicate, length-drop}
 use lib.ListN.{replicate-append-replicate}
 use lib.Seq.{drop-drop, take_at, drop_at, set_at, length-take-le}
@@ -121,12 +123,19 @@ pub record Reading (i g : List ℕ) (at o : ℕ) : Type 0 where
 pub reading : (i g : List ℕ) → g ≡ no_shares → Reading i g 0 0
 reading i g e = record { within = omega arith; most = omega arith; done = []; long = refl; array = e; is = refl }
 
-module _ (i g : List ℕ) (at o : ℕ) (w : Reading i g at o) where
-  module _ (l : o < owners) (s : starts_share (drop at i) ≡ true) (b n : ℕ) (e : b ≡ front_share o (drop at i))
+module _ {i g : List ℕ} {at o : ℕ} (w : Reading i g at o) where
+  -- the rest of the index, as it is lent
+  abbrev rest : List ℕ
+  rest = mid_of at (length i - at) i
+
+  module _ (l : o < owners) (s : starts_share rest ≡ true) {b n : ℕ} (e : b ≡ front_share o rest)
       (en : n ≡ share_size b) where
+    share_is : b ≡ front_share o (drop at i)
+    share_is = e ∙ ap (front_share o) (tail_part at i)
+
     pub reading_within : at + n ≤ length i
     reading_within =
-        omega (arith, w.within, en, size_most b, starts_long (drop at i) s, length-drop at i)
+        omega (arith, w.within, en, size_most b, starts_long (drop at i) (ap starts_share (sym (tail_part at i)) ∙ s), length-drop at i)
 
     pub reading_turn : Reading i (set g o b) (at + n) (o + 1)
     reading_turn =
@@ -135,7 +144,7 @@ module _ (i g : List ℕ) (at o : ℕ) (w : Reading i g at o) where
         let up : suc o ≡ o + 1 = omega arith in
         let step : shares_at (owners - o) o (drop at i) ≡ and_share b (shares_at k (o + 1) (drop (at + n) i))
         = ap (λ (m : ℕ). shares_at m o (drop at i)) one ∙ shares_step k o (drop at i)
-        ∙ ap₂ (λ (x m : ℕ). and_share x (shares_at k m (drop (share_size x) (drop at i)))) (sym e) up
+        ∙ ap₂ (λ (x m : ℕ). and_share x (shares_at k m (drop (share_size x) (drop at i)))) (sym share_is) up
         ∙ ap (λ (q : List ℕ). and_share b (shares_at k (o + 1) q))
         (drop-drop (share_size b) at i ∙ ap (λ (m : ℕ). drop (at + m) i) (sym en)) in
         record {
@@ -171,8 +180,8 @@ module _ (i g : List ℕ) (at o : ℕ) (w : Reading i g at o) where
       ended (ap (λ (k : ℕ). shares_at k o (drop at i)) z ∙ shares_done o (drop at i)
       ∙ ap (λ (k : ℕ). record { shares = replicate k 0; rest = drop at i }) (sym z))
 
-  pub reading_stop : starts_share (drop at i) ≡ false → Fronts i g at
-  reading_stop e = ended (shares_stop (owners - o) o (drop at i) e)
+  pub reading_stop : starts_share rest ≡ false → Fronts i g at
+  reading_stop e = ended (shares_stop (owners - o) o (drop at i) (ap starts_share (sym (tail_part at i)) ∙ e))
 
 -- ---- `any_share`
 

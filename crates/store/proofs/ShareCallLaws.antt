@@ -53,8 +53,8 @@ pub record Stocked (i t g : List ℕ) (a : List Row) (r : Stock) : Type 0 where
   pub index_most : length i ≤ index_max
   pub text_most : length t ≤ text_max
 
-pub stocked : (i t : List ℕ) (l : Ledger) (r : Stock) → Bytes i → Stocks i t l r → Stocked i t l.shares l.table.rows r
-stocked i t l r b s =
+pub stocked : {i t : List ℕ} {l : Ledger} {r : Stock} → Bytes i → Stocks i t l r → Stocked i t l.shares l.table.rows r
+stocked {i} {t} {l} {r} b s =
     let p = s.front in
     let h : Holds i t l.shares r.front = stock_holds i t l r s in
     let x = stock_rows i t l r s in
@@ -146,8 +146,37 @@ module _ (i t : List ℕ) (y : Bytes i) (c : Content) (e : content i t ≡ some 
           ap (λ (z : List ℕ). record { answer = Ok tt; index = encode_index (length i) later c.held; text = z })
           text_kept
 
--- a setting of a store of which stock is taken
-module _ (i t : List ℕ) (l : Ledger) (r : Stock) (y : Bytes i) (s : Stocks i t l r) (o b : ℕ) (lo : o < owners) where
+-- a share above the whole text
+module _ {i t : List ℕ} {l : Ledger} {r : Stock} (y : Bytes i) (s : Stocks i t l r) (o b : ℕ) (lo : o < owners) where
+  pub set_large : length t < b → unchanged i t (Err E.ShareTooLarge) ≡ store_share i t o b
+  set_large m =
+      let w : Stocked i t l.shares l.table.rows r = stocked y s in
+      let c = w.all in
+      let has : o < length c.shares = omega (arith, lo, w.given.each, ap length w.shares) in
+      let later : List ℕ = set c.shares o b in
+      let k : length t < claims later c.held
+      = omega (
+        arith,
+        m,
+        has,
+        length-set c.shares o b,
+        one_least o later c.held,
+        larger_share (use_of o c.held) (get_or later o 0),
+        get_or-set_same c.shares o b 0 has,
+      ) in
+      share_by i t y c w.is o b _ refl (Err E.ShareTooLarge)
+      (sym (ap (λ (x : Bool). pick x (Err E.ShareTooLarge)
+      (pick (ltb (length i) (share_sizes later + record_sizes c.held)) (Err E.NoRoom) (Ok tt)))
+      (lt-ltb (length t) (claims later c.held) k)))
+
+-- a share within the text, in a store of which stock is taken
+pub record Setting (i t : List ℕ) (l : Ledger) (r : Stock) (o b : ℕ) : Type 0 where
+  pub bytes : Bytes i
+  pub stock : Stocks i t l r
+  pub owner : o < owners
+  pub fits : b ≤ length t
+
+module _ {i t : List ℕ} {l : Ledger} {r : Stock} {o b : ℕ} (s : Setting i t l r o b) where
   abbrev g : List ℕ
   g = l.shares
 
@@ -155,88 +184,70 @@ module _ (i t : List ℕ) (l : Ledger) (r : Stock) (y : Bytes i) (s : Stocks i t
   g' = set l.shares o b
 
   w : Stocked i t l.shares l.table.rows r
-  w = stocked i t l r y s
+  w = stocked s.bytes s.stock
 
   has : o < length g
-  has = omega (arith, lo, w.given.each)
+  has = omega (arith, s.owner, w.given.each)
 
-  -- a share above the whole text
-  pub set_large : length t < b → unchanged i t (Err E.ShareTooLarge) ≡ store_share i t o b
-  set_large m =
-      let c = w.all in
-      let later : List ℕ = set c.shares o b in
-      let n : o < length later = omega (arith, has, ap length w.shares, length-set c.shares o b) in
-      let k : length t < claims later c.held
-      = omega (
-        arith,
-        m,
-        one_least o later c.held n,
-        larger_share (use_of o c.held) (get_or later o 0),
-        get_or-set_same c.shares o b 0 (omega (arith, has, ap length w.shares)),
-      ) in
-      share_by i t y c w.is o b _ refl (Err E.ShareTooLarge)
-      (sym (ap (λ (x : Bool). pick x (Err E.ShareTooLarge)
-      (pick (ltb (length i) (share_sizes later + record_sizes c.held)) (Err E.NoRoom) (Ok tt)))
-      (lt-ltb (length t) (claims later c.held) k)))
+  pub set_addable : Addable l.table.rows r.fill.count
+  set_addable = w.addable
 
-  module _ (fits : b ≤ length t) where
-    pub set_two : b ≤ 65535
-    set_two = omega (arith, fits, w.text_most)
+  pub set_two : b ≤ 65535
+  set_two = omega (arith, s.fits, w.text_most)
 
-    -- the place behind all records, once the share is set
-    module _ (p q : ℕ) (ep : p ≡ share_size b) (eq : q ≡ share_size (get_or g o 0)) where
-      abbrev end : ℕ
-      end = r.front + r.fill.end + p - q
+  -- the place behind all records, once the share is set
+  module _ {p q : ℕ} (ep : p ≡ share_size b) (eq : q ≡ share_size (get_or g o 0)) where
+    abbrev end : ℕ
+    end = r.front + r.fill.end + p - q
 
-      pub end_most : r.front + r.fill.end + p ≤ 65539
-      end_most = omega (arith, w.front, w.end, w.fits, w.index_most, ep, size_most b)
+    pub end_most : r.front + r.fill.end + p ≤ 65539
+    end_most = omega (arith, w.front, w.end, w.fits, w.index_most, ep, size_most b)
 
-      pub end_less : q ≤ r.front + r.fill.end + p
-      end_less = omega (arith, sizes-set g o b has, w.front, ep, eq)
+    pub end_less : q ≤ r.front + r.fill.end + p
+    end_less = omega (arith, sizes-set g o b has, w.front, ep, eq)
 
-      end_sizes : end ≡ share_sizes g' + sizes 0 w.all.held
-      end_sizes = omega (arith, sizes-set g o b has, w.front, w.end, ep, eq)
+    end_sizes : end ≡ share_sizes g' + sizes 0 w.all.held
+    end_sizes = omega (arith, sizes-set g o b has, w.front, w.end, ep, eq)
 
-      module _ (m : Result ⊤ StoreError) (em : Weighed l.table.rows r.fill.count g' (length t) (length i) end m) where
-        set-by : leaves i t (encode_index (length i) g' w.all.held) m ≡ store_share i t o b
-        set-by =
-            ap (λ (v : List ℕ). leaves i t (encode_index (length i) (set v o b) w.all.held) m) w.shares
-            ∙ share_by i t y w.all w.is o b end
-            (end_sizes ∙ ap₂ (λ (v : List ℕ) (k : ℕ). share_sizes (set v o b) + k) w.shares
-            (sizes_sum w.all.held 0)) m
-            (em w.all.held w.used ∙ ap (λ (v : List ℕ). pick (ltb (length t) (claims (set v o b) w.all.held))
-            (Err E.ShareTooLarge) (pick (ltb (length i) end) (Err E.NoRoom) (Ok tt))) w.shares)
+    module _ {m : Result ⊤ StoreError} (em : Weighed l.table.rows r.fill.count g' (length t) (length i) end m) where
+      set-by : leaves i t (encode_index (length i) g' w.all.held) m ≡ store_share i t o b
+      set-by =
+          ap (λ (v : List ℕ). leaves i t (encode_index (length i) (set v o b) w.all.held) m) w.shares
+          ∙ share_by i t s.bytes w.all w.is o b end
+          (end_sizes ∙ ap₂ (λ (v : List ℕ) (k : ℕ). share_sizes (set v o b) + k) w.shares
+          (sizes_sum w.all.held 0)) m
+          (em w.all.held w.used ∙ ap (λ (v : List ℕ). pick (ltb (length t) (claims (set v o b) w.all.held))
+          (Err E.ShareTooLarge) (pick (ltb (length i) end) (Err E.NoRoom) (Ok tt))) w.shares)
 
-        pub set_refused : (x : StoreError) → m ≡ Err x → unchanged i t (Err x) ≡ store_share i t o b
-        set_refused x f = sym (ap (leaves i t (encode_index (length i) g' w.all.held)) f) ∙ set-by
+      pub set_refused : {x : StoreError} → m ≡ Err x → unchanged i t (Err x) ≡ store_share i t o b
+      set_refused f = sym (ap (leaves i t (encode_index (length i) g' w.all.held)) f) ∙ set-by
 
-        fitting : (x z : Bool) → m ≡ pick x (Err E.ShareTooLarge) (pick z (Err E.NoRoom) (Ok tt)) → m ≡ Ok tt
-            → z ≡ false
-        fitting true z e f = absurd cc
-        fitting false true e f = absurd cc
-        fitting false false e f = refl
+      fitting : (x z : Bool) → m ≡ pick x (Err E.ShareTooLarge) (pick z (Err E.NoRoom) (Ok tt)) → m ≡ Ok tt
+          → z ≡ false
+      fitting true z e f = absurd cc
+      fitting false true e f = absurd cc
+      fitting false false e f = refl
 
-        writes : m ≡ Ok tt → (had : ℕ) → had ≡ get_or g o 0 → Writes i g' o had b g w.all.held
-        writes f had eh =
-            let hs = w.all.held in
-            let z = fitting (ltb (length t) (claims g' hs)) (ltb (length i) end) (em hs w.used) f in
-            record {
-              index = (content_encodes i t w.all y w.is).index
-                  ∙ ap (λ (v : List ℕ). encode_index (length i) v hs) (sym w.shares);
-              owner = has;
-              former = eh;
-              later = refl;
-              fits = w.fits;
-              room = omega (arith, ltb-false (length i) end z, end_sizes);
-              most = set_two;
-            }
+      writes : m ≡ Ok tt → {had : ℕ} → had ≡ get_or g o 0 → Writes i g' o had b g w.all.held
+      writes f eh =
+          let hs = w.all.held in
+          let z = fitting (ltb (length t) (claims g' hs)) (ltb (length i) end) (em hs w.used) f in
+          record {
+            index = (content_encodes i t w.all s.bytes w.is).index
+                ∙ ap (λ (v : List ℕ). encode_index (length i) v hs) (sym w.shares);
+            owner = has;
+            former = eh;
+            later = refl;
+            fits = w.fits;
+            room = omega (arith, ltb-false (length i) end z, end_sizes);
+            most = set_two;
+          }
 
-        pub set_writes : m ≡ Ok tt → (had : ℕ) → had ≡ get_or g o 0
-            → Writable i g' o had b
-        set_writes f had eh = (g, (w.all.held, writes f had eh))
+      pub set_writes : m ≡ Ok tt → {had : ℕ} → had ≡ get_or g o 0 → Writable i g' o had b
+      set_writes f eh = (g, (w.all.held, writes f eh))
 
-        pub set-done : m ≡ Ok tt → (had : ℕ) → had ≡ get_or g o 0 → (i' : List ℕ) → Written i g' o had b i'
-            → record { answer = Ok tt; index = i'; text = t } ≡ store_share i t o b
-        set-done f had eh i' v =
-            ap (λ (x : List ℕ). record { answer = Ok tt; index = x; text = t }) (v g w.all.held (writes f had eh))
-            ∙ sym (ap (leaves i t (encode_index (length i) g' w.all.held)) f) ∙ set-by
+      pub set-done : m ≡ Ok tt → {had : ℕ} → had ≡ get_or g o 0 → {i' : List ℕ} → Written i g' o had b i'
+          → record { answer = Ok tt; index = i'; text = t } ≡ store_share i t o b
+      set-done f eh v =
+          ap (λ (x : List ℕ). record { answer = Ok tt; index = x; text = t }) (v g w.all.held (writes f eh))
+          ∙ sym (ap (leaves i t (encode_index (length i) g' w.all.held)) f) ∙ set-by

@@ -17,7 +17,6 @@ use Rattle.store.specs.declared.rows.Row.{Row}
 use Rattle.store.specs.declared.chains.Verdict.{Verdict}
 use Rattle.store.specs.declared.chains.Verdict.TheVariants as Vd
 use Rattle.store.specs.declared.records.Head.{Head}
-use Rattle.store.specs.declared.table.Fill.{Fill}
 use Rattle.store.specs.declared.soundness.Stock.{Stock}
 use Rattle.store.specs.declared.soundness.Surveyed.{Surveyed}
 use Rattle.store.specs.declared.soundness.Ledger.{Ledger}
@@ -27,18 +26,19 @@ use Rattle.store.specs.Layout.{Bytes}
 use Rattle.store.specs.Fronts.{Fronts}
 use Rattle.store.specs.Shares.{Content}
 use Rattle.store.specs.Inner.{HasRecord, known}
-use Rattle.store.specs.Keys.{rows_max, Says, told_of, Chained, Sought}
+use Rattle.store.specs.Keys.{rows_max, Says, Tells, told_of, Chained, Sought}
 use Rattle.store.specs.Rows.{key_in, row_put, Long}
 use Rattle.store.specs.Table.{InRows, Loads, Surveys, OnceSurveyed, Stocks, OnceStocked}
+use Rattle.store.proofs.BodyLaws.{bytes_part}
 use Rattle.store.proofs.BoolLaws.{true-false}
 use Rattle.store.proofs.ChainLaws.{says-turn, says_agree}
 use Rattle.store.proofs.DecodeLaws.{laid, lines_of_lem}
 use Rattle.store.proofs.HeadLaws.{whole_size}
 use Rattle.store.proofs.LoadLaws.{Loading, load-first, load_less, load_end, load-turn}
-use Rattle.store.proofs.OnceLaws.{list_end}
+use Rattle.store.proofs.OnceLaws.{list_end, tells_once}
 use Rattle.store.proofs.RecordLaws.{Fits, fits_of, size_least}
 use Rattle.store.proofs.SoundLaws.{Walking, walking, walking_end, walking_bad, walking_turn, sound_walk}
-use Rattle.store.proofs.SoundLaws.{sound_text}
+use Rattle.store.proofs.SoundLaws.{sound_text, sound_once}
 use Rattle.store.proofs.ShareLaws.{content_parts}
 use Rattle.store.proofs.WriteLaws.{row_other}
 
@@ -150,17 +150,34 @@ module _ (i t : List ℕ) where
   pub stock_text : length i ≤ index_max → text_max < length t → known (content i t) ≡ false
   stock_text l m = known_rest l ∙ sound_text (fronted i).rest t m
 
-  -- the part q of the index that is lent is the one behind the shares
-  module _ (g : List ℕ) (p : ℕ) (f : Fronts i g p) (l : length i ≤ index_max) (q : List ℕ) (e : q ≡ drop p i) where
-    pub part_most : length q ≤ index_max
-    part_most = omega (arith, ap length e, length-drop p i, l)
+-- the part of the index that is lent is the one behind the shares
+module _ {i g : List ℕ} {p : ℕ} (f : Fronts i g p) (l : length i ≤ index_max) where
+  abbrev part : List ℕ
+  part = mid_of p (length i - p) i
 
-    pub stock_part : known (decode q t) ≡ known (content i t)
-    stock_part = ap (λ (r : List ℕ). known (decode r t)) (e ∙ f.rest) ∙ sym (known_rest l)
+  lent : part ≡ drop p i
+  lent = tail_part p i
 
-    pub stock_loads : (a : List Row) (heads next : List ℕ) (n : Fill) → Loads q a heads next n
-        → Loads (drop p i) a heads next n
-    stock_loads a heads next n x = subst (λ (r : List ℕ). Loads r a heads next n) e x
+  pub part_most : length part ≤ index_max
+  part_most = omega (arith, ap length lent, length-drop p i, l)
+
+  stock_part : (t : List ℕ) → known (decode part t) ≡ known (content i t)
+  stock_part t = ap (λ (r : List ℕ). known (decode r t)) (lent ∙ f.rest) ∙ sym (known_rest i t l)
+
+  pub stock_none : (t : List ℕ) → length t ≤ text_max → known (walk (suc (length part)) 0 part t) ≡ false
+      → known (content i t) ≡ false
+  stock_none t m x = sym (stock_part t) ∙ sound_walk part t part_most m x
+
+  -- of which the lines are walked
+  module _ {t : List ℕ} {a : List Row} {heads next : List ℕ} {s : Surveyed} (v : Surveys part t a heads next s) where
+    pub stock_once : length t ≤ text_max → Bytes i → {b : Bool} → Tells (key_in a) s.fill.count b
+        → b ≡ known (content i t)
+    stock_once m y {b} x =
+        sound_once part t part_most m (bytes_part i p part lent y) v.is b (tells_once part _ _ v.lists b x)
+        ∙ stock_part t
+
+    pub stock_walked : Loads (drop p i) a heads next s.fill × (s.fill.count < rows_max)
+    stock_walked = (subst (λ (r : List ℕ). Loads r a heads next s.fill) lent v.loads, v.most)
 
 -- what a sound store holds
 pub record Holds (i t g : List ℕ) (p : ℕ) : Type 0 where

@@ -188,7 +188,7 @@ module _ (a : List Row) (n : ℕ) (w : Addable a n) where
             ∙ sym (next q)
 
 -- the same of row k where the first n rows are taken
-module _ (a : List Row) (n : ℕ) (w : Addable a n) (u : List ℕ) (k : ℕ) (x : Adding a n u k)
+module _ {a : List Row} {n : ℕ} (w : Addable a n) {u : List ℕ} {k : ℕ} (x : Adding a n u k)
     (h : k < length (take n a)) (b : (get_or (take n a) k unused).key.owner < owners) where
   less : k < n
   less = omega (arith, h, length-take n a)
@@ -227,10 +227,9 @@ pub record Summing (u g : List ℕ) (o sum : ℕ) : Type 0 where
   pub each : (q : ℕ) → q < o → larger (get_or u q 0) (get_or g q 0) ≤ sum
   pub is : (hs : List Held) → Uses u hs → sum + claims_from o (drop o g) hs ≡ claims g hs
 
-module _ (u g : List ℕ) (gu : Given u) (gg : Given g) where
-  pub sum_next : (o sum : ℕ) → Summing u g o sum → o < owners → (x : ℕ) → x ≡ larger (get_or u o 0) (get_or g o 0)
-      → Summing u g (o + 1) (sum + x)
-  sum_next o sum w l x e = record {
+module _ {u g : List ℕ} (gu : Given u) (gg : Given g) {o sum : ℕ} (w : Summing u g o sum) where
+  pub sum_next : o < owners → {x : ℕ} → x ≡ larger (get_or u o 0) (get_or g o 0) → Summing u g (o + 1) (sum + x)
+  sum_next l {x} e = record {
     within = omega arith;
     most = omega (arith, w.most, e, larger_most (get_or u o 0) (get_or g o 0) 65535 (gu.two o) (gg.two o));
     each = below_more (λ (q : ℕ). larger (get_or u q 0) (get_or g q 0) ≤ sum + x) o
@@ -248,8 +247,8 @@ module _ (u g : List ℕ) (gu : Given u) (gg : Given g) where
           ∙ sym (ap (λ (v : List ℕ). claims_from o v hs) (drop-cons g o 0 (omega (arith, gg.each)))
           ∙ unfold claims_from in refl))
 
-  pub sum_end : (o sum : ℕ) → Summing u g o sum → owners ≤ o → Sums u g sum × Covers u g sum
-  sum_end o sum w l =
+  pub sum_end : owners ≤ o → Sums u g sum × Covers u g sum
+  sum_end l =
       let z : o ≡ owners = omega (arith, w.within) in (
         λ hs x. sym (add-zero sum) ∙ ap (λ (v : ℕ). sum + v) (none hs) ∙ w.is hs x,
         record { each = λ q m. w.each q (omega arith); most = omega (arith, w.most) },

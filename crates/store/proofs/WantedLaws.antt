@@ -5,14 +5,15 @@ use Rattle.std.specs.Prelude.{Some, None}
 use mathlib.Core.Bool.{Bool, true, false}
 use mathlib.Core.List.{List, [], ◌∷◌}
 use mathlib.Core.Path.{◌≡◌, refl, sym, ap, ◌∙◌}
-use Prim.Native.Nat.{ℕ, suc, ◌+◌, ◌≤◌, ◌<◌}
+use Prim.Native.Nat.{ℕ, suc, ◌+◌, ◌-◌, ◌≤◌, ◌<◌}
 use native.Mathlib.Omega.{arith}
 use lib.ListN.{length, take, drop, get_or, length-take}
 use borrow.Author.Tests.{eq-eqb, ne_eqb}
-use Rattle.text.proofs.BytesLaws.{same_equal}
+use Rattle.text.proofs.BytesLaws.{same_equal, first_le}
+use Rattle.text.proofs.LentLaws.{tail_length}
 use Rattle.text.proofs.ListLaws.{at_next}
 use Rattle.text.proofs.SmallLaws.{uuid_small}
-use Rattle.text.specs.Bytes.{pick, same, first_of}
+use Rattle.text.specs.Bytes.{pick, byte, same, first_of}
 use Rattle.text.specs.Uuid.{Small}
 use Rattle.text.specs.Uuid.{uuid_of}
 use Rattle.text.specs.declared.uuid.Spelled.{Spelled}
@@ -65,6 +66,21 @@ module _ (l : List ℕ) where
       → for_platform l ≡ same (first_field (drop (first_text platform_key l + length platform_key) l)) platform
   unfolding for_platform
   platform-some n = rw (ne_eqb _ _ n)
+
+-- where `platform:` stands at `at`, it lies within the line, and so does what follows up to a comma
+module _ (l : List ℕ) {at : ℕ} (e : at ≡ first_text platform_key l) (n : at ≡ length l → ⊥) where
+  pub key_within : at + 9 ≤ length l
+  key_within = omega (arith, e, text_within platform_key l (λ q. n (e ∙ q)))
+
+  pub value_within : {end : ℕ} → end ≡ first_of (byte ",") (take (length l - (at + 9)) (drop (at + 9) l))
+      → at + 9 + end ≤ length l
+  value_within f = omega (
+    arith,
+    key_within,
+    f,
+    first_le (byte ",") (take (length l - (at + 9)) (drop (at + 9) l)),
+    tail_length (at + 9) l,
+  )
 
 -- ---- the UUID
 

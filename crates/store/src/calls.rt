@@ -213,7 +213,7 @@ pub fn insert(index: &mut [u8], text: &mut [u8], party: Party, lines: &[u8]) -> 
     }
 }
 
-// Builds a line and files it for a party.
+// Builds a line and files it for a party. What is built is told by build's own parameters, as C lends them.
 pub fn save(
     index: &mut [u8],
     text: &mut [u8],

@@ -157,8 +157,7 @@ pub fn told(known: Verdict, n: usize, r: usize) -> Verdict
 pub fn steps(known: Verdict) -> usize {
     match known {
         Verdict::Apart => CHAIN_MAX,
-        Verdict::Twice => 0,
-        Verdict::Unsure => 0,
+        Verdict::Twice | Verdict::Unsure => 0,
     }
 }
 
@@ -176,6 +175,7 @@ pub struct Keyed<'a> {
 pub fn seek_all(keys: Keyed) -> bool
     ensures { Tells (key_in keys.entry.rows.now) keys.entry.count result }
 {
+    // By number: `seek` is asked for a number, whose row it reads itself.
     for k in 0..keys.count {
         let r = seek(keys.rows, keys.next, usize::from(keys.next[k]), k, ROWS);
         if 0 < r {

@@ -25,6 +25,7 @@ fn far_front(s: &[u8], byte: u8) -> usize
         × (result + first_of byte (drop result s.now) ≡ first_of byte s.now) }
 {
     let blocks = s.len() / BLOCK;
+    // By the block's number, which tells where it starts: `chunks_exact` would need it beside the block.
     for k in 0..blocks {
         let from = BLOCK * k;
         if !lacks(&s[from..from + BLOCK], byte) {

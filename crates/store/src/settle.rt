@@ -70,6 +70,7 @@ fn close_up(
 {
     let mut at = 0;
     let mut off = kept.off;
+    // By number: it also tells whether the line stands in the text, which a place in a part of the rows would not.
     for k in kept.rows..count {
         let row = rows[k];
         if row.len == 0 {

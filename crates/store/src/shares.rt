@@ -47,6 +47,7 @@ pub fn read_shares(index: &[u8], shares: &mut [u16; OWNERS]) -> usize
     ensures { Fronts index.now shares.new result }
 {
     let mut at = 0;
+    // By owner: the number is asked for in a record and is the place of its share; `iter_mut` would give it beside.
     for owner in 0..OWNERS {
         if !kind_four(&index[at..]) {
             return at;

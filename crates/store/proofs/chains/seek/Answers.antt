@@ -1,10 +1,11 @@
 use mathlib.Core.Path.{sym, ◌∙◌}
 use native.Mathlib.Omega.{arith}
-use Prim.Native.Nat.{◌-◌, ◌≤◌}
+use Prim.Native.Nat.{◌-◌, ◌≤◌, ◌<◌}
 use Rattle.store.specs.Held.{same_key}
 use Rattle.store.specs.Rows.{key_in}
-use Rattle.store.proofs.ChainLaws.{seek_turn}
+use Rattle.store.proofs.ChainLaws.{Seeking, seek_turn}
 use Rattle.store.proofs.HeldLaws.{same_eq}
+use Rattle.store.proofs.chains.seek.Goals.{After-from-c}
 use Rattle.store.proofs.chains.seek.Goals as goal
 
 pub returns-then-eq : goal.returns-then-eq
@@ -20,23 +21,17 @@ returns-then-eq c =
       upper_bound = λ l. loop.invariant.0.within;
     }
 
-pub loop-c-smaller : goal.loop-c-smaller
+-- the next number of the chain, where the key is not that of number c
+next : (c : After-from-c) → Seeking (key_in c.args.rows.now) c.args.k c.args.from c.from-c.result × (c.from-c.result < c.loop-c.c)
 unfolding same_key
-loop-c-smaller c =
-    let args = c.args in
-    let pre = c.requires in
-    let loop = c.loop-c in
-    (seek_turn (key_in args.rows.now) args.next.now args.k args.from loop.c
-    c.from-c.result pre.linked loop.invariant.0 (omega arith) (sym c.eq.ensures ∙ c.if-eq.false)
-    c.from-c.ensures).1
+next c =
+    seek_turn (key_in c.args.rows.now) c.args.next.now c.args.k c.args.from c.loop-c.c c.from-c.result c.requires.linked
+    c.loop-c.invariant.0 (omega arith) (sym c.eq.ensures ∙ c.if-eq.false) c.from-c.ensures
+
+pub loop-c-smaller : goal.loop-c-smaller
+loop-c-smaller c = (next (goal.at.loop-c-smaller c).After-from-c).1
 
 pub loop-c-preserved : goal.loop-c-preserved
-unfolding same_key
 loop-c-preserved c =
-    let args = c.args in
-    let pre = c.requires in
-    let loop = c.loop-c in
-    let on = seek_turn (key_in args.rows.now) args.next.now args.k args.from loop.c
-    c.from-c.result pre.linked loop.invariant.0 (omega arith) (sym c.eq.ensures ∙ c.if-eq.false)
-    c.from-c.ensures in
-    (on.0, λ l. let left : loop.c ≤ loop.left = loop.invariant.1 l in omega (arith, on.1))
+    let on = next (goal.at.loop-c-preserved c).After-from-c in
+    (on.0, λ l. let left : c.loop-c.c ≤ c.loop-c.left = c.loop-c.invariant.1 l in omega (arith, on.1))

@@ -2,15 +2,13 @@
 use mathlib.Core.Path.{sym, ap, ◌∙◌}
 use Prim.Native.Nat.{ℕ, ◌+◌, ◌-◌}
 use native.Mathlib.Omega.{arith}
-use lib.ListN.{length, take, drop}
+use lib.ListN.{take, drop}
 use Rattle.text.specs.Bytes.{byte, same, first_of}
 use Rattle.text.proofs.ListLaws.{part_to_end}
-use Rattle.text.proofs.LentLaws.{tail_length}
-use Rattle.text.proofs.BytesLaws.{first_le, pointwise_same}
+use Rattle.text.proofs.BytesLaws.{pointwise_same}
 use Rattle.store.specs.Lines.{platform}
-use Rattle.text.specs.Search.{platform_key}
 use Rattle.store.proofs.LineLaws.{plus_minus}
-use Rattle.store.proofs.WantedLaws.{text_within, platform-none, platform-some}
+use Rattle.store.proofs.WantedLaws.{platform-none, platform-some, key_within, value_within}
 use Rattle.store.proofs.lines.for_platform.Goals as goal
 
 pub returns-then-at-line : goal.returns-then-at-line
@@ -19,50 +17,21 @@ returns-then-at-line c =
     sym (platform-none l (sym c.find_text-at.ensures ∙ c.if-at-line.true))
 
 pub overflow_add-start : goal.overflow_add-start
-overflow_add-start c =
-    let l = c.args.line.now in
-    let at = c.find_text-at in
-    omega (arith, at.ensures, text_within platform_key l (λ q. c.if-at-line.false (at.ensures ∙ q)))
+overflow_add-start c = omega (arith, key_within c.args.line.now c.find_text-at.ensures c.if-at-line.false)
 
 pub slice_bounds-find_byte-count : goal.slice_bounds-find_byte-count
-slice_bounds-find_byte-count c =
-    let l = c.args.line.now in
-    let at = c.find_text-at in
-    omega (arith, at.ensures, text_within platform_key l (λ q. c.if-at-line.false (at.ensures ∙ q)))
+slice_bounds-find_byte-count c = omega (arith, key_within c.args.line.now c.find_text-at.ensures c.if-at-line.false)
 
 pub slice_bounds-find_byte-start : goal.slice_bounds-find_byte-start
-slice_bounds-find_byte-start c =
-    let l = c.args.line.now in
-    let at = c.find_text-at in
-    omega (arith, at.ensures, text_within platform_key l (λ q. c.if-at-line.false (at.ensures ∙ q)))
+slice_bounds-find_byte-start c = omega (arith, key_within c.args.line.now c.find_text-at.ensures c.if-at-line.false)
 
 pub overflow_add-start-2 : goal.overflow_add-start-2
 overflow_add-start-2 c =
-    let l = c.args.line.now in
-    let at = c.find_text-at in
-    let start = at.result + 9 in
-    omega (
-      arith,
-      at.ensures,
-      text_within platform_key l (λ q. c.if-at-line.false (at.ensures ∙ q)),
-      c.find_byte-end.ensures,
-      first_le (byte ",") (take (length l - start) (drop start l)),
-      tail_length start l,
-    )
+    omega (arith, value_within c.args.line.now c.find_text-at.ensures c.if-at-line.false c.find_byte-end.ensures)
 
 pub slice_bounds-eq-end : goal.slice_bounds-eq-end
 slice_bounds-eq-end c =
-    let l = c.args.line.now in
-    let at = c.find_text-at in
-    let start = at.result + 9 in
-    omega (
-      arith,
-      at.ensures,
-      text_within platform_key l (λ q. c.if-at-line.false (at.ensures ∙ q)),
-      c.find_byte-end.ensures,
-      first_le (byte ",") (take (length l - start) (drop start l)),
-      tail_length start l,
-    )
+    omega (arith, value_within c.args.line.now c.find_text-at.ensures c.if-at-line.false c.find_byte-end.ensures)
 
 pub returns : goal.returns
 returns c =

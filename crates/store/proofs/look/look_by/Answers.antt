@@ -10,14 +10,7 @@ returns-in_err-stock c =
     rw w.0 (sees_unsound args.key args.index.now args.text.now w.1)
 
 pub part_of-requires : goal.part_of-requires
-part_of-requires c =
-    let args = c.args in
-    let stock = c.in_ok-stock in
-    stock_ready args.index.now args.text.now _ _ (rw stock.ensures.ok_part at c.take_stock.ensures)
+part_of-requires c = stock_ready (rw c.in_ok-stock.ensures.ok_part at c.take_stock.ensures)
 
 pub returns : goal.returns
-returns c =
-    let args = c.args in
-    let stock = c.in_ok-stock in
-    sees_stock args.index.now args.text.now _ _ (rw stock.ensures.ok_part at c.take_stock.ensures)
-    args.key _ c.part_of.ensures.spots
+returns c = sees_stock (rw c.in_ok-stock.ensures.ok_part at c.take_stock.ensures) c.args.key _ c.part_of.ensures.spots

@@ -5,51 +5,24 @@ use Rattle.store.proofs.look.part_of.Goals as goal
 
 pub seek_before-r-requires : goal.seek_before-r-requires
 seek_before-r-requires c =
-    let args = c.args in
-    let pre = c.requires in
-    record {
-      k_lt_rows_max = pre.few;
-      chained = (put_ready args.table.now.rows args.table.now.heads args.table.now.next args.fill.count args.key pre
-          _ refl).chained;
-    }
+    record { k_lt_rows_max = c.requires.few; chained = (put_ready c.args.key c.requires refl).chained }
 
 pub returns-then-len-eq0 : goal.returns-then-len-eq0
-returns-then-len-eq0 c =
-    let args = c.args in
-    let pre = c.requires in
-    let seek = c.seek_before-r in
-    let before = c.len_before-len in
-    let agree = put_agree args.table.now.rows args.table.now.heads args.table.now.next args.fill.count args.key pre
-    _ refl in record {
-      ready = put_ready args.table.now.rows args.table.now.heads args.table.now.next args.fill.count args.key pre
-          _ refl;
-      chains_kept = (refl, refl);
-      agree = agree;
-      spots = λ i t b hs ag x.
-          spot_none args.key i t b _ args.table.now.heads args.table.now.next args.fill hs x
-          (λ j l. ag j l ∙ agree j l)
-          (put_new args.table.now.rows args.table.now.heads args.table.now.next args.fill.count args.key pre
-          _ refl)
-          seek.result seek.ensures.sought seek.ensures.upper_bound before.result before.ensures c.if-len-eq0.true;
-    }
+returns-then-len-eq0 c = record {
+  ready = put_ready c.args.key c.requires refl;
+  chains_kept = (refl, refl);
+  agree = put_agree c.args.key c.requires refl;
+  spots = λ i t b hs ag x.
+      spot_none _ x (λ j l. ag j l ∙ put_agree c.args.key c.requires refl j l) (put_new c.args.key c.requires refl)
+      c.seek_before-r.ensures.sought c.seek_before-r.ensures.upper_bound c.len_before-len.ensures c.if-len-eq0.true;
+}
 
 pub returns : goal.returns
-returns c =
-    let args = c.args in
-    let pre = c.requires in
-    let seek = c.seek_before-r in
-    let before = c.len_before-len in
-    let agree = put_agree args.table.now.rows args.table.now.heads args.table.now.next args.fill.count args.key pre
-    _ refl in record {
-      ready = put_ready args.table.now.rows args.table.now.heads args.table.now.next args.fill.count args.key pre
-          _ refl;
-      chains_kept = (refl, refl);
-      agree = agree;
-      spots = λ i t b hs ag x.
-          spot_line args.key i t b _ args.table.now.heads args.table.now.next args.fill hs x
-          (λ j l. ag j l ∙ agree j l)
-          (put_new args.table.now.rows args.table.now.heads args.table.now.next args.fill.count args.key pre
-          _ refl)
-          seek.result seek.ensures.sought seek.ensures.upper_bound before.result before.ensures c.if-len-eq0.false
-          _ refl;
-    }
+returns c = record {
+  ready = put_ready c.args.key c.requires refl;
+  chains_kept = (refl, refl);
+  agree = put_agree c.args.key c.requires refl;
+  spots = λ i t b hs ag x.
+      spot_line _ x (λ j l. ag j l ∙ put_agree c.args.key c.requires refl j l) (put_new c.args.key c.requires refl)
+      c.seek_before-r.ensures.sought c.seek_before-r.ensures.upper_bound c.len_before-len.ensures c.if-len-eq0.false refl;
+}

@@ -11,14 +11,7 @@ returns-in_err-stock c =
     rw w.0 (near_unsound args.key args.index.now args.text.now w.1)
 
 pub try_both-requires : goal.try_both-requires
-try_both-requires c =
-    let args = c.args in
-    let stock = c.in_ok-stock in
-    stock_ready args.index.now args.text.now _ _ (rw stock.ensures.ok_part at c.take_stock.ensures)
+try_both-requires c = stock_ready (rw c.in_ok-stock.ensures.ok_part at c.take_stock.ensures)
 
 pub returns : goal.returns
-returns c =
-    let args = c.args in
-    let stock = c.in_ok-stock in
-    near_stock args.index.now args.text.now _ _ (rw stock.ensures.ok_part at c.take_stock.ensures)
-    args.key _ c.try_both.ensures
+returns c = near_stock (rw c.in_ok-stock.ensures.ok_part at c.take_stock.ensures) c.args.key _ c.try_both.ensures

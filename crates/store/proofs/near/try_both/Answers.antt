@@ -11,6 +11,7 @@ use Rattle.store.specs.Held.{key_by, find}
 use Rattle.store.specs.Near.{plain_key}
 use Rattle.store.specs.Sights.{Spot}
 use Rattle.store.proofs.NearLaws.{sees_exact, sees_near, sees_neither}
+use Rattle.store.proofs.near.try_both.Goals.{After-part_of-2}
 use Rattle.store.proofs.near.try_both.Goals as goal
 
 pub returns-in-Some : goal.returns-in-Some
@@ -28,30 +29,24 @@ still i t a heads next heads' next' f hs p q x =
     subst (λ (v : List ℕ). InRows i t [] a v next' f.count f hs) (sym p)
     (subst (λ (v : List ℕ). InRows i t [] a heads v f.count f hs) (sym q) x)
 
+-- what the second try tells
+second : (c : After-part_of-2) (i t : List ℕ) (hs : List Held)
+    → InRows i t [] c.args.table.now.rows c.args.table.now.heads c.args.table.now.next c.args.fill.count c.args.fill hs
+    → Spot t (find (plain_key c.args.key) hs) c.part_of-2.result
+second c i t hs x =
+    let whole = c.part_of.ensures in
+    subst (λ (u : Uuid). Spot t (find (key_by c.args.key.owner u) hs) c.part_of-2.result) c.without_checksum.ensures
+    (c.part_of-2.ensures.spots i t _ hs whole.agree
+    (still i t _ _ _ _ _ c.args.fill hs whole.chains_kept.0 whole.chains_kept.1 x))
+
 pub returns-in-Some-part_of : goal.returns-in-Some-part_of
-returns-in-Some-part_of c =
-    let args = c.args in
-    let plain = c.without_checksum in
-    let whole = c.part_of in
-    let second = c.part_of-2 in
-    λ i t hs x.
-    sees_near t (find args.key hs) (find (plain_key args.key) hs) whole.result
-    (whole.ensures.spots i t _ hs (λ j m. refl) x) second.result
-    (subst (λ (u : Uuid). Spot t (find (key_by args.key.owner u) hs) second.result) plain.ensures
-    (second.ensures.spots i t _ hs whole.ensures.agree (still i t _ _ _ _ _ args.fill hs whole.ensures.chains_kept.0
-    whole.ensures.chains_kept.1 x)))
-    c.in_default.is _ c.in-Some-part_of.is
+returns-in-Some-part_of c = λ i t hs x.
+    sees_near t (find c.args.key hs) (find (plain_key c.args.key) hs) c.part_of.result
+    (c.part_of.ensures.spots i t _ hs (λ j m. refl) x) c.part_of-2.result
+    (second (goal.at.returns-in-Some-part_of c).After-part_of-2 i t hs x) c.in_default.is _ c.in-Some-part_of.is
 
 pub returns : goal.returns
-returns c =
-    let args = c.args in
-    let plain = c.without_checksum in
-    let whole = c.part_of in
-    let second = c.part_of-2 in
-    λ i t hs x.
-    sees_neither t (find args.key hs) (find (plain_key args.key) hs) whole.result
-    (whole.ensures.spots i t _ hs (λ j m. refl) x) second.result
-    (subst (λ (u : Uuid). Spot t (find (key_by args.key.owner u) hs) second.result) plain.ensures
-    (second.ensures.spots i t _ hs whole.ensures.agree (still i t _ _ _ _ _ args.fill hs whole.ensures.chains_kept.0
-    whole.ensures.chains_kept.1 x)))
-    c.in_default.is c.in_default-part_of.is
+returns c = λ i t hs x.
+    sees_neither t (find c.args.key hs) (find (plain_key c.args.key) hs) c.part_of.result
+    (c.part_of.ensures.spots i t _ hs (λ j m. refl) x) c.part_of-2.result
+    (second (goal.at.returns c).After-part_of-2 i t hs x) c.in_default.is c.in_default-part_of.is

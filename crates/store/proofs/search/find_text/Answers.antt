@@ -1,33 +1,26 @@
 use mathlib.Core.Path.{◌∙◌}
+use Prim.Native.Nat.{◌+◌, ◌≤◌}
 use native.Mathlib.Omega.{arith}
+use lib.ListN.{length}
 use borrow.Author.Rules.{rules}
 use Rattle.store.proofs.SeekLaws.{rare_none, rare_within, rare_last, rare_here, rare_on, begins_is}
+use Rattle.store.proofs.search.find_text.Goals.{After-find_far}
 use Rattle.store.proofs.search.find_text.Goals as goal
 
 pub loop-i-init : goal.loop-i-init
 loop-i-init c = (search rules, omega arith)
 
+-- the rare byte is sought within the text
+within : (c : After-find_far) → c.loop-i.i + c.find_far.result + c.args.d ≤ length c.args.s.now
+within c =
+    rare_within c.args.p.now c.args.s.now c.args.d (search rules) c.loop-i.i c.find_far.result c.loop-i.invariant.1
+    (search rules) c.find_far.ensures
+
 pub overflow_add-at : goal.overflow_add-at
-overflow_add-at c =
-    let a = c.args in
-    let loop = c.loop-i in
-    let far = c.find_far in
-    omega (
-      arith,
-      rare_within a.p.now a.s.now a.d (search rules) loop.i far.result loop.invariant.1
-          (search rules) far.ensures,
-    )
+overflow_add-at c = omega (arith, within (goal.at.overflow_add-at c).After-find_far)
 
 pub overflow_add-at-in-loop-i : goal.overflow_add-at-in-loop-i
-overflow_add-at-in-loop-i c =
-    let a = c.args in
-    let loop = c.loop-i in
-    let far = c.find_far in
-    omega (
-      arith,
-      rare_within a.p.now a.s.now a.d (search rules) loop.i far.result loop.invariant.1
-          (search rules) far.ensures,
-    )
+overflow_add-at-in-loop-i c = omega (arith, within (goal.at.overflow_add-at-in-loop-i c).After-find_far)
 
 pub returns-then-s-at : goal.returns-then-s-at
 returns-then-s-at c =

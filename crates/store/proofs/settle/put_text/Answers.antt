@@ -6,11 +6,7 @@ use Rattle.store.proofs.settle.put_text.Goals as goal
 
 pub overflow_add-start : goal.overflow_add-start
 overflow_add-start c =
-    let a = c.args in
-    omega (
-      arith,
-      from_text a.text.now a.lines.now a.old (a.start + a.len) c.if-old.true c.requires.len_in_bounds_2,
-    )
+    omega (arith, from_text c.args.text.now c.args.lines.now _ _ c.if-old.true c.requires.len_in_bounds_2)
 
 pub slice_bounds-move_down-count : goal.slice_bounds-move_down-count
 slice_bounds-move_down-count c = omega (arith, c.requires.off_le_start c.if-old.true)
@@ -20,11 +16,7 @@ slice_bounds-move_down-start c = omega (arith, c.requires.off_le_start c.if-old.
 
 pub slice_bounds-move_down-end : goal.slice_bounds-move_down-end
 slice_bounds-move_down-end c =
-    let a = c.args in
-    omega (
-      arith,
-      from_text a.text.now a.lines.now a.old (a.start + a.len) c.if-old.true c.requires.len_in_bounds_2,
-    )
+    omega (arith, from_text c.args.text.now c.args.lines.now _ _ c.if-old.true c.requires.len_in_bounds_2)
 
 pub overflow_sub-start : goal.overflow_sub-start
 overflow_sub-start c = omega (arith, c.requires.off_le_start c.if-old.true)
@@ -39,19 +31,11 @@ returns-then-old c =
 
 pub overflow_add-start-2 : goal.overflow_add-start-2
 overflow_add-start-2 c =
-    let a = c.args in
-    omega (
-      arith,
-      from_lines a.text.now a.lines.now a.old (a.start + a.len) c.if-old.false c.requires.len_in_bounds_2,
-    )
+    omega (arith, from_lines c.args.text.now c.args.lines.now _ _ c.if-old.false c.requires.len_in_bounds_2)
 
 pub slice_bounds-write_bytes-end : goal.slice_bounds-write_bytes-end
 slice_bounds-write_bytes-end c =
-    let a = c.args in
-    omega (
-      arith,
-      from_lines a.text.now a.lines.now a.old (a.start + a.len) c.if-old.false c.requires.len_in_bounds_2,
-    )
+    omega (arith, from_lines c.args.text.now c.args.lines.now _ _ c.if-old.false c.requires.len_in_bounds_2)
 
 pub returns : goal.returns
 returns c =

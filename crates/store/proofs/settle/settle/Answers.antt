@@ -1,51 +1,34 @@
 -- What stands before the first number that is struck out is kept; `close_up` does the rest.
+use Prim.Native.Nat.{◌≤◌}
 use native.Mathlib.Omega.{arith}
+use lib.ListN.{length}
+use borrow.Author.Rules.{rules}
 use Rattle.store.proofs.ClosingLaws.{settle_keeps, kept_within, settle_lends, settle_back}
+use Rattle.store.proofs.settle.settle.Goals.{After-kept_rows-kept}
 use Rattle.store.proofs.settle.settle.Goals as goal
 
 pub kept_rows-kept-requires : goal.kept_rows-kept-requires
 kept_rows-kept-requires c =
-    let args = c.args in
-    let pre = c.requires in
-    settle_keeps args.index.now args.text.now args.lines.now _ args.was args.count (λ k. omega (arith, c.slice_known-1.given k))
-    pre.extends pre.settles
+    settle_keeps c.args.index.now c.args.text.now c.args.lines.now _ c.args.was c.args.count (λ k. search rules)
+    c.requires.extends c.requires.settles
+
+-- the records that are kept stand in the index
+within : (c : After-kept_rows-kept) → c.kept_rows-kept.result.at ≤ length c.args.index.now
+within c = kept_within _ _ c.args.lines.now _ _ c.args.count (λ k. search rules) c.requires.extends _
+    c.kept_rows-kept.ensures c.requires.settles.0 c.requires.settles.1
 
 pub slice_bounds-close_up-count : goal.slice_bounds-close_up-count
-slice_bounds-close_up-count c =
-    let args = c.args in
-    let pre = c.requires in
-    let slice-known = c.slice_known-1 in
-    omega (
-      arith,
-      kept_within args.index.now args.text.now args.lines.now args.rows.now args.was args.count (λ k. omega (arith, slice-known.given k))
-          pre.extends c.kept_rows-kept.result c.kept_rows-kept.ensures pre.settles.0 pre.settles.1,
-    )
+slice_bounds-close_up-count c = omega (arith, within (goal.at.slice_bounds-close_up-count c).After-kept_rows-kept)
 
 pub slice_bounds-close_up-start : goal.slice_bounds-close_up-start
-slice_bounds-close_up-start c =
-    let args = c.args in
-    let pre = c.requires in
-    let slice-known = c.slice_known-1 in
-    omega (
-      arith,
-      kept_within args.index.now args.text.now args.lines.now args.rows.now args.was args.count (λ k. omega (arith, slice-known.given k))
-          pre.extends c.kept_rows-kept.result c.kept_rows-kept.ensures pre.settles.0 pre.settles.1,
-    )
+slice_bounds-close_up-start c = omega (arith, within (goal.at.slice_bounds-close_up-start c).After-kept_rows-kept)
 
 pub close_up-requires : goal.close_up-requires
 close_up-requires c =
-    let args = c.args in
-    let pre = c.requires in
-    let slice-known = c.slice_known-1 in
-    settle_lends args.index.now args.text.now args.lines.now _ args.was args.count (λ k. omega (arith, slice-known.given k))
-    pre.extends c.kept_rows-kept.result c.kept_rows-kept.ensures pre.settles
+    settle_lends _ _ c.args.lines.now _ _ _ (λ k. search rules) c.requires.extends _ c.kept_rows-kept.ensures
+    c.requires.settles
 
 pub returns : goal.returns
 returns c =
-    let args = c.args in
-    let pre = c.requires in
-    let slice-known = c.slice_known-1 in
-    let kept-rows = c.kept_rows-kept in
-    let close_up = c.close_up in
-    settle_back args.index.now args.text.now args.lines.now _ args.was args.count (λ k. omega (arith, slice-known.given k))
-    pre.extends kept-rows.result kept-rows.ensures _ _ close_up.ensures
+    settle_back c.args.index.now c.args.text.now c.args.lines.now _ c.args.was c.args.count (λ k. search rules)
+    c.requires.extends _ c.kept_rows-kept.ensures _ _ c.close_up.ensures
