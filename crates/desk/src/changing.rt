@@ -26,17 +26,14 @@ pub struct Access {
 
 // What the script says: whether it holds the lock, and what the new store gets of the former one, where there is one.
 // `locked` stays a flag: it says one thing by itself, and no value stands beside it that counts only where it is set.
-#[derive(Clone, Copy)]
+#[derive(Clone, Copy, Default)]
 pub struct Held {
     pub locked: bool,
     pub access: Option<Access>,
 }
 
 pub fn not_held() -> Held {
-    Held {
-        locked: false,
-        access: None,
-    }
+    Held::default()
 }
 
 fn code_arg(console: &Console, i: usize) -> Option<u32> {
@@ -111,8 +108,8 @@ fn fill(mut file: File, store: Halves) -> io::Result<()> {
     file.sync_all()
 }
 
-// The folder of a file, by its path up to the last slash. A match, and not `map_or`: the slice is taken where the slash is
-// known to lie in the path.
+// The folder of a file, by its path up to the last slash. A match, and not `map_or`: the slice is taken where the slash
+// is known to lie in the path.
 fn folder_of(path: &[u8]) -> &[u8] {
     match path.iter().rposition(|b| *b == b'/') {
         Some(n) => &path[..=n],

@@ -11,7 +11,7 @@ use text::decimal::parse_u16;
 // One more than the most codes of a list: a longer list is cut here, and refused for its length as it would be whole.
 const LONGEST: usize = 1025;
 
-// The kinds of the Linux input headers: EV_KEY and EV_ABS. The functions that take one from a caller take its number too.
+// The kinds of the Linux input headers: EV_KEY and EV_ABS. Functions that take one from a caller take its number too.
 #[derive(Clone, Copy, PartialEq, Eq)]
 pub enum Kind {
     Button,
@@ -210,8 +210,8 @@ fn range_of(console: &Console, s: &[u8], kind: Kind) -> Option<(u32, u32)> {
     Some((from, to))
 }
 
-// The codes of a list with commas; whether all its parts are some. It goes on behind a part that is none, so that each of
-// these is said: a bool, and not `?`.
+// The codes of a list with commas; whether all its parts are some. It goes on behind a part that is none, so that each
+// of these is said: a bool, and not `?`.
 fn push_parts(console: &Console, codes: &mut Codes, s: &[u8], kind: Kind) -> bool {
     let mut all = true;
     for part in s.split_inclusive(|b| *b == b',') {

@@ -31,8 +31,8 @@ const NO_OUTPUT: i32 = 9;
 // The room for an error in words.
 const WORDS_ROOM: usize = 128;
 
-// The system; whether the script `hub` takes a status; and whether the reader of an output has gone. The two stay flags:
-// each says one thing by itself, and no value stands beside it.
+// The system; whether the script `hub` takes a status; and whether the reader of an output has gone. The two stay
+// flags: each says one thing by itself, and no value stands beside it.
 #[derive(Drop)]
 pub struct Console {
     rt: HostRuntime,

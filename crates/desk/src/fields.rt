@@ -32,8 +32,8 @@ pub fn section<T>(s: &[T], at: usize, len: usize) -> &[T] {
     first(from(s, at), len)
 }
 
-// The part that starts at `at` and ends before the next `b`. It goes by a place, and not by an iterator over the parts: a
-// mark under a line is put at a place.
+// The part that starts at `at` and ends before the next `b`. It goes by a place, and not by an iterator over the parts:
+// a mark under a line is put at a place.
 pub fn part_at(s: &[u8], at: usize, b: u8) -> &[u8] {
     before(from(s, at), b)
 }

@@ -8,7 +8,7 @@ use crate::shown::{complain_shown, fail};
 use std::fs::File;
 
 // A recording: where it is read, if it is open, and its next record, if there is one.
-#[derive(Drop)]
+#[derive(Default, Drop)]
 pub struct Stream {
     pub file: Option<File>,
     pub next: Option<Result<Input, InputError>>,
@@ -23,10 +23,7 @@ pub enum Turn {
 
 // No recording.
 pub fn no_stream() -> Stream {
-    Stream {
-        file: None,
-        next: None,
-    }
+    Stream::default()
 }
 
 // The recording that an argument names; what can't be opened is said.

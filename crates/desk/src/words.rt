@@ -37,7 +37,8 @@ const MEANINGS: [&[u8]; 27] = [
     b"more than 256 codes held by a pad",
 ];
 
-// The number of a file that is no store, and of an owner that none can have: with these more is printed than the meaning.
+// The number of a file that is no store, and of an owner that none can have: with these, more is printed than what they
+// mean.
 const UNSOUND: usize = 19;
 
 const NO_OWNER: usize = 24;

@@ -175,8 +175,8 @@ fn bad_hat_place(line: &[u8]) -> usize {
         .map_or(0, |(place, _)| place)
 }
 
-// Where a line is refused, if that is at a place: 12 is about a list and has none. Document 01 places 7 at 0; the hub shows
-// its pair.
+// Where a line is refused, if that is at a place: 12 is about a list and has none. Document 01 places 7 at 0; the hub
+// shows its pair.
 fn place_of(e: ParseSdlMappingError, line: &[u8]) -> Option<usize> {
     match e {
         ParseSdlMappingError::UnknownHatDirection => Some(bad_hat_place(line)),
@@ -184,8 +184,8 @@ fn place_of(e: ParseSdlMappingError, line: &[u8]) -> Option<usize> {
     }
 }
 
-// A refused reading. Console, output and line are three parameters: each comes from elsewhere, and a struct of them would be
-// made for this one call.
+// A refused reading. Console, output and line are three parameters: each comes from elsewhere, and a struct of them
+// would be made for this one call.
 pub fn put_reading_refused(
     console: &Console,
     fd: i32,

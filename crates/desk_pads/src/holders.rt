@@ -14,8 +14,8 @@ const CODE_UNIT: u64 = 4294967296;
 
 const AXIS_ZERO: i64 = 32770;
 
-// The raw value of a held code. The crate pad reads the same number by `held_of`, for itself: a public function there, with
-// a promise and wrong programs of its own, would not be plainer than this.
+// The raw value of a held code. The crate pad reads the same number by `held_of`, for itself: a public function there,
+// with a promise and wrong programs of its own, would not be plainer than this.
 fn raw_of(y: u32) -> Raw {
     match y {
         0 => Raw::ButtonReleased,

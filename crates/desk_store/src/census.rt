@@ -68,10 +68,10 @@ pub fn kind_of(line: &[u8]) -> LineKind {
     if line.starts_with(b"#") {
         return LineKind::Comment;
     }
-    match Uuid::parse_str(before(line, b',')) {
-        Some(_) => trial(line),
-        None => LineKind::NoUuid,
+    if Uuid::parse_str(before(line, b',')).is_none() {
+        return LineKind::NoUuid;
     }
+    trial(line)
 }
 
 impl Census {

@@ -81,7 +81,8 @@ fn no_party(console: &Console, arg: &[u8]) -> Failure {
     )
 }
 
-// The owner byte of a party: what a store's records hold, and no status.
+// The owner byte of a party: what a store's records hold, and no status. Functions, and no `From`, since `Party` is the
+// crate store's.
 pub fn owner_of(party: Party) -> u8 {
     match party {
         Party::Hall => 0,

@@ -13,7 +13,7 @@ use text::uuid::Uuid;
 // The last bytes of a line's record: where the line stands in the text, and its length.
 const PLACE_BYTES: usize = 4;
 
-// The two halves of a store, which stand elsewhere. They are desk's `Halves` with methods that need the crate store, on which
+// The two halves of a store, which stand elsewhere: desk's `Halves`, with methods that need the crate store, on which
 // desk does not rest.
 #[derive(Clone, Copy)]
 pub struct View<'a> {
@@ -29,6 +29,7 @@ pub struct LineKey {
 }
 
 impl<'a> View<'a> {
+    // Not `From`, which would not take a file that is lent to be changed.
     pub fn of(file: &'a StoreFile) -> View<'a> {
         View {
             index: &file.index,
