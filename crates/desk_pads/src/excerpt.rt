@@ -122,6 +122,7 @@ impl Marked<'_> {
         put(console, fd, b"^\n");
     }
 
+    // `: 'lefty'`
     fn put_quoted(self, cause: &[u8]) {
         put(self.console, self.fd, b": '");
         put_start(self.console, self.fd, cause);
@@ -153,6 +154,7 @@ impl Marked<'_> {
         }
     }
 
+    // Behind the refusal's number and meaning.
     fn put(self) {
         self.put_cause();
         put_place(self.console, self.fd, self.place);
