@@ -164,13 +164,14 @@ def named_numbers():
 
 def words():
     """The words of each refusal as the hub, the header, the Rust crate and the Python module have them, by number."""
-    hub = re.search(r'b"\\n(.*?)"', Path("crates/desk/src/words.rt").read_text(), re.S)[1].split("\n")
+    rows = Path("crates/desk/src/words.rt").read_text().split("const MEANINGS", 1)[1].split("\n];", 1)[0]
+    hub = re.findall(r'^    b"(.*)",$', rows, re.M)
     listed = Path("bindings/raspteal_numbers.h").read_text().split("raspteal_meaning(", 1)[1]
     crate = Path("bindings/rust/src/error.rs").read_text()
     numbers, meanings = (crate.split(f"pub fn {name}(", 1)[1].split("pub fn ", 1)[0] for name in ("number", "meaning"))
     meant = dict(re.findall(r'Error::(\w+).* => "(.*)",', meanings))
     sides = [
-        {str(number): told for number, told in enumerate(hub, 1) if told},
+        {str(number): told for number, told in enumerate(hub, 1)},
         dict(re.findall(r'case ([1-9]\d*): return "(.+)";', listed)),
         {number: meant.get(name) for name, number in re.findall(r"Error::(\w+).* => (\d+),", numbers)},
         python()[3],

@@ -1,7 +1,7 @@
 // What can be done about a refusal: `hub help 21`.
 use crate::console::Console;
 use crate::say::{ERR, Failure, OUT, put, put_value, say};
-use crate::words::put_refused;
+use crate::words::{put_refused, row_on};
 
 // One line for each number, from 1 on.
 const ADVICE: [&[u8]; 27] = [
@@ -34,13 +34,9 @@ const ADVICE: [&[u8]; 27] = [
     b"record one pad at a time: no pad has more than 256 codes",
 ];
 
-fn advice_on(number: usize) -> Option<&'static [u8]> {
-    ADVICE.get(number.checked_sub(1)?).copied()
-}
-
 // The advice on a refusal, in a line of its own.
 pub fn put_advice(console: &Console, fd: i32, number: usize) {
-    if let Some(advice) = advice_on(number) {
+    if let Some(advice) = row_on(&ADVICE, number) {
         put(console, fd, b"  ");
         put(console, fd, advice);
         put(console, fd, b"\n");
@@ -50,7 +46,7 @@ pub fn put_advice(console: &Console, fd: i32, number: usize) {
 // `hub help 21`
 pub fn help_on_refusal(console: &Console, number: usize) -> Result<(), Failure> {
     // Each number that has a meaning has advice.
-    if advice_on(number).is_none() {
+    if row_on(&ADVICE, number).is_none() {
         put_value(
             console,
             ERR,

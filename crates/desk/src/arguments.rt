@@ -12,10 +12,8 @@ pub fn is_party(arg: &[u8]) -> bool {
 fn is_argument_with(console: &Console, key: &[u8], i: usize) -> bool {
     let mut space = arg_space();
     let arg = argument(console, i, &mut space);
-    match arg.strip_prefix(key) {
-        Some(rest) => rest.starts_with(b"="),
-        None => false,
-    }
+    arg.strip_prefix(key)
+        .is_some_and(|rest| rest.starts_with(b"="))
 }
 
 // The first argument from `from` on that is `KEY=..`.

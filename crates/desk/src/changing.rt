@@ -4,7 +4,7 @@
 // of those names that a broken-off hub left is removed first. Where the reader of an output has gone, nothing is changed.
 use crate::codes::parse_code;
 use crate::console::{Console, argument, create_new, open_read, remove_file, rename};
-use crate::files::{StoreFile, arg_space, load};
+use crate::files::{Halves, StoreFile, arg_space, load};
 use crate::say::{Failure, complain};
 use crate::shown::fail;
 use arrayvec::ArrayVec;
@@ -18,24 +18,22 @@ const PATH_ROOM: usize = 16400;
 
 // The mode, the owner and the group of a file.
 #[derive(Clone, Copy)]
-struct Access {
-    mode: u32,
-    owner: u32,
-    group: u32,
+pub struct Access {
+    pub mode: u32,
+    pub owner: u32,
+    pub group: u32,
 }
 
 // What the script says: whether it holds the lock, and what the new store gets of the former one, where there is one.
-#[derive(Clone, Copy)]
+// `locked` stays a flag: it says one thing by itself, and no value stands beside it that counts only where it is set.
+#[derive(Clone, Copy, Default)]
 pub struct Held {
-    locked: bool,
-    access: Option<Access>,
+    pub locked: bool,
+    pub access: Option<Access>,
 }
 
 pub fn not_held() -> Held {
-    Held {
-        locked: false,
-        access: None,
-    }
+    Held::default()
 }
 
 fn code_arg(console: &Console, i: usize) -> Option<u32> {
@@ -104,13 +102,14 @@ fn keep(console: &Console, file: &File, held: Held) -> io::Result<()> {
 }
 
 // Writes both halves of a store.
-fn fill(mut file: File, store: &StoreFile) -> io::Result<()> {
-    file.write_all(&store.index)?;
-    file.write_all(&store.text)?;
+fn fill(mut file: File, store: Halves) -> io::Result<()> {
+    file.write_all(store.index)?;
+    file.write_all(store.text)?;
     file.sync_all()
 }
 
-// The folder of a file, by its path up to the last slash.
+// The folder of a file, by its path up to the last slash. A match, and not `map_or`: the slice is taken where the slash
+// is known to lie in the path.
 fn folder_of(path: &[u8]) -> &[u8] {
     match path.iter().rposition(|b| *b == b'/') {
         Some(n) => &path[..=n],
@@ -153,7 +152,7 @@ impl<'a> Change<'a> {
     }
 
     // Writes a store beside the store.
-    fn write(self, ending: &[u8], file: &StoreFile) -> io::Result<()> {
+    fn write(self, ending: &[u8], file: Halves) -> io::Result<()> {
         self.remove(ending);
         let new = create_new(self.console, path_of(self.store, ending).as_slice())?;
         keep(self.console, &new, self.held)?;
@@ -171,12 +170,12 @@ impl<'a> Change<'a> {
         Ok(())
     }
 
-    fn place(self, file: &StoreFile) -> io::Result<()> {
+    fn place(self, file: Halves) -> io::Result<()> {
         self.write(b".new", file)?;
         self.place_new()
     }
 
-    fn replace(self, former: &StoreFile, file: &StoreFile) -> io::Result<()> {
+    fn replace(self, former: Halves, file: Halves) -> io::Result<()> {
         self.write(b".new", file)?;
         self.write(b".old.new", former)?;
         self.rename(b".old.new", b".old")?;
@@ -197,7 +196,7 @@ impl<'a> Change<'a> {
 }
 
 // Puts a store where there is none.
-pub fn place(console: &Console, store: &[u8], held: Held, file: &StoreFile) -> Result<(), Failure> {
+pub fn place(console: &Console, store: &[u8], held: Held, file: Halves) -> Result<(), Failure> {
     let change = Change::begin(console, store, held)?;
     change.place(file).map_err(|error| change.unwritten(error))
 }
@@ -207,8 +206,8 @@ pub fn replace(
     console: &Console,
     store: &[u8],
     held: Held,
-    former: &StoreFile,
-    file: &StoreFile,
+    former: Halves,
+    file: Halves,
 ) -> Result<(), Failure> {
     if former == file {
         return Ok(());

@@ -11,12 +11,18 @@ use text::decimal::parse_u16;
 // One more than the most codes of a list: a longer list is cut here, and refused for its length as it would be whole.
 const LONGEST: usize = 1025;
 
-// The kinds of the Linux input headers: EV_KEY and EV_ABS. The functions that take one took a number before, and were
-// meant for these two alone: with the type no other number can be handed in by mistake.
+// The kinds of the Linux input headers: EV_KEY and EV_ABS. Functions that take one from a caller take its number too.
 #[derive(Clone, Copy, PartialEq, Eq)]
 pub enum Kind {
     Button,
     Axis,
+}
+
+impl From<u32> for Kind {
+    // The kind that a number stands for: 1 for buttons, any other for axes.
+    fn from(number: u32) -> Kind {
+        Kind::of_number(number).unwrap_or(Kind::Axis)
+    }
 }
 
 impl Kind {
@@ -130,7 +136,8 @@ impl<'a> Typed<'a> {
     }
 
     // Turns away a code of another kind.
-    pub fn complain_kind(self, console: &Console, kind: Kind) {
+    pub fn complain_kind<K: Into<Kind>>(self, console: &Console, kind: K) {
+        let kind = kind.into();
         complain_shown(console, self.text);
         match kind {
             Kind::Button => complain(
@@ -203,7 +210,8 @@ fn range_of(console: &Console, s: &[u8], kind: Kind) -> Option<(u32, u32)> {
     Some((from, to))
 }
 
-// The codes of a list with commas; whether all its parts are some.
+// The codes of a list with commas; whether all its parts are some. It goes on behind a part that is none, so that each
+// of these is said: a bool, and not `?`.
 fn push_parts(console: &Console, codes: &mut Codes, s: &[u8], kind: Kind) -> bool {
     let mut all = true;
     for part in s.split_inclusive(|b| *b == b',') {
@@ -227,7 +235,13 @@ fn push_arg(console: &Console, codes: &mut Codes, key: &[u8], kind: Kind, i: usi
 
 // The codes of a kind that the arguments from `from` on give under a key, as `buttons`; None where a part is none, which
 // is said.
-pub fn codes_named(console: &Console, key: &[u8], kind: Kind, from: usize) -> Option<Codes> {
+pub fn codes_named<K: Into<Kind>>(
+    console: &Console,
+    key: &[u8],
+    kind: K,
+    from: usize,
+) -> Option<Codes> {
+    let kind = kind.into();
     let mut codes = Codes::new();
     let mut all = true;
     for i in from..argument_count(console) {

@@ -31,7 +31,8 @@ const NO_OUTPUT: i32 = 9;
 // The room for an error in words.
 const WORDS_ROOM: usize = 128;
 
-// The system; whether the script `hub` takes a status; and whether the reader of an output has gone.
+// The system; whether the script `hub` takes a status; and whether the reader of an output has gone. The two stay
+// flags: each says one thing by itself, and no value stands beside it.
 #[derive(Drop)]
 pub struct Console {
     rt: HostRuntime,
@@ -99,8 +100,12 @@ impl Write for Output<'_> {
         Ok(())
     }
 
+    // Where the reader of an output has gone nothing more is written.
     fn write_all(&mut self, bytes: &[u8]) -> Result<()> {
         let console = self.console;
+        if console.is_closed() {
+            return Ok(());
+        }
         match self.fd {
             OUT => console.rt.stdout().write_all(bytes),
             ERR => console.rt.stderr().write_all(bytes),
@@ -112,18 +117,12 @@ impl Write for Output<'_> {
 
 // Writes all of it to one of the three outputs, and says whether that was done.
 pub fn write(console: &Console, fd: i32, bytes: &[u8]) -> bool {
-    if console.is_closed() {
-        return true;
-    }
     let mut output = Output { console, fd };
     console.was_written(output.write_all(bytes))
 }
 
 // The same of a value in words or digits.
 pub fn print<D: Display + Drop>(console: &Console, fd: i32, value: D) -> bool {
-    if console.is_closed() {
-        return true;
-    }
     let mut output = Output { console, fd };
     console.was_written(write!(output, "{value}"))
 }
@@ -142,10 +141,8 @@ pub fn write_error(console: &Console, error: Error) {
 
 // Argument `i`, which is put into `space`; nothing where there is none, or it is longer.
 pub fn argument<'a>(console: &Console, i: usize, space: &'a mut [u8]) -> &'a [u8] {
-    match console.rt.arg(i, space) {
-        Ok(n) => &space[..n],
-        Err(_) => &[],
-    }
+    let n = console.rt.arg(i, space).unwrap_or(0);
+    first(space, n)
 }
 
 // Whether argument `i` is longer than the room.

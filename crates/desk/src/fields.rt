@@ -14,10 +14,7 @@ pub fn before(s: &[u8], b: u8) -> &[u8] {
 
 // What stands after the first `b`, or nothing.
 pub fn after(s: &[u8], b: u8) -> &[u8] {
-    match split_once(s, b) {
-        Some((_, rest)) => rest,
-        None => &[],
-    }
+    split_once(s, b).map_or(&[], |(_, rest)| rest)
 }
 
 // The first of them, or all where there are fewer.
@@ -35,7 +32,8 @@ pub fn section<T>(s: &[T], at: usize, len: usize) -> &[T] {
     first(from(s, at), len)
 }
 
-// The part that starts at `at` and ends before the next `b`.
+// The part that starts at `at` and ends before the next `b`. It goes by a place, and not by an iterator over the parts:
+// a mark under a line is put at a place.
 pub fn part_at(s: &[u8], at: usize, b: u8) -> &[u8] {
     before(from(s, at), b)
 }
@@ -52,8 +50,5 @@ pub fn without(s: &[u8], b: u8) -> &[u8] {
 
 // A line without its LF, and one CR before that.
 pub fn bare(s: &[u8]) -> &[u8] {
-    match s.strip_suffix(b"\n") {
-        Some(line) => without(line, b'\r'),
-        None => s,
-    }
+    s.strip_suffix(b"\n").map_or(s, |line| without(line, b'\r'))
 }

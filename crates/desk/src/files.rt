@@ -38,12 +38,18 @@ pub fn arg_space() -> [u8; ARG_ROOM]
     [0u8; ARG_ROOM]
 }
 
-// What a store file holds: the index and the text. The functions that take it took two slices of any length before, and
-// were meant for HALF bytes each alone: the type says what their comments said, and every caller gives just that.
+// What a store file holds: the index and the text.
 #[derive(Clone, Copy, PartialEq, Eq)]
 pub struct StoreFile {
     pub index: [u8; HALF],
     pub text: [u8; HALF],
+}
+
+// An index and a text of any length, which stand elsewhere.
+#[derive(Clone, Copy, PartialEq, Eq)]
+pub struct Halves<'a> {
+    pub index: &'a [u8],
+    pub text: &'a [u8],
 }
 
 impl StoreFile {
@@ -52,6 +58,15 @@ impl StoreFile {
         StoreFile {
             index: half(),
             text: half(),
+        }
+    }
+}
+
+impl<'a> From<&'a StoreFile> for Halves<'a> {
+    fn from(file: &'a StoreFile) -> Halves<'a> {
+        Halves {
+            index: &file.index,
+            text: &file.text,
         }
     }
 }
@@ -113,11 +128,11 @@ fn check_len(
     got: io::Result<usize>,
     len: usize,
 ) -> Result<(), Failure> {
-    match got {
-        Ok(n) if n == len => Ok(()),
-        Ok(_) => Err(refused_file(console, path)),
-        Err(error) => Err(fail(console, path, error)),
+    let n = got.map_err(|error| fail(console, path, error))?;
+    if n != len {
+        return Err(refused_file(console, path));
     }
+    Ok(())
 }
 
 // Reads a store file.
@@ -132,10 +147,7 @@ pub fn load(console: &Console, path: &[u8]) -> Result<StoreFile, Failure> {
 
 // Whether there is a file of that name, or something that can't be opened. A name that is no text names none.
 pub fn stands(console: &Console, path: &[u8]) -> bool {
-    match open_read(console, path) {
-        Ok(_) => true,
-        Err(error) => {
-            error.kind() != ErrorKind::NotFound && error.raw_os_error() != Some(NO_TEXT)
-        }
-    }
+    !open_read(console, path).is_err_and(|error| {
+        error.kind() == ErrorKind::NotFound || error.raw_os_error() == Some(NO_TEXT)
+    })
 }

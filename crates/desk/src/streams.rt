@@ -8,10 +8,10 @@ use crate::shown::{complain_shown, fail};
 use std::fs::File;
 
 // A recording: where it is read, if it is open, and its next record, if there is one.
-#[derive(Drop)]
+#[derive(Default, Drop)]
 pub struct Stream {
-    file: Option<File>,
-    next: Option<Result<Input, InputError>>,
+    pub file: Option<File>,
+    pub next: Option<Result<Input, InputError>>,
 }
 
 // Whose record comes next.
@@ -23,10 +23,7 @@ pub enum Turn {
 
 // No recording.
 pub fn no_stream() -> Stream {
-    Stream {
-        file: None,
-        next: None,
-    }
+    Stream::default()
 }
 
 // The recording that an argument names; what can't be opened is said.
@@ -37,13 +34,11 @@ pub fn open_stream(console: &Console, arg: &[u8]) -> Result<Stream, Failure> {
         complain(console, b"=: no file is named\n");
         return Err(Failure::Trouble);
     }
-    match open_read(console, path) {
-        Ok(file) => Ok(Stream {
-            file: Some(file),
-            next: None,
-        }),
-        Err(error) => Err(fail(console, path, error)),
-    }
+    let file = open_read(console, path).map_err(|error| fail(console, path, error))?;
+    Ok(Stream {
+        file: Some(file),
+        next: None,
+    })
 }
 
 impl Stream {

@@ -14,7 +14,8 @@ fn common_start(a: &[u8], b: &[u8]) -> usize {
         .count()
 }
 
-// How many bytes the two have in common at their ends, of at most `most`.
+// How many bytes the two have in common at their ends, of at most `most`. One function for starts and ends would take
+// the iterators and ask that they end, and would be no shorter than the two.
 fn common_end(a: &[u8], b: &[u8], most: usize) -> usize {
     a.iter()
         .rev()

@@ -3,49 +3,55 @@
 // after `hub help` and what is printed.
 use crate::advice::put_advice;
 use crate::console::Console;
-use crate::fields::nth_part;
 use crate::say::{ERR, Failure, complain, put, put_value};
 use crate::shown::complain_shown;
 
-// `refused 21: no room in the index`. The meanings stand in one text, a row for each number, and not in an array, since
-// bindings/declared reads them there.
+// What each refusal means, from number 1 on. bindings/declared reads the rows here.
+const MEANINGS: [&[u8]; 27] = [
+    b"the first field is no UUID",
+    b"no comma follows the UUID",
+    b"a pair has not exactly one colon",
+    b"a pair's value is none: aN, bN or hH.D with numbers up to 65535",
+    b"an axis value has an unknown key",
+    b"a button or hat value has an unknown key",
+    b"hat 0 has no such direction: 0, 1, 2, 4 or 8",
+    b"a pair's value is empty",
+    b"nothing follows a refused first field",
+    b"not UTF-8",
+    b"more than 256 codes in a map",
+    b"a list of more than 1024 codes",
+    b"the name has a comma",
+    b"the element is Unknown",
+    b"the code is not in its list",
+    b"no mapping line can name this axis",
+    b"the name has more than 8192 bytes",
+    b"the output is too short",
+    b"not a sound store",
+    b"a wanted line of more than 16384 bytes",
+    b"no room in the index",
+    b"the name has a line end or platform:",
+    b"a buffer of more than 65535 bytes",
+    b"an organiser's owner is 1 to 255, not 0",
+    b"no room in the text, the parties' shares counted",
+    b"the text is too small for that share",
+    b"more than 256 codes held by a pad",
+];
+
+// The number of a file that is no store, and of an owner that none can have: with these, more is printed than what they
+// mean.
+const UNSOUND: usize = 19;
+
+const NO_OWNER: usize = 24;
+
+// The row on a refusal, of a list from number 1 on; None where no refusal has that number.
+pub(crate) fn row_on(rows: &[&'static [u8]], number: usize) -> Option<&'static [u8]> {
+    rows.get(number.checked_sub(1)?).copied()
+}
+
+// `refused 21: no room in the index`
 pub fn put_refused(console: &Console, fd: i32, number: usize) {
     put_value(console, fd, format_args!("refused {number}: "));
-    put(
-        console,
-        fd,
-        nth_part(
-            b"\nthe first field is no UUID
-no comma follows the UUID
-a pair has not exactly one colon
-a pair's value is none: aN, bN or hH.D with numbers up to 65535
-an axis value has an unknown key
-a button or hat value has an unknown key
-hat 0 has no such direction: 0, 1, 2, 4 or 8
-a pair's value is empty
-nothing follows a refused first field
-not UTF-8
-more than 256 codes in a map
-a list of more than 1024 codes
-the name has a comma
-the element is Unknown
-the code is not in its list
-no mapping line can name this axis
-the name has more than 8192 bytes
-the output is too short
-not a sound store
-a wanted line of more than 16384 bytes
-no room in the index
-the name has a line end or platform:
-a buffer of more than 65535 bytes
-an organiser's owner is 1 to 255, not 0
-no room in the text, the parties' shares counted
-the text is too small for that share
-more than 256 codes held by a pad",
-            number,
-            b'\n',
-        ),
-    );
+    put(console, fd, row_on(&MEANINGS, number).unwrap_or(b""));
 }
 
 pub fn put_place(console: &Console, fd: i32, place: usize) {
@@ -56,7 +62,7 @@ pub fn put_place(console: &Console, fd: i32, place: usize) {
 pub fn refused(console: &Console, number: usize) -> Failure {
     put_refused(console, ERR, number);
     complain(console, b"\n");
-    if number == 24 {
+    if number == NO_OWNER {
         put_advice(console, ERR, number);
     }
     Failure::Refused
@@ -75,7 +81,7 @@ pub fn refused_code(console: &Console, number: usize, code: u32) -> Failure {
 }
 
 pub fn refused_file(console: &Console, path: &[u8]) -> Failure {
-    put_refused(console, ERR, 19);
+    put_refused(console, ERR, UNSOUND);
     complain(console, b" (");
     complain_shown(console, path);
     complain(

@@ -43,13 +43,10 @@ fn block_len(devices: &[u8]) -> usize {
     if devices.starts_with(b"\n") {
         return 0;
     }
-    match devices
+    devices
         .windows(2)
         .position(|ends| ends == b"\n\n".as_slice())
-    {
-        Some(n) => n + 1,
-        None => devices.len(),
-    }
+        .map_or(devices.len(), |n| n.wrapping_add(1))
 }
 
 impl<'a> Iterator for Devices<'a> {
@@ -91,24 +88,19 @@ pub fn device_number(device: &[u8]) -> &[u8] {
 
 // Whether bit `k` of a word is set. What is no hexadecimal digit has none.
 fn word_has(word: &[u8], k: u16) -> bool {
-    let Some(digit) = word.iter().rev().nth((k / 4) as usize) else {
-        return false;
-    };
-    match char::from(*digit).to_digit(16) {
-        Some(value) => value >> (k % 4) & 1 == 1,
-        None => false,
-    }
+    word.iter()
+        .rev()
+        .nth((k / 4) as usize)
+        .and_then(|digit| char::from(*digit).to_digit(16))
+        .is_some_and(|value| value >> (k % 4) & 1 == 1)
 }
 
 // Whether a list of words has the bit of a code.
 fn bits_have(bits: &[u8], code: u16) -> bool {
-    match without(bits, b' ')
+    without(bits, b' ')
         .rsplit(|b| *b == b' ')
         .nth((code / 64) as usize)
-    {
-        Some(word) => word_has(word, code % 64),
-        None => false,
-    }
+        .is_some_and(|word| word_has(word, code % 64))
 }
 
 // The codes of a kind from one number up to another that a list of words has, ascending.
@@ -161,10 +153,10 @@ pub fn devices_in(list: &[u8]) -> Take<Devices<'_>> {
 
 // A number of the line `I:`, as `Vendor=045e`; 0 where there is none.
 fn id_number(device: &[u8], key: &[u8]) -> u16 {
-    match parse_code(field_of(field_of(device, b"I: ", b'\n'), key, b' ')) {
-        Some(n) => (n % 65536) as u16,
-        None => 0,
-    }
+    parse_code(field_of(field_of(device, b"I: ", b'\n'), key, b' ')).map_or(
+        0,
+        |n| (n % 65536) as u16,
+    )
 }
 
 // Two numbers, two bytes each with the low one first, and two zeros behind each.

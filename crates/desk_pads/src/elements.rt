@@ -11,7 +11,7 @@ use line::tables::{find_element, ident_of};
 // The elements in their order: the buttons by number, then the axes.
 pub const ELEMENTS: usize = 29;
 
-const BUTTONS: usize = 20;
+pub const BUTTONS: usize = 20;
 
 const AXES: usize = 9;
 
@@ -61,18 +61,14 @@ fn name_place(names: &[&[u8]], key: &[u8]) -> Option<u16> {
 }
 
 fn source_element(key: &[u8]) -> Option<AxisOrBtn> {
-    match name_place(&BUTTON_NAMES, key) {
-        Some(n) => Some(AxisOrBtn::Btn(Button(n))),
-        None => name_place(&AXIS_NAMES, key).map(|n| AxisOrBtn::Axis(Axis(n))),
-    }
+    name_place(&BUTTON_NAMES, key)
+        .map(|n| AxisOrBtn::Btn(Button(n)))
+        .or_else(|| name_place(&AXIS_NAMES, key).map(|n| AxisOrBtn::Axis(Axis(n))))
 }
 
 // The element of an ident or of a name.
 pub fn element_named(key: &[u8]) -> Option<AxisOrBtn> {
-    match find_element(key) {
-        None => source_element(key),
-        found => found,
-    }
+    find_element(key).or_else(|| source_element(key))
 }
 
 pub fn element_at(k: usize) -> AxisOrBtn {

@@ -7,9 +7,8 @@ use desk::fields::{after, before, first, part_at, section};
 use desk::say::{Failure, put};
 use desk::shown::{put_plain, put_shown, put_space};
 use desk::words::{put_place, put_refused};
-use line::parser::{Error, Token};
+use line::parser::{Error, ErrorKind, Token};
 use line::reading::ParseSdlMappingError;
-use line::refusal::Refusal;
 
 // How much is shown of a line, of UUID and name, and of a pair.
 const WHOLE: usize = 100;
@@ -31,10 +30,10 @@ fn field_start(line: &[u8], place: usize) -> usize {
     if line.len() <= place {
         return place;
     }
-    match line[..place].iter().rposition(|b| *b == b',') {
-        Some(n) => n + 1,
-        None => 0,
-    }
+    line[..place]
+        .iter()
+        .rposition(|b| *b == b',')
+        .map_or(0, |n| n.wrapping_add(1))
 }
 
 fn cut_about(line: &[u8], place: usize) -> Cut {
@@ -84,12 +83,13 @@ pub fn put_start(console: &Console, fd: i32, s: &[u8]) {
     }
 }
 
-// A line that is refused at a place, and where that is printed.
+// A line that is refused at a place, why, and where that is printed.
 #[derive(Clone, Copy)]
 struct Marked<'a> {
     console: &'a Console,
     fd: i32,
     line: &'a [u8],
+    error: ParseSdlMappingError,
     place: usize,
 }
 
@@ -101,6 +101,7 @@ impl Marked<'_> {
             fd,
             line,
             place,
+            ..
         } = self;
         let cut = cut_about(line, place);
         put(console, fd, b"  ");
@@ -121,97 +122,96 @@ impl Marked<'_> {
         put(console, fd, b"^\n");
     }
 
-    // What the refusals of a pair are about: 4 and 7 its value, 5 and 6 its key.
-    fn put_cause(self, number: usize) {
-        let Marked {
-            console,
-            fd,
-            line,
-            place,
-        } = self;
-        let pair = part_at(line, field_start(line, place), b',');
+    // `: 'lefty'`
+    fn put_quoted(self, cause: &[u8]) {
+        put(self.console, self.fd, b": '");
+        put_start(self.console, self.fd, cause);
+        put(self.console, self.fd, b"'");
+    }
+
+    // What the refusal of a pair is about: its value, or its key, with the nearest one.
+    fn put_cause(self) {
+        let pair = part_at(self.line, field_start(self.line, self.place), b',');
         let key = before(pair, b':');
-        let cause = match number {
-            4 | 7 => after(pair, b':'),
-            5 | 6 => key,
-            _ => return,
-        };
-        put(console, fd, b": '");
-        put_start(console, fd, cause);
-        put(console, fd, b"'");
-        if matches!(number, 5 | 6) {
-            put_nearest_ident(console, fd, unsigned(key));
+        match self.error {
+            ParseSdlMappingError::UnknownHatDirection
+            | ParseSdlMappingError::ParseError(
+                Error {
+                    kind: ErrorKind::InvalidValue,
+                    ..
+                },
+            ) => self.put_quoted(after(pair, b':')),
+            ParseSdlMappingError::ParseError(
+                Error {
+                    kind: ErrorKind::UnknownAxis | ErrorKind::UnknownButton,
+                    ..
+                },
+            ) => {
+                self.put_quoted(key);
+                put_nearest_ident(self.console, self.fd, unsigned(key));
+            }
+            _ => {}
         }
     }
 
-    fn put(self, number: usize) -> Failure {
-        put_refused(self.console, self.fd, number);
-        self.put_cause(number);
+    // Behind the refusal's number and meaning.
+    fn put(self) {
+        self.put_cause();
         put_place(self.console, self.fd, self.place);
         self.put_excerpt();
-        Failure::Refused
     }
 }
 
 // Whether a token is refused with 7.
 fn is_bad_hat(answer: Result<Token, Error>) -> bool {
-    match answer {
-        Ok(
-            Token::HatMapping {
-                hat: 0,
-                direction,
-                ..
-            },
-        ) => !matches!(direction, 0 | 1 | 2 | 4 | 8),
-        _ => false,
-    }
+    matches!(
+        answer,
+        Ok(Token::HatMapping { hat: 0, direction, .. }) if !matches!(direction, 0 | 1 | 2 | 4 | 8)
+    )
 }
 
-// The first pair that is refused with 7, or 0. (Document 01 places 7 at 0; the hub shows its pair.)
+// The first pair that is refused with 7, or 0.
 fn bad_hat_place(line: &[u8]) -> usize {
-    match tokens_of(line).find(|(_, answer)| is_bad_hat(*answer)) {
-        Some((place, _)) => place,
-        None => 0,
+    tokens_of(line)
+        .find(|(_, answer)| is_bad_hat(*answer))
+        .map_or(0, |(place, _)| place)
+}
+
+// Where a line is refused, if that is at a place: 12 is about a list and has none. Document 01 places 7 at 0; the hub
+// shows its pair.
+fn place_of(e: ParseSdlMappingError, line: &[u8]) -> Option<usize> {
+    match e {
+        ParseSdlMappingError::UnknownHatDirection => Some(bad_hat_place(line)),
+        _ => e.refusal().place,
     }
 }
 
-// A refused reading.
+// A refused reading. Console, output and line are three parameters: each comes from elsewhere, and a struct of them
+// would be made for this one call.
 pub fn put_reading_refused(
     console: &Console,
     fd: i32,
     e: ParseSdlMappingError,
     line: &[u8],
 ) -> Failure {
-    if let ParseSdlMappingError::UnknownHatDirection = e {
-        let marked = Marked {
-            console,
-            fd,
-            line,
-            place: bad_hat_place(line),
-        };
-        return marked.put(7);
+    put_refused(console, fd, usize::from(e.refusal().number));
+    match place_of(e, line) {
+        Some(place) => {
+            let marked = Marked {
+                console,
+                fd,
+                line,
+                error: e,
+                place,
+            };
+            marked.put();
+        }
+        None => put(console, fd, b"\n"),
     }
-    put_refusal(console, fd, e.refusal(), line)
+    Failure::Refused
 }
 
 // A refusal of the first field, which stands at place 0.
 pub fn put_first_refused(console: &Console, fd: i32, e: Error, line: &[u8]) -> Failure {
-    put_refusal(console, fd, e.refusal(), line)
-}
-
-// A refusal of a line; 12 is about a list and has no place.
-fn put_refusal(console: &Console, fd: i32, refusal: Refusal, line: &[u8]) -> Failure {
-    let number = refusal.number as usize;
-    if let Some(place) = refusal.place {
-        let marked = Marked {
-            console,
-            fd,
-            line,
-            place,
-        };
-        return marked.put(number);
-    }
-    put_refused(console, fd, number);
-    put(console, fd, b"\n");
-    Failure::Refused
+    put_reading_refused(console, fd, ParseSdlMappingError::ParseError(e), line)
 }

@@ -14,15 +14,16 @@ const CODE_UNIT: u64 = 4294967296;
 
 const AXIS_ZERO: i64 = 32770;
 
-// The raw value of a held code.
+// The raw value of a held code. The crate pad reads the same number by `held_of`, for itself: a public function there,
+// with a promise and wrong programs of its own, would not be plainer than this.
 fn raw_of(y: u32) -> Raw {
     match y {
         0 => Raw::ButtonReleased,
         1 => Raw::ButtonPressed,
-        _ => match i16::try_from(i64::from(y) - AXIS_ZERO) {
-            Ok(v) => Raw::AxisValueChanged(v),
-            Err(_) => Raw::ButtonReleased,
-        },
+        _ => i16::try_from(i64::from(y) - AXIS_ZERO).map_or(
+            Raw::ButtonReleased,
+            |v| Raw::AxisValueChanged(v),
+        ),
     }
 }
 
@@ -41,10 +42,8 @@ impl Found<'_> {
         let code = (held / CODE_UNIT) as u32;
         let map = self.play.seat(self.which).map;
         let raw = raw_of((held % CODE_UNIT) as u32);
-        match event(&map, Code(code), raw) {
-            Some(told) if told.element == self.element && told.value == self.value => { Some(code) }
-            _ => None,
-        }
+        let told = event(&map, Code(code), raw)?;
+        (told.element == self.element && told.value == self.value).then_some(code)
     }
 
     // The code that the element has its value from: of those that give it, the smallest.

@@ -47,10 +47,7 @@ impl Iterator for Tokens<'_> {
 // Where the pairs of a line start: behind UUID and name, with their commas.
 pub fn pairs_at(line: &[u8]) -> usize {
     let mut commas = line.iter().enumerate().filter(|(_, b)| **b == b',');
-    match commas.nth(1) {
-        Some((n, _)) => n.wrapping_add(1),
-        None => line.len(),
-    }
+    commas.nth(1).map_or(line.len(), |(n, _)| n.wrapping_add(1))
 }
 
 // Reads a line; no codes are asked for.

@@ -27,7 +27,9 @@ impl Seat {
 }
 
 // Where there is one recording, the second pad has no codes and the empty map: both seats stand always, as both pads do
-// in `Pads`, so that no step asks whether there is one.
+// in `Pads`, so that no step asks whether there is one. What tells takes the console, the play and which pad one by one:
+// the play is lent to be changed, and a struct of the three would be made anew for each record and taken apart at each
+// use.
 #[derive(Clone, Copy)]
 pub struct Play {
     pub two: bool,

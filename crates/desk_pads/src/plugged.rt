@@ -61,15 +61,12 @@ fn say_pad(console: &Console, n: usize, device: &[u8]) {
 }
 
 fn say_pads(console: &Console, list: &[u8]) -> Result<(), Failure> {
-    let mut told: usize = 0;
-    for device in devices_in(list)
-        .filter(|device| is_pad(device))
-        .take(PADS_MAX)
-    {
-        told = told.wrapping_add(1);
-        say_pad(console, told, device);
+    let mut none = true;
+    for (n, device) in (1..=PADS_MAX).zip(devices_in(list).filter(|device| is_pad(device))) {
+        none = false;
+        say_pad(console, n, device);
     }
-    if told == 0 {
+    if none {
         complain(
             console,
             b"none: no pad is plugged in, or none that the list of devices shows\n",
@@ -102,7 +99,7 @@ pub fn list_pads(console: &Console, copy: &[u8]) -> Result<(), Failure> {
 // The GUIDs of the first pads, as many as there are.
 #[derive(Clone, Copy)]
 pub struct Guids {
-    list: [Option<Uuid>; GUIDS_MAX],
+    pub list: [Option<Uuid>; GUIDS_MAX],
 }
 
 impl Guids {

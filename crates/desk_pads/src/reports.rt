@@ -30,10 +30,9 @@ fn button_raw(value: i32) -> Result<Raw, NoEvent> {
 }
 
 fn axis_raw(value: i32) -> Result<Raw, NoEvent> {
-    match i16::try_from(value) {
-        Ok(v) => Ok(Raw::AxisValueChanged(v)),
-        Err(_) => Err(NoEvent::Beyond(Kind::Axis)),
-    }
+    i16::try_from(value)
+        .map(|v| Raw::AxisValueChanged(v))
+        .map_err(|_| NoEvent::Beyond(Kind::Axis))
 }
 
 // None for a record that is neither a button's nor an axis's (EV_SYN, EV_MSC and others).

@@ -99,7 +99,8 @@ impl Slots {
     }
 }
 
-// The slots that the arguments from `from` on fill; None where one is not understood, which is said.
+// The slots that the arguments from `from` on fill; None where one is not understood, which is said. It goes on behind
+// such an argument, so that each of them is said: a bool, and not `?`.
 pub fn slots_named(console: &Console, from: usize) -> Option<Slots> {
     let mut slots = Slots {
         filled: MappingData::new(),

@@ -62,9 +62,9 @@ pub fn say_reading(
     axes: &[u32],
 ) -> Result<(), Failure> {
     let reading = parse_sdl_mapping(line, buttons, axes);
-    if let Err(e) = reading.answer {
-        return Err(put_reading_refused(console, ERR, e, line));
-    }
+    reading
+        .answer
+        .map_err(|e| put_reading_refused(console, ERR, e, line))?;
     say_map(console, &reading.map, line);
     Ok(())
 }

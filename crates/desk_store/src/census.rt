@@ -7,6 +7,7 @@ use store::calls::{StoreError, insert};
 use store::parties::Party;
 use text::uuid::Uuid;
 
+// What an insert makes of a line: one kind of several, with no value beside it.
 #[derive(Clone, Copy, PartialEq, Eq)]
 pub enum LineKind {
     Empty,
@@ -20,14 +21,26 @@ pub enum LineKind {
     Wanted,
 }
 
-// How many lines of each kind; of those with no UUID the number of the first, from 1 on; of those wanted how many can't
-// be read.
+// Lines that an insert passes over: how many, and the number of the first, from 1 on.
+#[derive(Clone, Copy, Default)]
+pub struct Passed {
+    pub count: usize,
+    pub first: Option<usize>,
+}
+
+impl Passed {
+    pub fn count(&mut self, number: usize) {
+        count_one(&mut self.count);
+        self.first = self.first.or(Some(number));
+    }
+}
+
+// How many lines of each kind; of those wanted how many can't be read.
 #[derive(Clone, Copy, Default)]
 pub struct Census {
     pub empty: usize,
     pub comments: usize,
-    pub no_uuid: usize,
-    pub first_no_uuid: Option<usize>,
+    pub no_uuid: Passed,
     pub elsewhere: usize,
     pub wanted: usize,
     pub unreadable: usize,
@@ -55,19 +68,17 @@ pub fn kind_of(line: &[u8]) -> LineKind {
     if line.starts_with(b"#") {
         return LineKind::Comment;
     }
-    match Uuid::parse_str(before(line, b',')) {
-        Some(_) => trial(line),
-        None => LineKind::NoUuid,
+    if Uuid::parse_str(before(line, b',')).is_none() {
+        return LineKind::NoUuid;
     }
+    trial(line)
 }
 
 impl Census {
     // The first `count` lines of a list.
     pub fn of(list: &[u8], count: usize) -> Census {
         let mut census = Census::default();
-        let mut number: usize = 0;
-        for line in list.split_inclusive(|b| *b == b'\n').take(count) {
-            count_one(&mut number);
+        for (number, line) in (1..=count).zip(list.split_inclusive(|b| *b == b'\n')) {
             census.count(bare(line), number);
         }
         census
@@ -77,10 +88,7 @@ impl Census {
         match kind_of(line) {
             LineKind::Empty => count_one(&mut self.empty),
             LineKind::Comment => count_one(&mut self.comments),
-            LineKind::NoUuid => {
-                self.first_no_uuid = self.first_no_uuid.or(Some(number));
-                count_one(&mut self.no_uuid);
-            }
+            LineKind::NoUuid => self.no_uuid.count(number),
             LineKind::Elsewhere => count_one(&mut self.elsewhere),
             LineKind::TooLong => {}
             LineKind::Wanted => {

@@ -12,11 +12,13 @@ use desk::help::wrong_use;
 use desk::near::complain_near;
 use desk::say::{Failure, complain, say};
 use desk::shown::say_shown;
-use desk::words::{none, refused};
+use desk::words::none;
 use desk_pads::bound::say_lost;
 use desk_pads::pairs::readable_status;
 use desk_pads::refusals::{refused_by, refused_outcome};
-use store::calls::insert;
+use line::parser::ErrorKind;
+use line::refusal::Refusal;
+use store::calls::{StoreError, insert};
 use store::near::{Nearness, found_near};
 use store::refusal::store_outcome;
 
@@ -120,10 +122,11 @@ fn edited(console: &Console, held: &Parts, from: usize) -> Option<NewLine> {
 // The changed line, where it may be filed: the held one has a name, the new one is not too long, and is read.
 fn new_line(console: &Console, former: &[u8], from: usize) -> Result<NewLine, Failure> {
     let Some(held) = Parts::of(former) else {
-        return Err(refused(console, 2));
+        let number = u8::from(ErrorKind::UnexpectedEnd);
+        return Err(refused_by(console, Refusal::plain(number)));
     };
     let Some(line) = edited(console, &held, from) else {
-        return Err(refused(console, 20));
+        return Err(refused_by(console, StoreError::LineTooLong.refusal()));
     };
     readable_status(console, line.as_slice())?;
     Ok(line)

@@ -48,13 +48,11 @@ pub fn map_of(
     arg: &[u8],
 ) -> Result<Mapping, Failure> {
     let reading = lists.read(line);
-    match reading.answer {
-        Ok(()) => Ok(reading.map),
-        Err(e) => {
-            complain_about(console, arg);
-            Err(put_reading_refused(console, ERR, e, line))
-        }
-    }
+    reading.answer.map_err(|e| {
+        complain_about(console, arg);
+        put_reading_refused(console, ERR, e, line)
+    })?;
+    Ok(reading.map)
 }
 
 // The map of the line that a party holds for a UUID.

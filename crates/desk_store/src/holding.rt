@@ -72,10 +72,8 @@ pub(crate) fn say_line(console: &Console, store: View, key: LineKey) -> Result<(
 
 // Whether a store is sound, and the party one that may look into it: what is refused is said.
 pub(crate) fn sound(console: &Console, store: View, party: Party) -> Result<(), Failure> {
-    match found(store.index, store.text, party, Uuid::NIL) {
-        Ok(_) => Ok(()),
-        Err(e) => Err(refused_by(console, e.refusal())),
-    }
+    found(store.index, store.text, party, Uuid::NIL).map_err(|e| refused_by(console, e.refusal()))?;
+    Ok(())
 }
 
 // What is no UUID is sought in the names.

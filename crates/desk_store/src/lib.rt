@@ -1,4 +1,6 @@
-// The commands on a hall's store, on lists of lines and on maps.
+// The commands on a hall's store, on lists of lines and on maps. A command takes the store, its second argument and the
+// place of the others one by one: hub calls each from one row of its table, and the second is a UUID to one command, a
+// file to another.
 #![tactic(auto)]
 
 mod census;

@@ -1,5 +1,5 @@
 // The command lint: every line of a list is read, with no codes.
-use crate::census::{LineKind, kind_of};
+use crate::census::{LineKind, Passed, kind_of};
 use desk::console::Console;
 use desk::fields::bare;
 use desk::files::{list_space, read_list};
@@ -10,16 +10,10 @@ use desk::words::put_refused;
 use desk_pads::excerpt::{put_first_refused, put_reading_refused};
 use line::parser::first_token;
 use line::reading::parse_sdl_mapping;
+use store::calls::StoreError;
 
 // The most refused lines that are shown.
 const SHOWN: usize = 1000;
-
-// Lines that an insert passes over: how many, and the number of the first.
-#[derive(Clone, Copy, Default)]
-struct Passed {
-    count: usize,
-    first: Option<usize>,
-}
 
 // How many lines were read, how many were refused, and how many an insert passes over.
 #[derive(Clone, Copy, Default)]
@@ -33,11 +27,6 @@ struct Tally {
 }
 
 impl Passed {
-    fn count(&mut self, number: usize) {
-        count_one(&mut self.count);
-        self.first = self.first.or(Some(number));
-    }
-
     fn say(self, console: &Console, words: &[u8]) {
         let Some(number) = self.first else {
             return;
@@ -72,7 +61,11 @@ impl Tally {
     // A line that an insert refuses with 20.
     fn count_long(&mut self, console: &Console, line: &[u8]) {
         self.count_refused(console, || {
-            put_refused(console, OUT, 20);
+            put_refused(
+                console,
+                OUT,
+                usize::from(StoreError::LineTooLong.refusal().number),
+            );
             say(console, b": it has ");
             say_number(console, line.len());
             say(console, b"\n");

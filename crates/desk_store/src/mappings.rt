@@ -18,7 +18,7 @@ use map::default::default;
 use store::parties::Party;
 use text::uuid::Uuid;
 
-// What the arguments from a place on say; `anyway`: whether that word is among them.
+// What the arguments from a place on say; `anyway`: whether that word is among them, with no value beside it.
 #[derive(Clone, Copy)]
 pub(crate) struct Request {
     pub lists: Lists,
@@ -125,11 +125,7 @@ pub fn default_pad(console: &Console, key: &[u8], from: usize) -> Result<(), Fai
 
 // The default map by the lists.
 fn default_asked(console: &Console, asked: Request) -> Result<(), Failure> {
-    let is_party = match asked.party {
-        Party::Hall => false,
-        Party::Organiser(_) => true,
-    };
-    if is_party || !asked.has_no_slots() {
+    if matches!(asked.party, Party::Organiser(_)) || !asked.has_no_slots() {
         complain(
             console,
             b"here the arguments are buttons=.. and axes=.. only\n",
@@ -138,11 +134,7 @@ fn default_asked(console: &Console, asked: Request) -> Result<(), Failure> {
     }
     let lists = asked.lists;
     let made = default(lists.buttons.as_slice(), lists.axes.as_slice());
-    match made.answer {
-        Ok(()) => {
-            say_map(console, &made.map, b"");
-            Ok(())
-        }
-        Err(e) => Err(refused_by(console, e.refusal())),
-    }
+    made.answer.map_err(|e| refused_by(console, e.refusal()))?;
+    say_map(console, &made.map, b"");
+    Ok(())
 }

@@ -5,6 +5,7 @@ use desk::console::{Console, argument, argument_count};
 use desk::fields::after;
 use desk::files::arg_space;
 use desk::say::Failure;
+use desk::tally::count_one;
 use store::parties::Party;
 use text::decimal::parse_u16;
 
@@ -35,7 +36,7 @@ impl Caller {
         };
         for i in from..argument_count(console) {
             let mut space = arg_space();
-            caller = caller.with_arg(console, argument(console, i, &mut space));
+            caller.take(console, argument(console, i, &mut space));
         }
         caller
     }
@@ -43,34 +44,32 @@ impl Caller {
     // Who calls, where that was understood.
     pub fn party(self) -> Result<Party, Failure> {
         self.understood?;
-        match self.organiser {
-            Some(owner) => Ok(Party::Organiser(owner)),
-            None => Ok(Party::Hall),
-        }
+        Ok(
+            self.organiser
+                .map_or(Party::Hall, |owner| Party::Organiser(owner)),
+        )
     }
 
-    fn with_arg(self, console: &Console, arg: &[u8]) -> Caller {
-        let mut next = self;
-        if is_party(arg) {
-            match self.named_by(console, arg) {
-                Ok(owner) => next.organiser = Some(owner),
-                Err(failure) => next.understood = Err(failure),
-            }
-        } else {
-            next.others = self.others.wrapping_add(1);
+    // One more argument.
+    fn take(&mut self, console: &Console, arg: &[u8]) {
+        if !is_party(arg) {
+            count_one(&mut self.others);
+            return;
         }
-        next
+        match self.named_by(console, arg) {
+            Ok(owner) => self.organiser = Some(owner),
+            Err(failure) => self.understood = Err(failure),
+        }
     }
 
     // `party=7`. What an organiser with owner 0 may do is the library's to say.
-    fn named_by(self, console: &Console, arg: &[u8]) -> Result<u8, Failure> {
+    fn named_by(&self, console: &Console, arg: &[u8]) -> Result<u8, Failure> {
         if self.organiser.is_some() {
             return Err(wrong(console, arg, b": the party is given twice\n"));
         }
-        match parse_u16(after(arg, b'=')) {
-            Some(n) if n < 256 => Ok(n as u8),
-            _ => Err(no_party(console, arg)),
-        }
+        parse_u16(after(arg, b'='))
+            .and_then(|n| u8::try_from(n).ok())
+            .ok_or_else(|| no_party(console, arg))
     }
 }
 
@@ -82,7 +81,8 @@ fn no_party(console: &Console, arg: &[u8]) -> Failure {
     )
 }
 
-// The owner byte of a party.
+// The owner byte of a party: what a store's records hold, and no status. Functions, and no `From`, since `Party` is the
+// crate store's.
 pub fn owner_of(party: Party) -> u8 {
     match party {
         Party::Hall => 0,

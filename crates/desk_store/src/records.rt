@@ -13,7 +13,8 @@ use text::uuid::Uuid;
 // The last bytes of a line's record: where the line stands in the text, and its length.
 const PLACE_BYTES: usize = 4;
 
-// The two halves of a store, which stand elsewhere.
+// The two halves of a store, which stand elsewhere: desk's `Halves`, with methods that need the crate store, on which
+// desk does not rest.
 #[derive(Clone, Copy)]
 pub struct View<'a> {
     pub index: &'a [u8],
@@ -28,6 +29,7 @@ pub struct LineKey {
 }
 
 impl<'a> View<'a> {
+    // Not `From`, which would not take a file that is lent to be changed.
     pub fn of(file: &'a StoreFile) -> View<'a> {
         View {
             index: &file.index,
@@ -68,10 +70,7 @@ impl Record<'_> {
 
     // Whether it is about the line of that key.
     pub fn is_under(&self, key: LineKey) -> bool {
-        match self.line {
-            Some(line) => self.owner == owner_of(key.party) && uuid_of(line) == key.id,
-            None => false,
-        }
+        self.line.is_some_and(|line| self.owner == owner_of(key.party) && uuid_of(line) == key.id)
     }
 }
 
@@ -82,7 +81,7 @@ pub struct Records<'a> {
 }
 
 fn word(high: u8, low: u8) -> usize {
-    usize::from(high) * 256 + usize::from(low)
+    usize::from(u16::from_be_bytes([high, low]))
 }
 
 // The first bytes of a text, as far as there are any, and the others.

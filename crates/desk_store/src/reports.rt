@@ -38,11 +38,10 @@ fn say_some(console: &Console, n: usize, words: &[u8]) {
 
 // Whether lines were filed: all, or those before the one it stopped at.
 pub fn has_filed(answer: Result<(), StoreError>) -> bool {
-    match answer {
-        Ok(()) => true,
-        Err(StoreError::LineTooLong | StoreError::NoRoom | StoreError::NoText) => true,
-        Err(_) => false,
-    }
+    matches!(
+        answer,
+        Ok(()) | Err(StoreError::LineTooLong | StoreError::NoRoom | StoreError::NoText)
+    )
 }
 
 // Where there is no room, in the index or in the text: the refusal's number.
@@ -87,13 +86,9 @@ impl NoRoom<'_> {
 impl Report<'_, '_> {
     // Says what became of the list.
     pub fn say(self, console: &Console) -> Result<(), Failure> {
-        match self.inserted.answer {
-            Ok(()) => {
-                self.say_filed(console);
-                Ok(())
-            }
-            Err(e) => Err(self.refused(console, e)),
-        }
+        self.inserted.answer.map_err(|e| self.refused(console, e))?;
+        self.say_filed(console);
+        Ok(())
     }
 
     // What became of the lines walked.
@@ -125,10 +120,10 @@ impl Report<'_, '_> {
         say_some(console, census.empty, b" empty\n");
         say_some(console, census.comments, b" comments\n");
         say_some(console, census.elsewhere, b" for other platforms\n");
-        if let Some(number) = census.first_no_uuid {
+        if let Some(number) = census.no_uuid.first {
             say_some(
                 console,
-                census.no_uuid,
+                census.no_uuid.count,
                 b" whose first field is no UUID; the first is line ",
             );
             say_number(console, number);
@@ -196,15 +191,12 @@ impl Report<'_, '_> {
 
     // The bytes of the party's line that one with the same UUID takes the place of.
     fn bytes_freed(self, line: &[u8]) -> usize {
-        match Uuid::parse_str(before(line, b',')) {
-            Some(spelled) => {
-                let key = LineKey {
-                    party: self.party,
-                    id: spelled.id,
-                };
-                self.store.line(key).len()
-            }
-            None => 0,
-        }
+        Uuid::parse_str(before(line, b',')).map_or(0, |spelled| {
+            let key = LineKey {
+                party: self.party,
+                id: spelled.id,
+            };
+            self.store.line(key).len()
+        })
     }
 }

@@ -12,7 +12,7 @@ use desk::say::{ERR, Failure, complain, put_code, say};
 use desk::shown::say_shown;
 use desk::words::put_refused;
 use desk_pads::bound::{say_lost, slot_with, twins};
-use desk_pads::elements::{ELEMENTS, element_at, put_element, put_ident};
+use desk_pads::elements::{BUTTONS, ELEMENTS, element_at, put_element, put_ident};
 use desk_pads::plugged::{is_pad_name, pad_named};
 use desk_pads::refusals::refused_by;
 use desk_pads::slots::Slots;
@@ -68,12 +68,11 @@ impl Save<'_> {
         built.len
     }
 
-    // Which list a code of a slot is not in.
-    fn refused_slot(&self, console: &Console, code: Code) -> Failure {
+    // Which list a code of a slot is not in. Where the buttons' list has it, its slot is an axis's.
+    fn complain_slot(&self, console: &Console, code: Code) {
         let is_listed = self.lists.buttons.as_slice().contains(&code.0);
-        let from = if is_listed { 20 } else { 0 };
+        let from = if is_listed { BUTTONS } else { 0 };
         let e = element_at(slot_with(&self.slots, from, code).unwrap_or(ELEMENTS));
-        put_refused(console, ERR, 15);
         complain(console, b": ");
         put_ident(console, ERR, e);
         if e.is_button() {
@@ -85,14 +84,15 @@ impl Save<'_> {
             put_code(console, ERR, code.0);
             complain(console, b" is not in axes=\n");
         }
-        Failure::Refused
     }
 
     fn refused_build(&self, console: &Console, e: MappingError) -> Failure {
-        match e {
-            MappingError::InvalidCode(code) => self.refused_slot(console, code),
-            _ => refused_by(console, e.refusal()),
-        }
+        let MappingError::InvalidCode(code) = e else {
+            return refused_by(console, e.refusal());
+        };
+        put_refused(console, ERR, usize::from(e.refusal().number));
+        self.complain_slot(console, code);
+        Failure::Refused
     }
 
     fn no_room(&self, console: &Console, full: Full, store: View) -> Failure {
@@ -124,9 +124,9 @@ impl Save<'_> {
         let former = target.load(console)?;
         let mut file = former;
         let saved = self.file(&mut file);
-        if let Err(e) = saved.answer {
-            return Err(self.refused(console, e, View::of(&file)));
-        }
+        saved
+            .answer
+            .map_err(|e| self.refused(console, e, View::of(&file)))?;
         target.replace(console, &former, &file)?;
         let line = View::of(&file).line(self.key);
         say_filed(console, View::of(&former).line(self.key), line, saved.map);

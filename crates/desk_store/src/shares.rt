@@ -152,9 +152,7 @@ pub(crate) fn complain_claims(console: &Console, store: View) {
 pub fn list_shares(console: &Console, path: &[u8]) -> Result<(), Failure> {
     let file = load(console, path)?;
     let store = View::of(&file);
-    if let Err(unsound) = share_of(store.index, store.text, 0) {
-        return Err(refused_by(console, unsound.refusal()));
-    }
+    share_of(store.index, store.text, 0).map_err(|e| refused_by(console, e.refusal()))?;
     put_sum(console, OUT, put_claims(console, OUT, store));
     Ok(())
 }
@@ -164,10 +162,9 @@ fn owner_named(who: &[u8]) -> Option<u8> {
     if who == b"hall".as_slice() {
         return Some(0);
     }
-    match parse_u16(who) {
-        Some(n) if 0 < n && n < 256 => Some(n as u8),
-        _ => None,
-    }
+    u8::try_from(parse_u16(who)?)
+        .ok()
+        .filter(|owner| *owner != 0)
 }
 
 // A number of bytes; of those that exceed every text one stands for all.
@@ -228,9 +225,12 @@ fn refused_share(console: &Console, e: StoreError, store: View, owner: u8) -> Fa
 fn set_in(console: &Console, target: Target, owner: u8, bytes: usize) -> Result<(), Failure> {
     let former = target.load(console)?;
     let mut file = former;
-    if let Err(e) = set_share(&mut file.index, &file.text, owner, bytes) {
-        return Err(refused_share(console, e, View::of(&file), owner));
-    }
+    set_share(&mut file.index, &file.text, owner, bytes).map_err(|e| refused_share(
+        console,
+        e,
+        View::of(&file),
+        owner,
+    ))?;
     target.replace(console, &former, &file)?;
     say_set(console, View::of(&file), owner);
     Ok(())

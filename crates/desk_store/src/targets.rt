@@ -1,7 +1,7 @@
 // The store that a command changes.
 use desk::changing::{Held, may_change, place, replace};
 use desk::console::Console;
-use desk::files::{StoreFile, load};
+use desk::files::{Halves, StoreFile, load};
 use desk::say::Failure;
 
 // Its file's name, and what the script `hub` says of it.
@@ -23,7 +23,7 @@ impl Target<'_> {
 
     // Puts a store where there is none.
     pub(crate) fn place(self, console: &Console, file: &StoreFile) -> Result<(), Failure> {
-        place(console, self.path, self.held, file)
+        place(console, self.path, self.held, Halves::from(file))
     }
 
     // Puts a store in the place of the former one, which is kept as STORE.old.
@@ -33,6 +33,12 @@ impl Target<'_> {
         former: &StoreFile,
         file: &StoreFile,
     ) -> Result<(), Failure> {
-        replace(console, self.path, self.held, former, file)
+        replace(
+            console,
+            self.path,
+            self.held,
+            Halves::from(former),
+            Halves::from(file),
+        )
     }
 }

@@ -128,14 +128,15 @@ fn change_given(console: &Console, arg: &[u8]) -> Result<(), Failure> {
 
 // `events=20`
 fn limit_given(console: &Console, arg: &[u8]) -> Result<usize, Failure> {
-    match parse_count(after(arg, b'=')) {
-        Some(n) if 0 < n => Ok(n),
-        _ => Err(wrong(
-            console,
-            arg,
-            b": a number of events has one to nine digits, and is not 0\n",
-        )),
-    }
+    parse_count(after(arg, b'='))
+        .filter(|n| *n != 0)
+        .ok_or_else(|| {
+            wrong(
+                console,
+                arg,
+                b": a number of events has one to nine digits, and is not 0\n",
+            )
+        })
 }
 
 impl Named {
@@ -201,10 +202,7 @@ impl Named {
 // A list that was understood, where it is given.
 fn own_list(given: Given, list: Option<Codes>) -> Result<Option<Codes>, Failure> {
     let codes = list.ok_or(Failure::Trouble)?;
-    if given == Given::Never {
-        return Ok(None);
-    }
-    Ok(Some(codes))
+    Ok((given != Given::Never).then_some(codes))
 }
 
 // An argument about a second pad, where none plays.

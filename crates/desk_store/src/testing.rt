@@ -28,22 +28,21 @@ struct Recordings<'a> {
     first: Stream,
     second: Stream,
     from_arg: &'a [u8],
-    with_arg: &'a [u8],
+    with_arg: Option<&'a [u8]>,
 }
 
 impl<'a> Recordings<'a> {
     // Opens them, each at its first record. What can't be opened is said.
     fn open(
         console: &Console,
-        two: bool,
         from_arg: &'a [u8],
-        with_arg: &'a [u8],
+        with_arg: Option<&'a [u8]>,
     ) -> Result<Recordings<'a>, Failure> {
         let mut first = open_stream(console, from_arg)?;
-        let mut second = no_stream();
-        if two {
-            second = open_stream(console, with_arg)?;
-        }
+        let mut second = match with_arg {
+            Some(arg) => open_stream(console, arg)?,
+            None => no_stream(),
+        };
         first.move_on();
         second.move_on();
         Ok(Recordings {
@@ -64,7 +63,7 @@ impl<'a> Recordings<'a> {
     // Says where they end inside a record, or can't be read on.
     fn end(&self, console: &Console) -> Result<(), Failure> {
         let first = self.first.end(console, self.from_arg);
-        first.max(self.second.end(console, self.with_arg))
+        first.max(self.second.end(console, self.with_arg.unwrap_or(b"")))
     }
 }
 
@@ -141,8 +140,9 @@ impl Test<'_> {
         let mut stream = arg_space();
         let from_arg = argument(console, self.asked.stream, &mut stream);
         let mut beside = arg_space();
-        let with_arg = argument(console, self.asked.beside.unwrap_or(0), &mut beside);
-        let mut recordings = Recordings::open(console, play.two, from_arg, with_arg)?;
+        let space = &mut beside;
+        let with_arg = self.asked.beside.map(move |i| argument(console, i, space));
+        let mut recordings = Recordings::open(console, from_arg, with_arg)?;
         self.tell(console, &mut play, &mut recordings)
     }
 

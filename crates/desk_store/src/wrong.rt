@@ -21,12 +21,13 @@ pub fn complain_about(console: &Console, arg: &[u8]) {
 
 // The UUID that an argument is.
 pub fn id_named(console: &Console, key: &[u8]) -> Result<Uuid, Failure> {
-    match Uuid::parse_str(key) {
-        Some(spelled) => Ok(spelled.id),
-        None => Err(wrong(
-            console,
-            key,
-            b": no UUID; it has 32 hexadecimal digits, or 36 characters with hyphens\n",
-        )),
-    }
+    Uuid::parse_str(key)
+        .map(|spelled| spelled.id)
+        .ok_or_else(|| {
+            wrong(
+                console,
+                key,
+                b": no UUID; it has 32 hexadecimal digits, or 36 characters with hyphens\n",
+            )
+        })
 }
