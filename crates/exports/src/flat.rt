@@ -1,5 +1,6 @@
 // What crosses the boundary, and how the answers of the layers are laid out as numbers. C has no Option and no enum with
-// values: a flag stands beside each value that may be missing. C has no generic structs either: each struct for C has a
+// values: a flag stands beside each value that may be missing, and a number for a kind. Nor has it slices in a struct: a
+// count stands beside an array of which only the first are in use. Nor has it generic structs: each struct for C has a
 // From of its own, each way that it crosses, also where two look alike. A layer's struct of nothing but numbers (Uuid,
 // KeyTable, Pad, Pads) crosses as it is.
 ghost use Rattle.std.specs.Prelude.{◌≡◌, Err};

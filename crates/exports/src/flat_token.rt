@@ -32,6 +32,7 @@ pub struct FlatToken {
     pub pair: FlatPair,
 }
 
+// The kinds, as C knows them: C has no enum whose cases hold values.
 const END: u8 = 0;
 
 const REFUSED: u8 = 1;
