@@ -8,7 +8,7 @@ use std::io;
 const NUMBERS: usize = 13;
 
 // Sums over the accepted lines, and how many lines were refused by each number.
-#[derive(Clone, Copy)]
+#[derive(Default, Drop)]
 pub struct Figures {
     lines: u64,
     accepted: u64,
@@ -21,60 +21,40 @@ pub struct Figures {
 }
 
 impl Figures {
-    pub fn new() -> Figures {
-        Figures {
-            lines: 0,
-            accepted: 0,
-            entries: 0,
-            hats: 0,
-            names: 0,
-            codes: 0,
-            elements: 0,
-            refused: [0u64; NUMBERS],
-        }
-    }
-
     // One line more.
-    pub fn line(self, reading: SdlMapping) -> Figures {
-        let mut next = self;
-        next.lines = self.lines.wrapping_add(1);
+    pub fn add_line(&mut self, reading: &SdlMapping) {
+        self.lines = self.lines.wrapping_add(1);
         match reading.answer {
-            Ok(()) => next.accept(&reading.map),
-            Err(e) => next.refuse(e.refusal().number),
+            Ok(()) => self.accept(&reading.map),
+            Err(e) => self.refuse(e.refusal().number),
         }
     }
 
-    fn refuse(self, number: u8) -> Figures {
-        let mut next = self;
-        if let Some(lines) = next.refused.get_mut(number as usize) {
+    fn refuse(&mut self, number: u8) {
+        if let Some(lines) = self.refused.get_mut(number as usize) {
             *lines = lines.wrapping_add(1);
         }
-        next
     }
 
-    fn accept(self, map: &Mapping) -> Figures {
-        let mut next = self;
-        next.accepted = self.accepted.wrapping_add(1);
-        next.entries = self.entries.wrapping_add(map.count as u64);
-        next.hats = self.hats.wrapping_add(map.hats_mapped as u64);
-        next.names = self.names.wrapping_add(map.name_len as u64);
+    fn accept(&mut self, map: &Mapping) {
+        self.accepted = self.accepted.wrapping_add(1);
+        self.entries = self.entries.wrapping_add(map.count as u64);
+        self.hats = self.hats.wrapping_add(map.hats_mapped as u64);
+        self.names = self.names.wrapping_add(map.name_len as u64);
         for e in map.entries.iter().take(map.count) {
-            next.codes = next.codes.wrapping_add(e.code.0 as u64);
-            next.elements = next.elements.wrapping_add(element_number(e.element));
+            self.codes = self.codes.wrapping_add(e.code.0 as u64);
+            self.elements = self.elements.wrapping_add(element_number(e.element));
         }
-        next
     }
 
-    // Both lists together: lines, accepted ones and entries.
-    pub fn and(self, other: Figures) -> Figures {
-        let mut next = self;
-        next.lines = self.lines.wrapping_add(other.lines);
-        next.accepted = self.accepted.wrapping_add(other.accepted);
-        next.entries = self.entries.wrapping_add(other.entries);
-        next
+    // Another list's lines, accepted ones and entries more.
+    pub fn add_list(&mut self, list: &Figures) {
+        self.lines = self.lines.wrapping_add(list.lines);
+        self.accepted = self.accepted.wrapping_add(list.accepted);
+        self.entries = self.entries.wrapping_add(list.entries);
     }
 
-    pub fn say(self, rt: &impl Print) -> io::Result<()> {
+    pub fn say(&self, rt: &impl Print) -> io::Result<()> {
         let Figures {
             lines,
             accepted,
@@ -84,7 +64,7 @@ impl Figures {
         print!(rt; ": {lines} lines, accepted {accepted}, entries {entries}")
     }
 
-    pub fn say_sums(self, rt: &impl Print) -> io::Result<()> {
+    pub fn say_sums(&self, rt: &impl Print) -> io::Result<()> {
         let Figures {
             hats,
             names,

@@ -17,11 +17,11 @@ const LIST_ROOM: usize = 262144;
 
 // Each line without its LF and one CR before that.
 fn read_lines(list: &[u8]) -> Figures {
-    let mut figures = Figures::new();
+    let mut figures = Figures::default();
     for ended in list.split_inclusive(|b| *b == b'\n') {
         let line = before(ended, b'\n');
         let bare = line.strip_suffix(b"\r").unwrap_or(line);
-        figures = figures.line(parse_sdl_mapping(bare, &BUTTON_CODES, &AXIS_CODES));
+        figures.add_line(&parse_sdl_mapping(bare, &BUTTON_CODES, &AXIS_CODES));
     }
     figures
 }
@@ -40,7 +40,7 @@ fn read_file<R: Files + AllocGlobal>(rt: &R, path: &str) -> io::Result<Option<Ve
 fn read_list<R: Files + Print + AllocGlobal>(rt: &R, path: &str) -> io::Result<Figures> {
     let Some(list) = read_file(rt, path)? else {
         println!(rt; "{path}: no such file")?;
-        return Ok(Figures::new());
+        return Ok(Figures::default());
     };
     if list.len() == LIST_ROOM {
         print!(rt; "too long: ")?;
@@ -54,9 +54,9 @@ fn read_list<R: Files + Print + AllocGlobal>(rt: &R, path: &str) -> io::Result<F
 }
 
 fn main(rt: HostRuntime) -> io::Result<()> {
-    let mut all = Figures::new();
+    let mut all = Figures::default();
     for path in env::args(&rt)?.skip(1) {
-        all = all.and(read_list(&rt, path.as_str())?);
+        all.add_list(&read_list(&rt, path.as_str())?);
     }
     print!(rt; "all")?;
     all.say(&rt)?;

@@ -1,27 +1,21 @@
 -- Laws of a table that is laid out entry by entry. Assumes nothing.
-use Rattle.std.specs.Prelude.{Result, Ok, Err, ⊤}
 use Prim.Native.Nat.{ℕ, zero, suc, ◌+◌, ◌-◌, ◌<◌, ◌≤◌}
-use mathlib.Core.Path.{◌≡◌, refl, sym, ap, ◌∙◌}
+use mathlib.Core.Path.{◌≡◌, refl, sym, ap, subst, ◌∙◌}
 use mathlib.Core.List.{List, [], ◌∷◌, ◌++◌, map}
 use native.Mathlib.Omega.{arith}
 use native.Mathlib.Numerals.{add-one}
-use lib.ListN.{length, get_or, set, take, drop, replicate, take-append-drop, length-append}
+use lib.ListN.{length, get_or, set, take, drop, replicate, take-append-drop}
 use lib.Seq.{drop-append_seam}
 use Rattle.std.specs.Fn.{Called, Mut}
 use Rattle.std.specs.Array.{IsFromFnResult, IsFromFnResultFrom}
-use Rattle.std.proofs.lemmas.List.{same_lists, get_or-map, get_or_default}
+use Rattle.std.proofs.lemmas.List.{same_lists, length-map, get_or-map, map-append, drop-replicate}
 use mathlib.Core.Bool.{Bool, true, false}
 use lib.Dec.{eqb}
 use borrow.Author.Tests.{eqb-true, eqb-false}
-use Rattle.text.specs.declared.uuid.Uuid.{Uuid}
 use Rattle.line.specs.declared.mapping.Entry.{Entry}
-use Rattle.line.specs.Maps.{codes_max, MapView, unused_entry, to_map, empty_view, empty_map}
-use Rattle.line.proofs.ViewLaws.{drop-replicate}
-use Rattle.map.specs.declared.error.MappingError.{MappingError}
-use Rattle.map.specs.declared.mapping_data.MappingData.{MappingData}
-use Rattle.map.specs.Build.{filled_buttons, filled_axes, built_line, built_view, built_map, answer_of, returned, build_of}
-use Rattle.map.proofs.FilledLaws.{buttons_few, axes_few}
-use Rattle.map.proofs.PutsLaws.{puts_few}
+use Rattle.line.specs.declared.mapping.Mapping.{Mapping}
+use Rattle.line.specs.Maps.{codes_max, unused_entry, to_map}
+use Rattle.line.specs.Shapes.{Shaped}
 use Rattle.line.proofs.MapLaws.{past}
 use Rattle.pad.specs.declared.events.Event.{Event}
 use lib.IntN.{pos}
@@ -50,19 +44,6 @@ module _ {A B : Type 0} (f : A → B) where
       (f (get_or xs i d)) ≡ map f (take (i + 1) xs) ++ drop (i + 1) ys
   laid_more d xs ys i h k = rw add-one (laid_suc d xs ys i h k)
 
-  length-mapped : (xs : List A) → length (map f xs) ≡ length xs
-  length-mapped [] = refl
-  length-mapped (x ∷ xs) = rw (length-mapped xs) refl
-
-  by_place : (xs : List A) (ys : List B) → length ys ≡ length xs
-      → ((k : ℕ) (d : A) (e : B) → k < length xs → get_or ys k e ≡ f (get_or xs k d)) → ys ≡ map f xs
-  by_place [] [] h each = refl
-  by_place [] (y ∷ ys) h each = absurd (omega (arith, h))
-  by_place (x ∷ xs) [] h each = absurd (omega (arith, h))
-  by_place (x ∷ xs) (y ∷ ys) h each =
-      same_lists (y ∷ ys) (map f (x ∷ xs)) (h ∙ sym (length-mapped (x ∷ xs)))
-      (λ k d l. each k x d (omega (arith, h, l)) ∙ sym (get_or-map f (x ∷ xs) k x d (omega (arith, h, l))))
-
 module _ {A B : Type 0} (f : A → B) where
   from_place : {F : Type 0} (g : Mut F (ℕ × Unit {0}) B) (at : F) (xs : List A) (ys : List B) (n : ℕ) (d : A)
       → ((i : ℕ) (y : B) (q : F) → i < n → Called g at (i, tt) y q → (q ≡ at) × (y ≡ f (get_or xs i d)))
@@ -86,10 +67,10 @@ module _ {A B : Type 0} (f : A → B) where
       → ((i : ℕ) (y : B) (q : F) → i < n → Called g at (i, tt) y q → (q ≡ at) × (y ≡ f (get_or xs i d)))
       → ys ≡ map f xs
   laid g at xs ys n d m h each =
-      by_place f xs ys (m.long ∙ sym h)
-      (λ k d' e l.
-      from_place g at xs ys n d each n 0 (omega arith) at refl m.each k e (omega arith) (omega (arith, h, l))
-      ∙ ap f (get_or_default xs k d d' l))
+      same_lists ys (map f xs) (m.long ∙ sym h ∙ sym (length-map xs f))
+      (λ k e l.
+      from_place g at xs ys n d each n 0 (omega arith) at refl m.each k e (omega arith) (omega (arith, m.long, l))
+      ∙ sym (get_or-map f xs k d e (omega (arith, m.long, h, l))))
 
 -- what a read past an array's end is taken to give, in a need
 abbrev pub flat_past : FlatEntry
@@ -107,38 +88,18 @@ map-replicate : (n : ℕ) → map flat_entry (replicate n unused_entry) ≡ repl
 map-replicate zero = refl
 map-replicate (suc n) = ap (λ (r : List FlatEntry). flat_unused ∷ r) (map-replicate n)
 
-map-append : (xs ys : List Entry) → map flat_entry (xs ++ ys) ≡ map flat_entry xs ++ map flat_entry ys
-map-append [] ys = refl
-map-append (x ∷ xs) ys = ap (λ (r : List FlatEntry). flat_entry x ∷ r) (map-append xs ys)
-
 pub laid_first : (n : ℕ) (xs : List Entry) → Unused n xs
     → map flat_entry (take n xs) ++ drop n (replicate codes_max flat_unused) ≡ map flat_entry xs
 laid_first n xs h =
     let e : map flat_entry (drop n xs) ≡ drop n (replicate codes_max flat_unused) =
     ap (λ (r : List Entry). map flat_entry r) h.1 ∙ map-replicate (codes_max - n)
     ∙ sym (drop-replicate n codes_max flat_unused) in
-    ap (λ (r : List FlatEntry). map flat_entry (take n xs) ++ r) (sym e) ∙ sym (map-append (take n xs) (drop n xs))
+    ap (λ (r : List FlatEntry). map flat_entry (take n xs) ++ r) (sym e) ∙ sym (map-append flat_entry (take n xs) (drop n xs))
     ∙ ap (λ (r : List Entry). map flat_entry r) (take-append-drop n xs)
 
--- ---- a map that was made of its entries has nothing after them
-pub made_unused : (v : MapView) → length v.list ≤ codes_max → Unused (to_map v).count (to_map v).entries
+-- ---- a map of document 01's shape has nothing after its entries
+pub shaped_unused : (m : Mapping) → Shaped m → Unused m.count m.entries
 unfolding to_map
-made_unused v h = (h, drop-append_seam v.list (replicate (codes_max - length v.list) unused_entry))
-
-pub built_unused : (d : MappingData) (buttons axes name : List ℕ) (uuid : Uuid) (room : ℕ)
-    → Unused (build_of d buttons axes name uuid room).map.count (build_of d buttons axes name uuid room).map.entries
-unfolding build_of built_map empty_map
-built_unused d buttons axes name uuid room = by (answer_of d buttons axes name uuid room)
-  where
-    by : (a : Result ⊤ MappingError) → let b = returned a (built_map d name) (length (built_line d buttons axes name uuid)) in
-        Unused b.map.count b.map.entries
-    by (Ok tt) =
-        made_unused (built_view d name)
-        (omega (
-          arith,
-          puts_few (filled_buttons d ++ filled_axes d) [],
-          length-append (filled_buttons d) (filled_axes d),
-          buttons_few d,
-          axes_few d,
-        ))
-    by (Err e) = made_unused empty_view (omega arith)
+shaped_unused m s =
+    subst (λ (x : Mapping). Unused x.count x.entries) (sym s.is)
+    (s.few, drop-append_seam s.view.list (replicate (codes_max - length s.view.list) unused_entry))

@@ -1,3 +1,2 @@
 pub mod FlatLaws
-pub mod TidyLaws
 pub mod ListLaws

@@ -1,13 +1,14 @@
 -- The look-up in two lists goes by the first place of the code. Assumes nothing.
-use Prim.Native.Nat.{ℕ, suc, ◌+◌, ◌<◌, ◌≤◌}
+use Prim.Native.Nat.{ℕ, suc, ◌<◌, ◌≤◌}
 use mathlib.Core.Path.{◌≡◌, refl, ap, sym, ◌∙◌}
 use mathlib.Core.Bool.{Bool, true, false}
 use mathlib.Core.List.{List, [], ◌∷◌}
 use native.Mathlib.Omega.{arith}
-use lib.Dec.{eqb, ltb}
-use borrow.Author.Tests.{ltb-true, ltb-false}
-use Rattle.std.proofs.Common.{not, cond, Some, None}
-use Rattle.std.specs.List.{position, position_or_len}
+use lib.Dec.{eqb}
+use Rattle.std.proofs.Common.{Some, None, unwrap_or}
+use Rattle.std.specs.List.{position}
+use Rattle.std.proofs.lemmas.List.Quantifiers.{position-Some}
+use Rattle.text.proofs.BytesLaws.{position_first}
 use lib.ListN.{length, get_or}
 use Rattle.text.specs.Bytes.{pick, first_of}
 use Rattle.line.specs.Elements.{code_of}
@@ -58,34 +59,17 @@ flat_again e = go e.is_axis e.number
     go false n = refl
 
 -- ---- the first place as `position` gives it
-first_is : (c : ℕ) (cs : List ℕ) → position_or_len (λ x. eqb x c) cs ≡ first_of c cs
-unfolding first_of
-first_is c [] = refl
-first_is c (d ∷ cs) = go (eqb d c) (first_is c cs)
-  where
-    go : (t : Bool) → position_or_len (λ x. eqb x c) cs ≡ first_of c cs
-        → cond (not t) (1 + position_or_len (λ x. eqb x c) cs) 0 ≡ pick t 0 (suc (first_of c cs))
-    go true e = refl
-    go false e = omega (arith, e)
-
 module _ (c : ℕ) (cs : List ℕ) where
+  place : unwrap_or (position (λ x. eqb x c) cs) (length cs) ≡ first_of c cs
+  place = position_first c cs (position (λ x. eqb x c) cs) refl
+
   pub place-found : (i : ℕ) → position (λ x. eqb x c) cs ≡ Some i → (i ≡ first_of c cs) × (i < length cs)
-  place-found i e = go (ltb (first_of c cs) (length cs)) refl (rw (first_is c cs) at e)
-    where
-      go : (t : Bool) → ltb (first_of c cs) (length cs) ≡ t → cond t (Some (first_of c cs)) None ≡ Some i
-          → (i ≡ first_of c cs) × (i < length cs)
-      go true l e =
-          let same : i ≡ first_of c cs = cc in
-          (same, omega (arith, same, ltb-true (first_of c cs) (length cs) l))
-      go false l e = absurd (cc)
+  place-found i e = (rw e at place, (position-Some (λ x. eqb x c) cs i 0 e).0)
 
   pub place-none : position (λ x. eqb x c) cs ≡ None → length cs ≤ first_of c cs
-  place-none e = go (ltb (first_of c cs) (length cs)) refl (rw (first_is c cs) at e)
-    where
-      go : (t : Bool) → ltb (first_of c cs) (length cs) ≡ t → cond t (Some (first_of c cs)) None ≡ None
-          → length cs ≤ first_of c cs
-      go true l e = absurd (cc)
-      go false l e = ltb-false (first_of c cs) (length cs) l
+  place-none e =
+      let p : length cs ≡ first_of c cs = rw e at place in
+      omega (arith, p)
 
 -- ---- what the call returns, i being the first place of the code
 abbrev pub found_flat : FlatElement → FlatMapped

@@ -11,6 +11,7 @@ use crate::flat::FlatRefusal;
 use crate::flat_data::FlatData;
 use crate::flat_mapping::{FlatMapping, flat_made};
 use line::ev::Code;
+use map::default::DefaultMap;
 use map::error::mapping_outcome;
 use map::from_data::Built;
 use map::keys::{KeyTable, key_button, key_table};
@@ -33,6 +34,17 @@ pub struct FlatBuilt {
     pub len: usize,
 }
 
+impl From<DefaultMap> for FlatDefault {
+    ghost from_gives = { λ d f. f ≡ flat_default d };
+
+    fn from(d: DefaultMap) -> FlatDefault {
+        FlatDefault {
+            refusal: mapping_outcome(d.answer).into(),
+            map: d.map.into(),
+        }
+    }
+}
+
 #[unsafe(no_mangle)]
 pub extern "C" fn raspteal_key_button(code: u32) -> u16
     ensures { result ≡ (key_button (code_of code)).0 }
@@ -51,11 +63,7 @@ pub extern "C" fn raspteal_key_table() -> KeyTable
 pub extern "C" fn raspteal_default(buttons: &[u32], axes: &[u32]) -> FlatDefault
     ensures { result ≡ flat_default (default_of buttons.now axes.now) }
 {
-    let d = map::default::default(buttons, axes);
-    FlatDefault {
-        refusal: mapping_outcome(d.answer).into(),
-        map: d.map.into(),
-    }
+    map::default::default(buttons, axes).into()
 }
 
 fn flat_built(b: Built) -> FlatBuilt

@@ -28,7 +28,8 @@ impl From<FlatCode> for Option<Code> {
     }
 }
 
-// A slot put into those that are lent. A number past the last changes nothing.
+// A slot put into those that are lent. A number past the last changes nothing. By a test: `get_mut` was tried, whose
+// promise tells the slot that it lends, and not the slots that it leaves.
 fn put_slot(slots: &mut [FlatSlot], number: u16, slot: FlatSlot)
     ensures { slots.new ≡ flat_slots_with (length slots.old) slots.old number slot }
 {

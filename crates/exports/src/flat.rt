@@ -1,13 +1,14 @@
 // What crosses the boundary, and how the answers of the layers are laid out as numbers. C has no Option and no enum with
-// values: a flag stands beside each value that may be missing. C has no generic structs either: each struct for C has a
-// From of its own, each way that it crosses, also where two look alike. A layer's struct of nothing but numbers (Uuid,
-// KeyTable, Pad, Pads) crosses as it is.
+// values: a flag stands beside each value that may be missing, and a number for a kind. Nor has it slices in a struct: a
+// count stands beside an array of which only the first are in use. Nor has it generic structs: each struct for C has a
+// From of its own, each way that it crosses, also where two look alike; what asks something of a map is a function. A
+// layer's struct of nothing but numbers (Uuid, KeyTable, Pad, Pads) crosses as it is.
 ghost use Rattle.std.specs.Prelude.{◌≡◌, Err};
 ghost use Rattle.exports.specs.Flat.{flat_written, form_number, flat_element, element_of, place_number, code_number, flat_outcome};
 
 use line::ev::{Axis, AxisOrBtn, Button, Code};
 use line::refusal::Refusal;
-use text::uuid::{Form, Uuid};
+use text::uuid::Form;
 
 // Where a writer stopped; 0 where the text did not fit. C's struct, as FlatValue and FlatIndexParse are.
 #[repr(C)]
@@ -35,9 +36,6 @@ pub struct FlatRefusal {
     pub has_code: bool,
     pub code: u32,
 }
-
-// What stands where there is no UUID.
-pub const NO_UUID: Uuid = Uuid { high: 0, low: 0 };
 
 impl FlatElement {
     // What stands where there is no element.

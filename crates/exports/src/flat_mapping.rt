@@ -19,6 +19,7 @@ pub struct FlatEntry {
     pub inverted: bool,
 }
 
+// A map: the first `count` entries. C's struct, a count beside an array: C has no slice in a struct.
 #[repr(C)]
 #[derive(Clone, Copy)]
 pub struct FlatMapping {

@@ -2,7 +2,7 @@
 ghost use Rattle.std.specs.Prelude.{◌≡◌};
 ghost use Rattle.exports.specs.FlatTokens.{range_number, range_in, state_number, state_in, flat_pair, text_token, pair_token, flat_token, flat_answer, bare_token};
 
-use crate::flat::{FlatElement, FlatRefusal, NO_UUID};
+use crate::flat::{FlatElement, FlatRefusal};
 use line::ev::AxisOrBtn;
 use line::parser::{AxisRange, Error, Ranges, State, Token};
 use text::uuid::Uuid;
@@ -32,6 +32,7 @@ pub struct FlatToken {
     pub pair: FlatPair,
 }
 
+// The kinds, as C knows them: C has no enum whose cases hold values.
 const END: u8 = 0;
 
 const REFUSED: u8 = 1;
@@ -130,7 +131,7 @@ fn bare_token(kind: u8) -> FlatToken
     FlatToken {
         kind,
         refusal: FlatRefusal::NONE,
-        id: NO_UUID,
+        id: Uuid::NIL,
         start: 0,
         len: 0,
         pair: FlatPair::NONE,

@@ -43,12 +43,9 @@ impl From<Option<AxisOrBtn>> for FlatMapped {
     ghost from_gives = { λ m f. f ≡ flat_mapped m };
 
     fn from(mapped: Option<AxisOrBtn>) -> FlatMapped {
-        match mapped {
-            Some(e) => FlatMapped {
-                found: true,
-                element: e.into(),
-            },
-            None => FlatMapped::NONE,
+        FlatMapped {
+            found: mapped.is_some(),
+            element: mapped.map_or(FlatElement::NONE, FlatElement::from),
         }
     }
 }
@@ -72,7 +69,7 @@ impl From<Option<Entry>> for FlatEntered {
     }
 }
 
-// The name of an element: the first `len` bytes.
+// The name of an element: the first `len` bytes. C's struct, as FlatMapping is.
 #[repr(C)]
 #[derive(Clone, Copy)]
 pub struct FlatIdent {

@@ -22,6 +22,7 @@ pub struct FlatNearLook {
     pub how: u8,
 }
 
+// The number that C knows what was found by: C has no Option, and each kind has its own numbers, as `form_number` says.
 fn near_how(looked: Result<Option<Nearness>, LookError>) -> u8
     ensures { result ≡ near_how looked }
 {

@@ -10,6 +10,8 @@ ghost use Rattle.exports.specs.FlatMaps.{flat_reading};
 use crate::flat::{FlatRefusal, form_number};
 use crate::flat_mapping::{FlatMapping, flat_made};
 use crate::flat_token::{FlatToken, state_number, state_of};
+use line::parser::Stepped;
+use line::parser::tokens::{Tokens, count_tokens, token_at};
 use line::refusal::reading_outcome;
 
 // A step of the walker: its answer, and where it goes on.
@@ -37,6 +39,29 @@ pub struct FlatReading {
     pub map: FlatMapping,
 }
 
+impl From<Stepped> for FlatStep {
+    ghost from_gives = { λ s f. f ≡ flat_step s };
+
+    fn from(s: Stepped) -> FlatStep {
+        FlatStep {
+            token: s.answer.into(),
+            pos: s.pos,
+            state: state_number(s.state),
+        }
+    }
+}
+
+impl From<Tokens> for FlatTokens {
+    ghost from_gives = { λ t f. f ≡ flat_tokens t };
+
+    fn from(t: Tokens) -> FlatTokens {
+        FlatTokens {
+            count: t.count,
+            last: t.last.map_or(FlatRefusal::NONE, |e| e.refusal().into()),
+        }
+    }
+}
+
 #[unsafe(no_mangle)]
 pub extern "C" fn raspteal_parser_start(line: &[u8]) -> u8
     ensures { result ≡ state_number (start_of line.now) }
@@ -55,12 +80,7 @@ pub extern "C" fn raspteal_first_form(line: &[u8]) -> u8
 pub extern "C" fn raspteal_parser_step(line: &[u8], pos: usize, state: u8) -> FlatStep
     ensures { result ≡ flat_step (step_of line.now pos (state_in state)) }
 {
-    let next = line::parser::tokens::token_at(line, pos, state_of(state));
-    FlatStep {
-        token: next.answer.into(),
-        pos: next.pos,
-        state: state_number(next.state),
-    }
+    token_at(line, pos, state_of(state)).into()
 }
 
 #[unsafe(no_mangle)]
@@ -74,13 +94,7 @@ pub extern "C" fn raspteal_first_token(line: &[u8]) -> FlatToken
 pub extern "C" fn raspteal_count_tokens(line: &[u8]) -> FlatTokens
     ensures { result ≡ flat_tokens (tokens_of line.now) }
 {
-    let tokens = line::parser::tokens::count_tokens(line);
-    FlatTokens {
-        count: tokens.count,
-        last: tokens
-            .last
-            .map_or(FlatRefusal::NONE, |e| e.refusal().into()),
-    }
+    count_tokens(line).into()
 }
 
 #[unsafe(no_mangle)]

@@ -1,5 +1,5 @@
 // The calls of a pad while a game runs.
-ghost use Rattle.std.specs.Prelude.{◌≡◌};
+ghost use Rattle.std.specs.Prelude.{◌≡◌, map};
 ghost use Rattle.line.specs.Elements.{code_of};
 ghost use Rattle.line.specs.Maps.{held};
 ghost use Rattle.pad.specs.ValueClaims.{RawWithin};
@@ -24,7 +24,7 @@ pub struct FlatEvent {
     pub value: i16,
 }
 
-// The state after a call, and its events: the first `count` of the list.
+// The state after a call, and its events: the first `count` of the list. C's struct, as FlatMapping is.
 #[repr(C)]
 #[derive(Clone, Copy)]
 pub struct FlatTold {
@@ -45,8 +45,16 @@ impl From<Event> for FlatEvent {
     }
 }
 
+// The list of events, laid out one by one; C has its count beside it.
+pub fn flat_events(events: &Events) -> [FlatEvent; ELEMENTS]
+    ensures { result ≡ map flat_event events.now.list }
+{
+    array::from_fn(|i| events.list[i].into())
+}
+
 impl FlatTold {
     // The state after a call, and what the call gave.
+    #[tactic(auto, unfolding(crate::specs::FlatPads::flat_told))]
     fn new(answer: Result<(), TooManyCodes>, pad: Pad, events: &Events) -> FlatTold
         ensures { result ≡ flat_told (record { answer = answer; pad = pad; events = events.now }) }
     {
@@ -54,7 +62,7 @@ impl FlatTold {
             refusal: pad_outcome(answer).into(),
             pad,
             count: events.count,
-            events: array::from_fn(|i| events.list[i].into()),
+            events: flat_events(events),
         }
     }
 }

@@ -12,7 +12,7 @@ use crate::flat_data::FlatData;
 use crate::flat_mapping::FlatMapping;
 use crate::flat_party::FlatParty;
 use store::calls::{Inserted, LookError, Saved};
-use store::refusal::{save_outcome, store_outcome};
+use store::refusal::{look_outcome, save_outcome, store_outcome};
 use text::bytes::write_bytes;
 use text::uuid::Uuid;
 
@@ -57,15 +57,9 @@ impl From<Result<bool, LookError>> for FlatLook {
     ghost from_gives = { λ l f. f ≡ flat_look l };
 
     fn from(looked: Result<bool, LookError>) -> FlatLook {
-        match looked {
-            Ok(found) => FlatLook {
-                refusal: FlatRefusal::NONE,
-                found,
-            },
-            Err(e) => FlatLook {
-                refusal: e.refusal().into(),
-                found: false,
-            },
+        FlatLook {
+            refusal: look_outcome(looked).map(|_| ()).into(),
+            found: looked.unwrap_or(false),
         }
     }
 }

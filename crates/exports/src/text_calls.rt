@@ -6,7 +6,7 @@ ghost use Rattle.text.specs.Uuid.{uuid_of, uuid_text, without_checksum};
 ghost use Rattle.text.specs.Decimal.{index_number, decimal};
 ghost use Rattle.exports.specs.Flat.{flat_written, flat_uuid_parse, flat_index_parse};
 
-use crate::flat::{FlatWritten, NO_UUID, form_number};
+use crate::flat::{FlatWritten, form_number};
 use text::uuid::{Spelled, Uuid};
 
 #[repr(C)]
@@ -87,7 +87,7 @@ impl From<Option<Spelled>> for FlatUuidParse {
             },
             None => FlatUuidParse {
                 valid: false,
-                id: NO_UUID,
+                id: Uuid::NIL,
                 form: 0,
             },
         }

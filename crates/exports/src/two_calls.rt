@@ -13,14 +13,14 @@ ghost use Rattle.exports.specs.FlatTwo.{which_of, flat_pads_told};
 use crate::flat::{FlatElement, FlatRefusal};
 use crate::flat_mapping::FlatMapping;
 use crate::pad_calls::raw_of;
-use crate::state_calls::FlatEvent;
+use crate::state_calls::{FlatEvent, flat_events};
 use line::ev::Code;
 use pad::events::{ELEMENTS, Events};
 use pad::state::{TooManyCodes, pad_outcome};
 use pad::two::{Pads, Which};
-use std::array;
 
-// The state after a call, and its events: the first `count` of the list. FlatTold with two pads: C has no generic structs.
+// The state after a call, and its events: the first `count` of the list. FlatTold with two pads: C has no
+// generic structs.
 #[repr(C)]
 #[derive(Clone, Copy)]
 pub struct FlatPadsTold {
@@ -39,6 +39,7 @@ fn which_of(second: bool) -> Which
 
 impl FlatPadsTold {
     // The state after a call, and what the call gave.
+    #[tactic(auto, unfolding(crate::specs::FlatTwo::flat_pads_told))]
     fn new(answer: Result<(), TooManyCodes>, pads: Pads, events: &Events) -> FlatPadsTold
         ensures { result ≡ flat_pads_told (record { answer = answer; pads = pads; events = events.now }) }
     {
@@ -46,7 +47,7 @@ impl FlatPadsTold {
             refusal: pad_outcome(answer).into(),
             pads,
             count: events.count,
-            events: array::from_fn(|i| events.list[i].into()),
+            events: flat_events(events),
         }
     }
 }

@@ -13,7 +13,7 @@ const FIRST: u32 = 0x10100;
 
 const LAST: u32 = 0x102ff;
 
-// "Button k of 1..15: 10130 + k - 1. Button k of 16..19: 10220 + k - 16."
+// "Button k of 1..15: 10130 + k - 1. Button k of 16..19: 10220 + k - 16." A byte, 0 for no button: so the table has it.
 fn button_by_rule(code: u32) -> u8
     ensures { result ≡ key_number code }
 {

@@ -11,7 +11,8 @@ use text::uuid::Uuid;
 // How many codes a list has at most, in a case.
 pub const LONGEST: usize = 1025;
 
-// The number in a word, or 65535 where it is none.
+// The number in a word, or 65535 where it is none. No Option: some fifty calls would each say what a word that is none
+// counts as.
 pub fn short(s: &[u8]) -> u16
     ensures { result ≡ number_in s.now }
 {
@@ -32,7 +33,8 @@ pub fn uuid_or(s: &[u8], other: Uuid) -> Uuid
 }
 
 // Puts the bytes that hexadecimal digits spell into `out`, as many as fit, and returns how many there are. Of other
-// characters it puts nothing.
+// characters it puts nothing. It returns no slice: that was tried, and where a part of `out` is handed back, a contract
+// can't say what stands behind that part.
 pub fn unhex(s: &[u8], out: &mut [u8]) -> usize
     ensures count { result ≡ min (length out.old) (length s.now / 2) }
     ensures bytes { Unhexed s.now out.old result out.new }

@@ -46,6 +46,7 @@ fn slots_of(s: &[u8]) -> MappingData {
 pub fn build_case<R: Print + AllocGlobal>(rt: &R, args: &[u8]) -> io::Result<bool> {
     let uuid = rest(args);
     let slots = rest(uuid);
+    // from_data writes into a lent buffer, which it never grows.
     let mut line = [0u8; 16384];
     let built = from_data(
         slots_of(word(slots)),

@@ -3,27 +3,21 @@
 // `><element>`, the input and the output range, `F`, `U` or `L`, and `~` where inverted; a refusal `!<number>@<place>`; the
 // end `E`. Each has `/` after it.
 use crate::same;
-use line::parser::{start_state, step};
 use line::reading::parse_sdl_mapping;
 use map::default::default;
 use parts::cuts::{count_of, first, rest, word};
 use parts::numbers::{AXIS_CODES, BUTTON_CODES, number};
-use spelling::{Answered, Data, MapText, Refused};
-use std::fmt::Write;
+use spelling::{Data, MapText, Refused, Walk};
 use std::io;
 
 // `walk ANSWERS LINE`: a step for each slash.
 pub fn walk_case<R: Print + AllocGlobal>(rt: &R, args: &[u8]) -> io::Result<bool> {
-    let line = rest(args);
-    let mut out = String::new(rt.alloc());
-    let mut pos = 0;
-    let mut state = start_state(line);
-    for _ in 0..count_of(word(args), b'/') {
-        let next = step(line, pos, state);
-        write!(out, "{}/", Answered(Data::Recorded, next.answer))?;
-        pos = next.pos;
-        state = next.state;
-    }
+    let walk = Walk {
+        data: Data::Recorded,
+        line: rest(args),
+        calls: count_of(word(args), b'/'),
+    };
+    let out = format!(in rt.alloc(); "{walk}")?;
     same(rt, out.as_bytes(), word(args))
 }
 

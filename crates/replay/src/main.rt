@@ -11,14 +11,10 @@ use parts::totals::Totals;
 use std::io::Read;
 use std::rt::Files;
 use std::{fs, io};
+use stores::Store;
 
 // The most bytes of a list.
 const LIST_ROOM: u64 = 65536;
-
-// The lengths of the store's two buffers.
-const INDEX: usize = 2100;
-
-const TEXT: usize = 16384;
 
 const FILES: [&str; 5] = [
     "corpus.txt",
@@ -40,22 +36,17 @@ pub fn same(rt: &impl Print, answer: &[u8], expected: &[u8]) -> io::Result<bool>
 }
 
 // Runs one case, by its first word. A kind that nobody knows is wrong.
-fn run_case<R: Print + AllocGlobal>(
-    rt: &R,
-    line: &[u8],
-    index: &mut [u8],
-    text: &mut [u8],
-) -> io::Result<bool> {
+fn run_case<R: Print + AllocGlobal>(rt: &R, line: &[u8], store: &mut Store) -> io::Result<bool> {
     let args = rest(line);
     match word(line) {
         b"walk" => lines::walk_case(rt, args),
         b"read" => lines::read_case(rt, args),
         b"default" => lines::default_case(rt, args),
         b"build" => builds::build_case(rt, args),
-        b"clear" => Ok(stores::clear_case(index, text)),
-        b"insert" => Ok(stores::insert_case(rt.alloc(), args, index, text)?),
-        b"get" => Ok(stores::get_case(args, index, text)),
-        b"none" => Ok(stores::none_case(args, index, text)),
+        b"clear" => Ok(store.clear_case()),
+        b"insert" => Ok(store.insert_case(rt.alloc(), args)?),
+        b"get" => Ok(store.get_case(args)),
+        b"none" => Ok(store.none_case(args)),
         _ => Ok(false),
     }
 }
@@ -68,13 +59,12 @@ fn say_wrong(rt: &impl Print, line: &[u8]) -> io::Result<()> {
 
 // Runs a whole list, over one store.
 fn run_list<R: Print + AllocGlobal>(rt: &R, list: &[u8]) -> io::Result<Totals> {
-    let mut index = [0u8; INDEX];
-    let mut text = [0u8; TEXT];
+    let mut store = Store::new();
     let mut totals = Totals::NONE;
     for ended in list.split_inclusive(|b| *b == b'\n') {
         let line = before(ended, b'\n');
         if !is_blank(line) {
-            let right = run_case(rt, line, &mut index, &mut text)?;
+            let right = run_case(rt, line, &mut store)?;
             if !right {
                 say_wrong(rt, line)?;
             }

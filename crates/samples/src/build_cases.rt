@@ -12,12 +12,13 @@ use std::alloc::{AllocError, Global};
 use std::io;
 use text::uuid::Uuid;
 
-// The output is the end of so many dots.
+// The output is the end of so many dots: build writes into a lent buffer, which it never grows.
 const DOTS: usize = 16384;
 
 // A longer line is told by its length.
 const LINE_MAX: usize = 400;
 
+// The byte that two digits spell, as a byte of a name.
 fn first_byte(s: &[u8]) -> u8 {
     let mut space = [0u8; 1];
     unhex(s, &mut space);

@@ -4,11 +4,11 @@
 // `!<number>@<place>`; the end `E`; a map `<name start>+<name len>;<hat flags>;<code>=<element>,..`, an element with its
 // ranges as a token has them where they are not full.
 use crate::spelled::{is, refused, spelled};
-use line::parser::tokens::{count_tokens, token_at};
-use line::parser::{first_token, start_state};
+use line::parser::first_token;
+use line::parser::tokens::count_tokens;
 use line::reading::{SdlMapping, parse_sdl_mapping};
 use parts::cuts::{before, count_of, rest, word};
-use spelling::{Answered, Data, MapText};
+use spelling::{Answered, Data, MapText, Walk};
 use std::fmt::Write;
 use std::{fmt, io};
 
@@ -23,15 +23,12 @@ pub fn walk_case<R: Print + AllocGlobal>(rt: &R, args: &[u8]) -> io::Result<bool
     if !is(rt, first.as_bytes(), before(word(args), b'/'))? {
         return Ok(false);
     }
-    let mut out = String::new(rt.alloc());
-    let mut pos = 0;
-    let mut state = start_state(&line);
-    for _ in 0..count_of(word(args), b'/') {
-        let next = token_at(&line, pos, state);
-        write!(out, "{}/", Answered(Data::Cases, next.answer))?;
-        pos = next.pos;
-        state = next.state;
-    }
+    let walk = Walk {
+        data: Data::Cases,
+        line: &line,
+        calls: count_of(word(args), b'/'),
+    };
+    let out = format!(in rt.alloc(); "{walk}")?;
     is(rt, out.as_bytes(), word(args))
 }
 

@@ -58,7 +58,7 @@ fn run_case<R: Print + AllocGlobal>(rt: &R, line: &[u8]) -> io::Result<bool> {
 }
 
 // The groups that have ended, and the one that is open.
-#[derive(Clone, Copy)]
+#[derive(Drop)]
 struct Run {
     all: Totals,
     group: Option<Totals>,
@@ -66,32 +66,27 @@ struct Run {
 
 impl Run {
     // Ends the group that is open, and prints how it went.
-    fn ended(self, rt: &impl Print) -> io::Result<Run> {
-        let Some(group) = self.group else {
-            return Ok(self);
-        };
-        println!(rt; "{group}")?;
-        Ok(Run {
-            all: self.all.and(group),
-            group: None,
-        })
+    fn end(&mut self, rt: &impl Print) -> io::Result<()> {
+        if let Some(group) = self.group.take() {
+            println!(rt; "{group}")?;
+            self.all = self.all.and(group);
+        }
+        Ok(())
     }
 
     // Opens the group of a title.
-    fn titled(self, rt: &impl Print, title: &[u8]) -> io::Result<Run> {
-        let run = self.ended(rt)?;
+    fn open(&mut self, rt: &impl Print, title: &[u8]) -> io::Result<()> {
+        self.end(rt)?;
         rt.write_all(title)?;
         rt.write_all(b": ")?;
-        Ok(Run {
-            all: run.all,
-            group: Some(Totals::NONE),
-        })
+        self.group = Some(Totals::NONE);
+        Ok(())
     }
 
     // Runs a line of the group that is open; before the first title none is.
-    fn line<R: Print + AllocGlobal>(self, rt: &R, line: &[u8]) -> io::Result<Run> {
+    fn line<R: Print + AllocGlobal>(&mut self, rt: &R, line: &[u8]) -> io::Result<()> {
         let Some(group) = self.group else {
-            return Ok(self);
+            return Ok(());
         };
         let right = run_case(rt, line)?;
         if !right {
@@ -99,10 +94,8 @@ impl Run {
             rt.write_all(line)?;
             rt.write_all(b"\n  ")?;
         }
-        Ok(Run {
-            all: self.all,
-            group: Some(group.counted(right)),
-        })
+        self.group = Some(group.counted(right));
+        Ok(())
     }
 }
 
@@ -115,12 +108,13 @@ fn run_list<R: Print + AllocGlobal>(rt: &R, list: &[u8]) -> io::Result<Totals> {
     for ended in list.split_inclusive(|b| *b == b'\n') {
         let line = before(ended, b'\n');
         if matches!(word(line), b"==") {
-            run = run.titled(rt, rest(line))?;
+            run.open(rt, rest(line))?;
         } else if !is_blank(line) {
-            run = run.line(rt, line)?;
+            run.line(rt, line)?;
         }
     }
-    Ok(run.ended(rt)?.all)
+    run.end(rt)?;
+    Ok(run.all)
 }
 
 // Runs the list in a file of at most 65536 bytes. A file that is not there is one wrong. The test programs print a list,

@@ -8,6 +8,7 @@ use store::calls::{Inserted, StoreError, clear, found, get, insert};
 use store::parties::Party;
 use store::refusal::store_outcome;
 use text::bytes::write_bytes;
+use text::decimal::parse_u16;
 use text::uuid::Uuid;
 
 // The store of a case, its two buffers, and whose call it is.
@@ -18,25 +19,14 @@ pub struct Store<'a> {
     pub party: Party,
 }
 
-// What stands for a place or a code where a refusal has neither.
-const NEITHER: usize = 65535;
-
-// A place, or the code that a refusal carries; 65535 where there is neither.
-fn carried(refusal: Refusal) -> usize {
-    match (refusal.place, refusal.code) {
-        (Some(place), _) => place,
-        (None, Some(code)) => code.0 as usize,
-        (None, None) => NEITHER,
-    }
-}
-
-// Whether it is the expected one: `0`, `19`, `10@3` with the place, or `15@5` with the code.
+// Whether it is the expected one: `0`, `19`, `10@3` with the place, or `15@5` with the code that it carries.
 pub fn is(outcome: Result<(), Refusal>, expected: &[u8]) -> bool {
     match outcome {
         Ok(()) => number(expected) == 0,
         Err(refusal) => {
+            let carried = refusal.place.or(refusal.code.map(|c| c.0 as usize));
             refusal.number as usize == number(before(expected, b'@'))
-                && carried(refusal) == number(after(expected, b'@'))
+                && carried == parse_u16(after(expected, b'@')).map(usize::from)
         }
     }
 }
@@ -46,35 +36,9 @@ pub fn insert_answer(answer: Result<(), StoreError>, expected: &[u8]) -> bool {
     is(store_outcome(answer), expected)
 }
 
-// `clear ANSWER`
-pub fn clear_case(store: Store, args: &[u8]) -> bool {
-    let Store { index, text, .. } = store;
-    insert_answer(clear(index, text), args)
-}
-
-// Inserts the lines of a text.
-fn insert_lines(alloc: Global, store: Store, lines: &[u8]) -> Result<Inserted, AllocError> {
-    let Store { index, text, party } = store;
-    let lines = spelled(alloc, lines)?;
-    Ok(insert(index, text, party, &lines))
-}
-
 // Whether an insert answers so and tells so many lines: `ANSWER COUNT ..`.
 fn is_inserted(inserted: Inserted, args: &[u8]) -> bool {
     inserted.count == number(word(rest(args))) && insert_answer(inserted.answer, word(args))
-}
-
-// `insert ANSWER COUNT TEXT`
-pub fn insert_case(alloc: Global, store: Store, args: &[u8]) -> Result<bool, AllocError> {
-    let inserted = insert_lines(alloc, store, rest(rest(args)))?;
-    Ok(is_inserted(inserted, args))
-}
-
-// `forms ANSWER COUNT OTHERS TEXT`: an insert that tells how many lines were filed in another form than 32 digits.
-pub fn forms_case(alloc: Global, store: Store, args: &[u8]) -> Result<bool, AllocError> {
-    let others = rest(rest(args));
-    let inserted = insert_lines(alloc, store, rest(others))?;
-    Ok(inserted.not_simple == number(word(others)) && is_inserted(inserted, args))
 }
 
 // What a look-up says, as a number, and the line that it hands back.
@@ -95,14 +59,42 @@ pub fn is_looked(alloc: Global, looked: Looked, args: &[u8]) -> Result<bool, All
     Ok(looked.says == number(word(args)) && looked.line == expected.as_slice())
 }
 
-// `find SAYS UUID LINE`: 1 found, 0 none, 19 or 24, and the line that is handed back, empty unless found.
-pub fn find<'a>(store: &'a Store, key: Uuid) -> Looked<'a> {
-    let says = match found(store.index, store.text, store.party, key) {
-        Ok(held) => usize::from(held),
-        Err(e) => e.refusal().number as usize,
-    };
-    let line = get(store.index, store.text, store.party, key);
-    Looked { says, line }
+impl<'a> Store<'a> {
+    // `clear ANSWER`
+    pub fn clear_case(self, args: &[u8]) -> bool {
+        let Store { index, text, .. } = self;
+        insert_answer(clear(index, text), args)
+    }
+
+    // Inserts the lines of a text.
+    fn insert_lines(self, alloc: Global, lines: &[u8]) -> Result<Inserted, AllocError> {
+        let Store { index, text, party } = self;
+        let lines = spelled(alloc, lines)?;
+        Ok(insert(index, text, party, &lines))
+    }
+
+    // `insert ANSWER COUNT TEXT`
+    pub fn insert_case(self, alloc: Global, args: &[u8]) -> Result<bool, AllocError> {
+        let inserted = self.insert_lines(alloc, rest(rest(args)))?;
+        Ok(is_inserted(inserted, args))
+    }
+
+    // `forms ANSWER COUNT OTHERS TEXT`: an insert that tells how many lines were filed in another form than 32 digits.
+    pub fn forms_case(self, alloc: Global, args: &[u8]) -> Result<bool, AllocError> {
+        let others = rest(rest(args));
+        let inserted = self.insert_lines(alloc, rest(others))?;
+        Ok(inserted.not_simple == number(word(others)) && is_inserted(inserted, args))
+    }
+
+    // `find SAYS UUID LINE`: 1 found, 0 none, 19 or 24, and the line that is handed back, empty unless found.
+    pub fn find(&'a self, key: Uuid) -> Looked<'a> {
+        let says = match found(self.index, self.text, self.party, key) {
+            Ok(held) => usize::from(held),
+            Err(e) => e.refusal().number as usize,
+        };
+        let line = get(self.index, self.text, self.party, key);
+        Looked { says, line }
+    }
 }
 
 // `index TEXT`, `text TEXT`: the bytes of the buffer, all after them being 0.

@@ -10,15 +10,10 @@ mod save_cases;
 mod share_cases;
 mod spelled;
 
-use cases::{
-    Store, bytes_case, clear_case, find, forms_case, insert_case, is_looked, key_of, poke_case,
-};
-use near_cases::near;
+use cases::{Store, bytes_case, is_looked, key_of, poke_case};
 use parties::party_and_call;
 use parts::cuts::{before, is_blank, rest, word};
 use parts::totals::Totals;
-use save_cases::save_case;
-use share_cases::{share_case, told_case};
 use spelled::big;
 use std::alloc::{AllocError, Global};
 use std::io::Read;
@@ -40,16 +35,8 @@ const FILES: [&str; 9] = [
     "share-history.txt",
 ];
 
-// The lengths of the buffers, and how many cases were run and went wrong, of this group and of all.
-#[derive(Clone, Copy)]
-struct Run {
-    index: usize,
-    text: usize,
-    group: Totals,
-    all: Totals,
-}
-
-// One call of a party on the store, a comparison of a whole buffer, or a change of its bytes.
+// One call of a party on the store, a comparison of a whole buffer, or a change of its bytes. The two buffers stand
+// beside each other here and below, as the store's own calls take them.
 fn run_case(
     alloc: Global,
     index: &mut [u8],
@@ -60,63 +47,19 @@ fn run_case(
     let args = rest(call);
     let store = Store { index, text, party };
     match word(call) {
-        b"find" => is_looked(alloc, find(&store, key_of(args)), args),
-        b"near" => is_looked(alloc, near(&store, key_of(args)), args),
-        b"insert" => insert_case(alloc, store, args),
-        b"forms" => forms_case(alloc, store, args),
-        b"save" => save_case(alloc, store, args),
-        b"share" => Ok(share_case(store, args)),
-        b"told" => Ok(told_case(&store, args)),
-        b"clear" => Ok(clear_case(store, args)),
+        b"find" => is_looked(alloc, store.find(key_of(args)), args),
+        b"near" => is_looked(alloc, store.near(key_of(args)), args),
+        b"insert" => store.insert_case(alloc, args),
+        b"forms" => store.forms_case(alloc, args),
+        b"save" => store.save_case(alloc, args),
+        b"share" => Ok(store.share_case(args)),
+        b"told" => Ok(store.told_case(args)),
+        b"clear" => Ok(store.clear_case(args)),
         b"index" => bytes_case(alloc, store.index, args),
         b"text" => bytes_case(alloc, store.text, args),
         b"poke-index" => Ok(poke_case(store.index, args)),
         b"poke-text" => Ok(poke_case(store.text, args)),
         _ => Ok(false),
-    }
-}
-
-impl Run {
-    // A fresh store: `new INDEX TEXT`.
-    fn renewed(self, index: &mut [u8], text: &mut [u8], args: &[u8]) -> Run {
-        index.fill(0);
-        text.fill(0);
-        Run {
-            index: big(word(args)),
-            text: big(rest(args)),
-            group: self.group,
-            all: self.all,
-        }
-    }
-
-    // Prints how a group went.
-    fn finished(self, rt: &impl Print) -> io::Result<Run> {
-        if 0 < self.group.cases {
-            println!(rt; "{}", self.group)?;
-        }
-        let mut next = self;
-        next.group = Totals::NONE;
-        Ok(next)
-    }
-
-    fn titled(self, rt: &impl Print, title: &[u8]) -> io::Result<Run> {
-        let next = self.finished(rt)?;
-        rt.write_all(title)?;
-        rt.write_all(b": ")?;
-        Ok(next)
-    }
-
-    // Counts one case more.
-    fn counted(self, rt: &impl Print, right: bool, line: &[u8]) -> io::Result<Run> {
-        if !right {
-            rt.write_all(b"\n  wrong: ")?;
-            rt.write_all(line)?;
-            rt.write_all(b"\n  ")?;
-        }
-        let mut next = self;
-        next.group = self.group.counted(right);
-        next.all = self.all.counted(right);
-        Ok(next)
     }
 }
 
@@ -126,56 +69,104 @@ fn end_of(whole: &mut [u8], len: usize) -> &mut [u8] {
     &mut whole[from..]
 }
 
-// A `poke` is no case.
-fn run_line<R: Print + AllocGlobal>(
-    rt: &R,
-    run: Run,
-    index: &mut [u8],
-    text: &mut [u8],
-    line: &[u8],
-) -> io::Result<Run> {
-    match word(line) {
-        [b'=', ..] => run.titled(rt, rest(line)),
-        b"new" => Ok(run.renewed(index, text, rest(line))),
-        kind => {
-            let index = end_of(index, run.index);
-            let text = end_of(text, run.text);
-            let right = run_case(rt.alloc(), index, text, line)?;
-            if kind.starts_with(b"p") {
-                return Ok(run);
+// The lengths of the buffers, and how many cases were run and went wrong, of this group and of all.
+#[derive(Drop)]
+struct Run {
+    index: usize,
+    text: usize,
+    group: Totals,
+    all: Totals,
+}
+
+impl Run {
+    // A fresh store: `new INDEX TEXT`.
+    fn renew(&mut self, index: &mut [u8], text: &mut [u8], args: &[u8]) {
+        index.fill(0);
+        text.fill(0);
+        self.index = big(word(args));
+        self.text = big(rest(args));
+    }
+
+    // Prints how a group went.
+    fn finish(&mut self, rt: &impl Print) -> io::Result<()> {
+        if 0 < self.group.cases {
+            println!(rt; "{}", self.group)?;
+        }
+        self.group = Totals::NONE;
+        Ok(())
+    }
+
+    fn title(&mut self, rt: &impl Print, title: &[u8]) -> io::Result<()> {
+        self.finish(rt)?;
+        rt.write_all(title)?;
+        rt.write_all(b": ")
+    }
+
+    // Counts one case more.
+    fn count(&mut self, rt: &impl Print, right: bool, line: &[u8]) -> io::Result<()> {
+        if !right {
+            rt.write_all(b"\n  wrong: ")?;
+            rt.write_all(line)?;
+            rt.write_all(b"\n  ")?;
+        }
+        self.group = self.group.counted(right);
+        self.all = self.all.counted(right);
+        Ok(())
+    }
+
+    // A `poke` is no case.
+    fn line<R: Print + AllocGlobal>(
+        &mut self,
+        rt: &R,
+        index: &mut [u8],
+        text: &mut [u8],
+        line: &[u8],
+    ) -> io::Result<()> {
+        match word(line) {
+            [b'=', ..] => self.title(rt, rest(line)),
+            b"new" => {
+                self.renew(index, text, rest(line));
+                Ok(())
             }
-            run.counted(rt, right, line)
+            kind => {
+                let index = end_of(index, self.index);
+                let text = end_of(text, self.text);
+                let right = run_case(rt.alloc(), index, text, line)?;
+                if kind.starts_with(b"p") {
+                    return Ok(());
+                }
+                self.count(rt, right, line)
+            }
         }
     }
-}
 
-// Runs a whole list in fresh buffers.
-fn run_list<R: Print + AllocGlobal>(rt: &R, run: Run, list: &[u8]) -> io::Result<Run> {
-    let mut index = [0u8; ROOM];
-    let mut text = [0u8; ROOM];
-    let mut next = run;
-    for ended in list.split_inclusive(|b| *b == b'\n') {
-        let line = before(ended, b'\n');
-        if !is_blank(line) {
-            next = run_line(rt, next, &mut index, &mut text, line)?;
+    // Runs a whole list in fresh buffers.
+    fn list<R: Print + AllocGlobal>(&mut self, rt: &R, list: &[u8]) -> io::Result<()> {
+        let mut index = [0u8; ROOM];
+        let mut text = [0u8; ROOM];
+        for ended in list.split_inclusive(|b| *b == b'\n') {
+            let line = before(ended, b'\n');
+            if !is_blank(line) {
+                self.line(rt, &mut index, &mut text, line)?;
+            }
         }
+        self.finish(rt)
     }
-    next.finished(rt)
-}
 
-// Runs the list in a file of at most 65536 bytes. The test programs print a list, and a file that is not there, each in
-// its own words, so each has this function.
-fn run_file<R: Files + Print + AllocGlobal>(rt: &R, run: Run, path: &str) -> io::Result<Run> {
-    let Ok(file) = fs::open(rt, path) else {
-        println!(rt; "no file {path}")?;
-        return Ok(run);
-    };
-    let mut list = Vec::new(rt.alloc());
-    file.take(ROOM as u64).read_to_end(&mut list)?;
-    if list.len() == ROOM {
-        println!(rt; "too long: {path}")?;
+    // Runs the list in a file of at most 65536 bytes. The test programs print a list, and a file that is not there, each
+    // in its own words, so each has this function.
+    fn file<R: Files + Print + AllocGlobal>(&mut self, rt: &R, path: &str) -> io::Result<()> {
+        let Ok(file) = fs::open(rt, path) else {
+            println!(rt; "no file {path}")?;
+            return Ok(());
+        };
+        let mut list = Vec::new(rt.alloc());
+        file.take(ROOM as u64).read_to_end(&mut list)?;
+        if list.len() == ROOM {
+            println!(rt; "too long: {path}")?;
+        }
+        self.list(rt, &list)
     }
-    run_list(rt, run, &list)
 }
 
 // Runs all lists. Shared with the other test programs it would be handed their files and `run_file`, and be no shorter.
@@ -187,7 +178,7 @@ fn main(rt: HostRuntime) -> io::Result<()> {
         all: Totals::NONE,
     };
     for path in FILES {
-        run = run_file(&rt, run, path)?;
+        run.file(&rt, path)?;
     }
     println!(rt; "{}", run.all)
 }

@@ -58,22 +58,24 @@ fn reads_back(line: &[u8], map: &Mapping, buttons: &[u32], axes: &[u32]) -> bool
     reading.answer.is_ok() && same_map(&reading.map, map)
 }
 
-// `save ANSWER UUID SLOTS BUTTONS AXES NAME`: the lists are the codes from 1 on, so many each. A save that filed reads
-// back as its map, and a refused one has the empty map.
-pub fn save_case(alloc: Global, store: Store, args: &[u8]) -> Result<bool, AllocError> {
-    let Store { index, text, party } = store;
-    let more = rest(args);
-    let lists = rest(rest(more));
-    let key = uuid(word(more));
-    let slots = slots_of(word(rest(more)));
-    let list = numbered();
-    let buttons = first(&list, number(word(lists)));
-    let axes = first(&list, number(word(rest(lists))));
-    let name = spelled(alloc, rest(rest(lists)))?;
-    let saved = save(index, text, party, slots, buttons, axes, &name, key);
-    let right = match saved.answer {
-        Ok(()) => reads_back(get(index, text, party, key), &saved.map, buttons, axes),
-        Err(_) => same_map(&saved.map, &Mapping::new()),
-    };
-    Ok(right && is(save_outcome(saved.answer), word(args)))
+impl Store<'_> {
+    // `save ANSWER UUID SLOTS BUTTONS AXES NAME`: the lists are the codes from 1 on, so many each. A save that filed
+    // reads back as its map, and a refused one has the empty map.
+    pub fn save_case(self, alloc: Global, args: &[u8]) -> Result<bool, AllocError> {
+        let Store { index, text, party } = self;
+        let more = rest(args);
+        let lists = rest(rest(more));
+        let key = uuid(word(more));
+        let slots = slots_of(word(rest(more)));
+        let list = numbered();
+        let buttons = first(&list, number(word(lists)));
+        let axes = first(&list, number(word(rest(lists))));
+        let name = spelled(alloc, rest(rest(lists)))?;
+        let saved = save(index, text, party, slots, buttons, axes, &name, key);
+        let right = match saved.answer {
+            Ok(()) => reads_back(get(index, text, party, key), &saved.map, buttons, axes),
+            Err(_) => same_map(&saved.map, &Mapping::new()),
+        };
+        Ok(right && is(save_outcome(saved.answer), word(args)))
+    }
 }

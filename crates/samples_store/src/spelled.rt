@@ -25,7 +25,7 @@ pub fn big(s: &[u8]) -> usize {
     }
 }
 
-// The owner byte in a word.
+// The owner in a word, as the store's records hold it: a byte.
 pub fn owner(s: &[u8]) -> u8 {
     (number(s) % 256) as u8
 }

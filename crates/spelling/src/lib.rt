@@ -3,7 +3,8 @@
 
 use line::ev::AxisOrBtn;
 use line::mapping::{Entry, Mapping};
-use line::parser::{AxisRange, Error, Ranges, Token};
+use line::parser::tokens::token_at;
+use line::parser::{AxisRange, Error, Ranges, Token, start_state};
 use line::refusal::Refusal;
 use std::fmt;
 
@@ -140,6 +141,28 @@ impl fmt::Display for Answered {
             Some(Err(e)) => write!(f, "{}", Refused(self.0, e.refusal())),
             None => write!(f, "E"),
         }
+    }
+}
+
+// What the walker answers at the first calls over a line, with `/` after each answer.
+#[derive(Clone, Copy)]
+pub struct Walk<'a> {
+    pub data: Data,
+    pub line: &'a [u8],
+    pub calls: usize,
+}
+
+impl fmt::Display for Walk<'_> {
+    fn fmt<W: fmt::Write>(&self, f: &mut fmt::Formatter<W>) -> fmt::Result {
+        let mut pos = 0;
+        let mut state = start_state(self.line);
+        for _ in 0..self.calls {
+            let next = token_at(self.line, pos, state);
+            write!(f, "{}/", Answered(self.data, next.answer))?;
+            pos = next.pos;
+            state = next.state;
+        }
+        Ok(())
     }
 }
 

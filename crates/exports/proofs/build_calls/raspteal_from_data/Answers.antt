@@ -1,12 +1,13 @@
--- The contract of the call, and that of the layout, give the result.
+-- The contract of the call, and that of the layout, give the result: a built map has document 01's shape.
 -- Assumes nothing.
 use mathlib.Core.Path.{subst, sym}
 use Rattle.map.specs.declared.from_data.Built.{Built}
+use Rattle.map.proofs.ShapedLaws.{build_shaped}
 use Rattle.exports.specs.FlatMaps.{Unused}
-use Rattle.exports.proofs.FlatLaws.{built_unused}
+use Rattle.exports.proofs.FlatLaws.{shaped_unused}
 use Rattle.exports.proofs.build_calls.raspteal_from_data.Goals as goal
 
 pub flat_built-requires : goal.flat_built-requires
 flat_built-requires c =
     subst (λ (b : Built). Unused b.map.count b.map.entries) (sym c.from_data.ensures.0)
-    (built_unused _ _ _ _ _ _)
+    (shaped_unused _ (build_shaped _ _ _ _ _ _))
