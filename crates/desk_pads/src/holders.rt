@@ -4,17 +4,16 @@ use desk::console::Console;
 use desk::fields::first;
 use desk::say::{OUT, put_value, say};
 use line::ev::{AxisOrBtn, Code};
+use line::mapping::CODE_UNIT;
 use pad::events::Raw;
 use pad::two::Which;
 use pad::value::event;
 
-// A held code is a number: the code, and its last raw value below this: 0 released, 1 pressed, from 2 on an axis value,
-// counted from the least one.
-const CODE_UNIT: u64 = 4294967296;
-
+// The number of the axis value 0 below the unit of a code.
 const AXIS_ZERO: i64 = 32770;
 
-// The raw value of a held code. The crate pad reads the same number by `held_of`, for itself: a public function there,
+// The raw value of a held code, by what its number has below that unit: 0 released, 1 pressed, from 2 on an axis value,
+// counted from the least one. The crate pad reads the same number by `held_of`, for itself: a public function there,
 // with a promise and wrong programs of its own, would not be plainer than this.
 fn raw_of(y: u32) -> Raw {
     match y {

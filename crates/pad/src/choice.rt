@@ -8,11 +8,11 @@ ghost use Rattle.pad.specs.Values.{event_of};
 ghost use Rattle.pad.specs.Inner.{chosen_by, place_in, Marked, AllChosen, CountsIn};
 
 use crate::events::{ELEMENTS, Event, Held};
-use crate::numbers::{CODE_UNIT, held_of};
+use crate::numbers::held_of;
 use crate::telling::place_of;
 use crate::value::{entry_event, entry_value};
 use line::ev::{AxisOrBtn, Code};
-use line::mapping::Entry;
+use line::mapping::{CODE_UNIT, Entry};
 
 // How many marks there are.
 const MARKS: usize = 256;

@@ -8,11 +8,8 @@ ghost use Rattle.pad.specs.Inner.{shifted, unshifted, share_of, output_at, Prope
 
 use crate::events::{Held, Raw};
 use line::ev::{AxisOrBtn, Code};
+use line::mapping::CODE_UNIT;
 use line::parser::AxisRange;
-
-// What a code counts in the number of a held code, and in that of an entry: crate line has it for entries, in a private
-// module.
-pub const CODE_UNIT: u64 = 4294967296;
 
 // A value counted from the least one.
 pub fn biased(v: i16) -> u16

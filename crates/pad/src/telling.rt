@@ -5,12 +5,7 @@ ghost use Rattle.pad.specs.States.{events_in};
 ghost use Rattle.pad.specs.Inner.{event_by, IsPlace};
 
 use crate::events::{ELEMENTS, Event, Events};
-use line::ev::{Axis, AxisOrBtn, Button};
-
-// The last button and the last axis that have a place: numbers that crate line has too, and keeps to itself.
-const BUTTON_LAST: u16 = 19;
-
-const AXIS_LAST: u16 = 8;
+use line::ev::{AXIS_LAST, Axis, AxisOrBtn, BUTTON_LAST, Button};
 
 // The values of an element before and after.
 #[derive(Clone, Copy)]
