@@ -1,4 +1,5 @@
-// Which of the held codes an element takes its value from. Held codes and entries are numbers in lent slices.
+// Which of the held codes an element takes its value from. Held codes and entries are numbers in two lent slices, which
+// `codes` and `rows` cut from a pad: its counts may be over the most, and here none is left.
 ghost use Rattle.std.specs.Prelude.{◌≡◌, ◌≤◌, ◌/◌, ◌%◌, ◌==◌, length, map, position};
 ghost use Rattle.line.specs.Maps.{entry_at};
 ghost use Rattle.line.specs.Numbers.{code_unit, entry_in};

@@ -10,7 +10,7 @@ pub struct Placed {
     pub place: usize,
 }
 
-// What stands where no slot is.
+// What stands where no slot is. Written out, since an `Entry` has no default that could be derived from.
 impl Default for Placed {
     fn default() -> Placed {
         Placed {
