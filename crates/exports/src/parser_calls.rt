@@ -57,7 +57,9 @@ impl From<Tokens> for FlatTokens {
     fn from(t: Tokens) -> FlatTokens {
         FlatTokens {
             count: t.count,
-            last: t.last.map_or(FlatRefusal::NONE, |e| e.refusal().into()),
+            last: t
+                .last
+                .map_or(FlatRefusal::NONE, |e| FlatRefusal::from(e.refusal())),
         }
     }
 }

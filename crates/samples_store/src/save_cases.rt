@@ -35,21 +35,14 @@ fn slots_of(s: &[u8]) -> MappingData {
     slots
 }
 
-// Codes and elements, all 256 of them; ranges are not compared, since a save makes none.
-fn same_entries(a: &Mapping, b: &Mapping) -> bool {
-    a.entries
-        .iter()
-        .zip(b.entries.iter())
-        .all(|(x, y)| x.code == y.code && x.element == y.element)
-}
-
+// Field by field, all 256 entries: a Mapping has no `==` of its own.
 fn same_map(a: &Mapping, b: &Mapping) -> bool {
     a.count == b.count
         && a.name_start == b.name_start
         && a.name_len == b.name_len
         && a.is_default == b.is_default
         && a.hats_mapped == b.hats_mapped
-        && same_entries(a, b)
+        && a.entries == b.entries
 }
 
 // Whether the line that is held reads back as that map.
