@@ -1,4 +1,5 @@
 use native.Mathlib.Omega.{arith}
+use borrow.Author.Rules.{rules}
 use Rattle.store.proofs.SurveyLaws.{survey_first, survey_tail, survey_end, survey_bad, survey_on}
 use Rattle.store.proofs.SurveyLaws.{some_size, survey_turn}
 use Rattle.store.proofs.soundness.survey.Goals as goal
@@ -44,6 +45,5 @@ returns-then-not-zero_behind c =
 
 pub returns : goal.returns
 returns c =
-    let known = c.shared_slice_known-1 in
     survey_end c.loop-head.invariant (c.stands.ensures.1 c.loop-head-test.false) _ c.zero_behind.ensures
-    c.if-not-zero_behind.false (λ k. omega (arith, known.given k))
+    c.if-not-zero_behind.false (λ k. search rules)
