@@ -32,7 +32,8 @@ dues_of-dues-requires c =
     loads_addable c.args.index.now c.args.text.now _ _ _ c.unwrap-seen.result.fill walked.loads c.requires.text_value
 
 -- the lines are walked, and what is owed is told by them
-walked : (c : After-dues_of-dues) → Surveys c.args.index.now c.args.text.now c.survey.new.table.rows c.survey.new.table.heads
+walked : (c : After-dues_of-dues)
+    → Surveys c.args.index.now c.args.text.now c.survey.new.table.rows c.survey.new.table.heads
     c.survey.new.table.next c.unwrap-seen.result
 walked c = survey_of _ _ _ _ _ _ c.survey.ensures _ c.unwrap-seen.ensures
 

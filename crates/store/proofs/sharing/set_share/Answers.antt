@@ -4,7 +4,8 @@ use native.Mathlib.Omega.{arith}
 use borrow.Author.Rules.{rules}
 use Rattle.std.proofs.lemmas.Result.{err_from_is_err_and}
 use Rattle.store.proofs.ShareCallLaws.{share_unsound, set_large}
-use Rattle.store.proofs.ShareCallLaws.{Setting, set_addable, set_two, end_most, end_less, set_refused, set_writes, set-done}
+use Rattle.store.proofs.ShareCallLaws.{Setting, set_addable, set_two, end_most, end_less}
+use Rattle.store.proofs.ShareCallLaws.{set_refused, set_writes, set-done}
 use Rattle.store.proofs.SurveyLaws.{stock_refused}
 use Rattle.store.proofs.sharing.set_share.Goals.{Else-room-bytes}
 use Rattle.store.proofs.sharing.set_share.Goals as goal
