@@ -199,7 +199,8 @@ module _ {d : Dues} {i t s : List ℕ} {a₀ : List Row} {heads₀ next₀ : Lis
             ≡ on_reached v (λ b. insert_turn x.ks b (c + count))
             (λ js. insert_lines by js (suc (c + count)) (lines_of (drop (at + (end + 1)) s)))
         runs v q c = x.run c
-            ∙ runs_line by s at end l (e ∙ ap (first_of lf) (part_to_end s at)) line (line_part s at len el) x.ks (c + count)
+            ∙ runs_line by s at end l (e ∙ ap (first_of lf) (part_to_end s at)) line (line_part s at len el) x.ks
+            (c + count)
             ∙ ap (λ (v : Reached). on_reached v (λ b. insert_turn x.ks b (c + count))
             (λ js. insert_lines by js (suc (c + count)) (lines_of (drop (at + (end + 1)) s)))) q
 

@@ -135,7 +135,14 @@ module _ {i g : List ℕ} {at o : ℕ} (w : Reading i g at o) where
 
     pub reading_within : at + n ≤ length i
     reading_within =
-        omega (arith, w.within, en, size_most b, starts_long (drop at i) (ap starts_share (sym (tail_part at i)) ∙ s), length-drop at i)
+        omega (
+          arith,
+          w.within,
+          en,
+          size_most b,
+          starts_long (drop at i) (ap starts_share (sym (tail_part at i)) ∙ s),
+          length-drop at i,
+        )
 
     pub reading_turn : Reading i (set g o b) (at + n) (o + 1)
     reading_turn =

@@ -34,7 +34,8 @@ built c = made c.args.party _ (sym c.owner_of.ensures ∙ c.in-Some.is) _ _ _ _ 
 pub returns-then-unsaved_name : goal.returns-then-unsaved_name
 returns-then-unsaved_name c =
     let a = c.args in
-    ap (λ (x : Saved). record { answer = x; index = a.index.now; text = a.text.now }) c.refused_save-then-unsaved_name.ensures
+    ap (λ (x : Saved). record { answer = x; index = a.index.now; text = a.text.now })
+    c.refused_save-then-unsaved_name.ensures
     ∙ save_unsaved a.party _ (sym c.owner_of.ensures ∙ c.in-Some.is) _
     (built (goal.at.returns-then-unsaved_name c).In_default-answer) a.index.now a.text.now
     (sym c.unsaved_name.ensures ∙ c.if-unsaved_name.true)

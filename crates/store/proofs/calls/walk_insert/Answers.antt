@@ -1,6 +1,6 @@
 -- 19 and 10 where they apply; else the part behind the shares is lent to `insert_all`.
 use mathlib.Core.Path.{sym, ◌∙◌}
-use native.Mathlib.Omega.{arith}
+use borrow.Author.Rules.{rules}
 use Rattle.store.proofs.InsertLaws.{walk_unsound, walk-not_utf8, walk_lent}
 use Rattle.store.proofs.PartLaws.{part_lines}
 use Rattle.store.proofs.calls.walk_insert.Goals as goal
@@ -15,7 +15,7 @@ pub returns-then-not-is_utf8 : goal.returns-then-not-is_utf8
 returns-then-not-is_utf8 c =
     let args = c.args in
     walk-not_utf8 args.owner args.index.now args.text.now args.lines.now
-    (λ k. omega (arith, c.slice_known-1.given k))
+    (λ k. search rules)
     (sym c.sound.ensures ∙ c.if-not-sound.false)
     (sym c.is_utf8.ensures ∙ c.if-not-is_utf8.true) c.valid_up_to.result
     c.valid_up_to.ensures
@@ -25,7 +25,7 @@ insert_all-requires c =
     let args = c.args in
     let front = c.read_shares-front in
     part_lines args.index.now args.text.now _ front.result front.ensures
-    (λ k. omega (arith, c.slice_known-1.given k)) (sym c.sound.ensures ∙ c.if-not-sound.false)
+    (λ k. search rules) (sym c.sound.ensures ∙ c.if-not-sound.false)
 
 pub returns : goal.returns
 returns c =
@@ -33,7 +33,7 @@ returns c =
     let front = c.read_shares-front in
     let all = c.insert_all in
     walk_lent args.owner args.index.now args.text.now args.lines.now _ front.result front.ensures
-    (λ k. omega (arith, c.slice_known-1.given k))
+    (λ k. search rules)
     (sym c.sound.ensures ∙ c.if-not-sound.false)
     (sym c.is_utf8.ensures ∙ c.if-not-is_utf8.false) all.result _ _
     all.ensures

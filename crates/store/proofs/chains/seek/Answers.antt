@@ -22,7 +22,8 @@ returns-then-eq c =
     }
 
 -- the next number of the chain, where the key is not that of number c
-next : (c : After-from-c) → Seeking (key_in c.args.rows.now) c.args.k c.args.from c.from-c.result × (c.from-c.result < c.loop-c.c)
+next : (c : After-from-c)
+    → Seeking (key_in c.args.rows.now) c.args.k c.args.from c.from-c.result × (c.from-c.result < c.loop-c.c)
 unfolding same_key
 next c =
     seek_turn (key_in c.args.rows.now) c.args.next.now c.args.k c.args.from c.loop-c.c c.from-c.result c.requires.linked

@@ -1,7 +1,6 @@
 -- One line, filed by number as an insert does it.
 use Rattle.std.specs.Prelude.{Err}
 use Rattle.std.proofs.Common.{◌≡◌, rules}
-use native.Mathlib.Omega.{arith}
 use Rattle.store.proofs.LoadLaws.{loads_extend}
 use Rattle.store.proofs.OneLaws.{one_files, one_full, one_settles, one_filed}
 use Rattle.store.proofs.filing.file_line.Goals as goal
@@ -48,4 +47,4 @@ returns-in_err-filled c =
     (one_full args.dues args.index.now args.text.now args.line.now _ _ _ args.fill
     pre.loads.0 args.key pre.in_bounds.0 pre.in_bounds.1 _ _ _ filed.result filed.ensures _
     c.in_err-filled.was
-    (λ k. omega (arith, c.slice_known-1.given k)))
+    (λ k. search rules))

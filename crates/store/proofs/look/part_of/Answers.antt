@@ -24,5 +24,6 @@ returns c = record {
   agree = put_agree c.args.key c.requires refl;
   spots = λ i t b hs ag x.
       spot_line _ x (λ j l. ag j l ∙ put_agree c.args.key c.requires refl j l) (put_new c.args.key c.requires refl)
-      c.seek_before-r.ensures.sought c.seek_before-r.ensures.upper_bound c.len_before-len.ensures c.if-len-eq0.false refl;
+      c.seek_before-r.ensures.sought c.seek_before-r.ensures.upper_bound c.len_before-len.ensures c.if-len-eq0.false
+      refl;
 }

@@ -6,12 +6,14 @@ use Rattle.store.specs.declared.rows.Row.{Row}
 use Rattle.store.specs.declared.table.Fill.{Fill}
 use Rattle.store.specs.Held.{Held}
 use Rattle.store.specs.Table.{InRows}
+use Rattle.std.specs.Prelude.{Option as Optional}
+use Rattle.text.specs.Uuid.{without_checksum}
 use Rattle.text.specs.declared.uuid.Uuid.{Uuid}
-use Rattle.store.specs.Held.{key_by, find}
+use Rattle.store.specs.declared.look.Part.{Part}
+use Rattle.store.specs.Held.{Key, key_by, find}
 use Rattle.store.specs.Near.{plain_key}
 use Rattle.store.specs.Sights.{Spot}
 use Rattle.store.proofs.NearLaws.{sees_exact, sees_near, sees_neither}
-use Rattle.store.proofs.near.try_both.Goals.{After-part_of-2}
 use Rattle.store.proofs.near.try_both.Goals as goal
 
 pub returns-in-Some : goal.returns-in-Some
@@ -29,24 +31,25 @@ still i t a heads next heads' next' f hs p q x =
     subst (λ (v : List ℕ). InRows i t [] a v next' f.count f hs) (sym p)
     (subst (λ (v : List ℕ). InRows i t [] a heads v f.count f hs) (sym q) x)
 
--- what the second try tells
-second : (c : After-part_of-2) (i t : List ℕ) (hs : List Held)
-    → InRows i t [] c.args.table.now.rows c.args.table.now.heads c.args.table.now.next c.args.fill.count c.args.fill hs
-    → Spot t (find (plain_key c.args.key) hs) c.part_of-2.result
-second c i t hs x =
-    let whole = c.part_of.ensures in
-    subst (λ (u : Uuid). Spot t (find (key_by c.args.key.owner u) hs) c.part_of-2.result) c.without_checksum.ensures
-    (c.part_of-2.ensures.spots i t _ hs whole.agree
-    (still i t _ _ _ _ _ c.args.fill hs whole.chains_kept.0 whole.chains_kept.1 x))
+-- the second key is the first without its checksum
+plain : (t : List ℕ) (k : Key) (hs : List Held) (r : Optional Part) {u : Uuid} → u ≡ without_checksum k.uuid
+    → Spot t (find (key_by k.owner u) hs) r → Spot t (find (plain_key k) hs) r
+plain t k hs r e s = subst (λ (u : Uuid). Spot t (find (key_by k.owner u) hs) r) e s
 
 pub returns-in-Some-part_of : goal.returns-in-Some-part_of
 returns-in-Some-part_of c = λ i t hs x.
+    let whole = c.part_of.ensures in
     sees_near t (find c.args.key hs) (find (plain_key c.args.key) hs) c.part_of.result
-    (c.part_of.ensures.spots i t _ hs (λ j m. refl) x) c.part_of-2.result
-    (second (goal.at.returns-in-Some-part_of c).After-part_of-2 i t hs x) c.in_default.is _ c.in-Some-part_of.is
+    (whole.spots i t _ hs (λ j m. refl) x) c.part_of-2.result
+    (plain t c.args.key hs _ c.without_checksum.ensures (c.part_of-2.ensures.spots i t _ hs whole.agree
+    (still i t _ _ _ _ _ c.args.fill hs whole.chains_kept.0 whole.chains_kept.1 x)))
+    c.in_default.is _ c.in-Some-part_of.is
 
 pub returns : goal.returns
 returns c = λ i t hs x.
+    let whole = c.part_of.ensures in
     sees_neither t (find c.args.key hs) (find (plain_key c.args.key) hs) c.part_of.result
-    (c.part_of.ensures.spots i t _ hs (λ j m. refl) x) c.part_of-2.result
-    (second (goal.at.returns c).After-part_of-2 i t hs x) c.in_default.is c.in_default-part_of.is
+    (whole.spots i t _ hs (λ j m. refl) x) c.part_of-2.result
+    (plain t c.args.key hs _ c.without_checksum.ensures (c.part_of-2.ensures.spots i t _ hs whole.agree
+    (still i t _ _ _ _ _ c.args.fill hs whole.chains_kept.0 whole.chains_kept.1 x)))
+    c.in_default.is c.in_default-part_of.is

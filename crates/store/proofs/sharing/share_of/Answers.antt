@@ -18,7 +18,8 @@ returns-in_err-stock c =
 
 -- what the store of which stock is taken holds
 held : (c : In_ok-stock)
-    → Stocked c.args.index.now c.args.text.now c.take_stock.new.self.shares c.take_stock.new.self.table.rows c.in_ok-stock.stock
+    → Stocked c.args.index.now c.args.text.now c.take_stock.new.self.shares c.take_stock.new.self.table.rows
+    c.in_ok-stock.stock
 held c = stocked (λ k. search rules) (rw c.in_ok-stock.ensures.ok_part at c.take_stock.ensures)
 
 pub invariant_of-listed : goal.invariant_of-listed
