@@ -2,7 +2,8 @@
 // values: a flag stands beside each value that may be missing, and a number for a kind. Nor has it slices in a struct: a
 // count stands beside an array of which only the first are in use. Nor has it generic structs: each struct for C has a
 // From of its own, each way that it crosses, also where two look alike; what asks something of a map is a function. A
-// layer's struct of nothing but numbers (Uuid, KeyTable, Pad, Pads) crosses as it is.
+// layer's struct of nothing but numbers (Uuid, KeyTable, Pad, Pads) crosses as it is. Arrays cross by `array::from_fn`:
+// the array's `map` was proved too and takes near three times the instructions for a map that is handed over.
 ghost use Rattle.std.specs.Prelude.{◌≡◌, Err};
 ghost use Rattle.exports.specs.Flat.{flat_written, form_number, flat_element, element_of, place_number, code_number, flat_outcome};
 

@@ -86,6 +86,7 @@ fn flat_first(entries: [Entry; CODES_MAX], n: usize) -> [FlatEntry; CODES_MAX]
     ensures { result ≡ map flat_entry entries }
 {
     let mut out = [FlatEntry::UNUSED; CODES_MAX];
+    // By place: with lent places in a `zip`, which was tried, the proof that each entry lies at its own didn't close.
     for i in 0..n {
         out[i] = entries[i].into();
     }

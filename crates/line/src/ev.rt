@@ -9,11 +9,11 @@ ghost use Rattle.line.specs.Elements.{is_button_of};
 #[derive(Clone, Copy, PartialEq, Eq, PartialOrd, Ord)]
 pub struct Code(pub u32);
 
-// A button's number.
+// A button's number. A number, and no enum: a C program may hand in any, and one over the last counts as unknown.
 #[derive(Clone, Copy, PartialEq, Eq)]
 pub struct Button(pub u16);
 
-// An axis's number.
+// An axis's number, any as well.
 #[derive(Clone, Copy, PartialEq, Eq)]
 pub struct Axis(pub u16);
 

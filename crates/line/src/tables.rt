@@ -9,7 +9,8 @@ pub const ROWS: usize = 35;
 // The longest name.
 pub const IDENT_MAX: usize = 13;
 
-// The names in byte order.
+// The names in byte order. Names and elements are two tables, and no table of pairs: document 01 names both, and each
+// search goes through one of them.
 pub static AXES_SDL: [&[u8]; ROWS] = [
     b"a",
     b"b",
@@ -117,7 +118,8 @@ fn find_key(names: &[&[u8]], key: &[u8]) -> Option<usize>
     names.iter().position(|name| *name == key)
 }
 
-// The name of an element in the table of names, empty where it has none.
+// The name of an element in the table of names, empty where it has none. A match: in a closure of `map_or`, which was
+// tried, it is not known that the row lies in the table.
 fn name_of<'a>(names: &[&'a [u8]], e: AxisOrBtn) -> &'a [u8]
     requires { map (λ name. name.now) names.now ≡ axes_sdl }
     ensures { (result.now ≡ ident_text e) × (length result.now ≤ ident_max) }

@@ -45,6 +45,7 @@ fn put_index(out: &mut [u8], at: usize, n: usize) -> usize
 {
     let end = at + index_len(n);
     let mut upper = n;
+    // By place: where the loop begins is the end that is handed back.
     for place in (at..end).rev() {
         out[place] = b'0' + (upper % 10) as u8;
         upper /= 10;

@@ -64,7 +64,7 @@ fn four_octets(s: &[u8]) -> Option<usize>
 }
 
 // The length of the character that `s` begins with. A call for each alternative: one `match` on slices and ranges in
-// the place of all was tried, and the search left 82 goals open, one for each way to an arm (64 of them to the last one).
+// the place of all was tried, and its proof didn't close.
 #[tactic(auto, unfolding(crate::specs::Utf8::first_length, crate::specs::Utf8::char_length))]
 fn char_length(s: &[u8]) -> Option<usize>
     ensures { result ≡ char_length s.now }
@@ -92,6 +92,7 @@ fn ascii_front(s: &[u8], from: usize) -> usize
     ensures { Passed s.now from result }
 {
     let blocks = (s.len() - from) / 16;
+    // By the block's number, which tells where it starts: that is the answer.
     for k in 0..blocks {
         let at = from + 16 * k;
         if !ascii_block(s, at) {

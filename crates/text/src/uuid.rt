@@ -138,6 +138,7 @@ fn put_half(out: &mut [u8], at: usize, n: u64)
     ensures { out.new ≡ written out.old at (hex_text 16 n) }
 {
     let mut rest = n;
+    // By place, as the promise tells the whole buffer with the digits in it.
     for i in (0..16).rev() {
         out[at + i] = lower_digit((rest % 16) as u8);
         rest /= 16;
