@@ -35,20 +35,10 @@ fn slots_of(s: &[u8]) -> MappingData {
     slots
 }
 
-// Field by field, all 256 entries: a Mapping has no `==` of its own.
-fn same_map(a: &Mapping, b: &Mapping) -> bool {
-    a.count == b.count
-        && a.name_start == b.name_start
-        && a.name_len == b.name_len
-        && a.is_default == b.is_default
-        && a.hats_mapped == b.hats_mapped
-        && a.entries == b.entries
-}
-
 // Whether the line that is held reads back as that map.
 fn reads_back(line: &[u8], map: &Mapping, buttons: &[u32], axes: &[u32]) -> bool {
     let reading = parse_sdl_mapping(line, buttons, axes);
-    reading.answer.is_ok() && same_map(&reading.map, map)
+    reading.answer.is_ok() && reading.map == *map
 }
 
 impl Store<'_> {
@@ -67,7 +57,7 @@ impl Store<'_> {
         let saved = save(index, text, party, slots, buttons, axes, &name, key);
         let right = match saved.answer {
             Ok(()) => reads_back(get(index, text, party, key), &saved.map, buttons, axes),
-            Err(_) => same_map(&saved.map, &Mapping::new()),
+            Err(_) => saved.map == Mapping::new(),
         };
         Ok(right && is(save_outcome(saved.answer), word(args)))
     }
