@@ -56,8 +56,9 @@ fn seek(rows: &[Row; ROWS], next: &[u16; ROWS], from: usize, k: usize, most: usi
 }
 
 // The first step of `seek` in the chain that starts before `from`, of number k, which is linked: `from` where the key
-// is found, else what comes behind it. An empty chain is not told apart, which could not be foreseen: number 0 is
-// compared then, and nothing comes behind it.
+// is found, else what comes behind it. Whether the chain is empty is not asked: number 0 is compared then, and nothing
+// comes behind it. The question would cost more than the step that it spares, since a processor cannot foresee its
+// answer.
 fn first_step(rows: &[Row; ROWS], next: &[u16; ROWS], from: usize, k: usize) -> usize
     requires k_lt_rows_max { (k < rows_max) × (from ≤ k) }
     requires linked { Linked (key_in rows.now) next.now (k + 1) }
@@ -73,7 +74,8 @@ fn first_step(rows: &[Row; ROWS], next: &[u16; ROWS], from: usize, k: usize) -> 
 }
 
 // The lines that are written down by number: a row for each; chains of the numbers by their keys, each by one more
-// than its last number; and what stands before each number in its chain.
+// than its last number; and what stands before each number in its chain. They are arrays, and no map of the library:
+// a map allocates memory, which no call does, and the chains are proved.
 #[derive(Drop)]
 pub struct Table {
     pub rows: [Row; ROWS],

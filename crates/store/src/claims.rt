@@ -8,7 +8,7 @@ use crate::shares::{OWNERS, any_share};
 use crate::table::Fill;
 
 // While one party files: what the others claim of the text, what they use of it, and its own share.
-#[derive(Clone, Copy)]
+#[derive(Clone, Copy, Default)]
 pub struct Dues {
     pub others: usize,
     pub theirs: usize,
@@ -72,11 +72,7 @@ pub fn dues_of(rows: &[Row; ROWS], fill: Fill, shares: &[u16; OWNERS], owner: u8
     ensures { DuesFrom rows.now fill shares.now owner result }
 {
     if !any_share(shares) {
-        return Dues {
-            others: 0,
-            theirs: 0,
-            share: 0,
-        };
+        return Dues::default();
     }
     let mut uses = [0u16; OWNERS];
     let listed = Listed {

@@ -21,7 +21,7 @@ impl Row {
     pub const UNUSED: Row = Row {
         key: Key {
             owner: 0,
-            uuid: Uuid { high: 0, low: 0 },
+            uuid: Uuid::NIL,
         },
         start: 0,
         len: 0,

@@ -78,8 +78,8 @@ pub fn share_place(shares: &[u16; OWNERS], owner: usize) -> usize
     at
 }
 
-// Writes a share's record at the front. This and the next two ask for its four bytes: a type with that fact would be
-// made of the lent bytes for one call, and taken apart in it.
+// Writes a share's record at the front. This and the next two ask for its four bytes, and take no type with that fact,
+// since document 01 names what they take: the index from there on, `&mut index[at..]`.
 fn put_share(part: &mut [u8], owner: u8, share: usize)
     requires { (4 ≤ length part.old) × ((1 ≤ share) × (share ≤ 65535)) }
     ensures { part.new ≡ share_bytes owner share ++ drop 4 part.old }

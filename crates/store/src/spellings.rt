@@ -25,10 +25,7 @@ fn other_spelling(line: &[u8]) -> usize
     if find_far(line, b',') == 32 {
         return 0;
     }
-    match wanted(line) {
-        Some(spelled) => other_form(spelled.form),
-        None => 0,
-    }
+    wanted(line).map_or(0, |spelled| other_form(spelled.form))
 }
 
 // How many of the first `count` lines of a text. The place is kept by hand, as in batch.rt: `split` tests each byte,

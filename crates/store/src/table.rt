@@ -20,7 +20,9 @@ pub enum Full {
 }
 
 // How many numbers are taken, and how many bytes of the index and of the text the lines that are held take. That
-// `count` is below `ROWS` is asked where a number is to be taken, and is no fact of the type: `count` may be `ROWS`.
+// `count` is below `ROWS` is asked where a number is to be taken, and is no fact of the type: `count` may be `ROWS`. It
+// stands apart from the rows, and they are no vector: a line's row is written before it is known to have room, and is
+// counted only where it has.
 #[derive(Clone, Copy)]
 pub struct Fill {
     pub count: usize,

@@ -1,6 +1,6 @@
 -- The uses by rows are those of the lines, so that what the owner claims is a part of the sum.
 use mathlib.Core.List.{List}
-use mathlib.Core.Path.{sym, subst}
+use mathlib.Core.Path.{◌≡◌, sym, subst}
 use Prim.Native.Nat.{ℕ, ◌<◌}
 use native.Mathlib.Omega.{arith}
 use borrow.Author.Rules.{rules}
@@ -14,8 +14,10 @@ returns-then-not-any_share c =
     let none = c.any_share.ensures c.if-not-any_share.true in
     let byte : args.owner < 256 = search rules in
     λ hs u f b.
+    let made : record { others = 0; theirs = 0; share = 0 } ≡ c.default.result = search rules in
+    subst (Owed args.shares.now args.owner hs) made (
     subst (λ (g : List ℕ). Owed g args.owner hs (record { others = 0; theirs = 0; share = 0 })) (sym none)
-    (owed_none args.owner hs b byte)
+    (owed_none args.owner hs b byte))
 
 pub overflow_cast-used : goal.overflow_cast-used
 overflow_cast-used c =
