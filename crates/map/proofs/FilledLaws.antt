@@ -1,7 +1,9 @@
 -- Laws of the filled slots: how they are gathered, slot after slot, and how many there are.
 -- Assumes nothing.
-use Rattle.std.proofs.Common.{ℕ, zero, suc, ◌+◌, ◌-◌, ◌<◌, ◌≤◌, ◌≡◌, Bool, true, false, cond, Option, Some, None, List, [], ◌∷◌, ◌++◌, length, get_or, eqb, ltb, refl, sym, ◌∙◌, append_assoc, append-nil, length-append, add-one, arith, lt-ltb, position, is_some}
+use Rattle.std.proofs.Common.{ap, ℕ, zero, suc, ◌+◌, ◌-◌, ◌<◌, ◌≤◌, ◌≡◌, Bool, true, false, cond, Option, Some, None, List, [], ◌∷◌, ◌++◌, length, get_or, eqb, ltb, refl, sym, ◌∙◌, append_assoc, append-nil, length-append, add-one, arith, lt-ltb, position, is_some}
+use Rattle.std.specs.Prelude.{Result, Err, ok_or, IsErrAnd}
 use Rattle.std.specs.List.{position_or_len}
+use Rattle.std.proofs.lemmas.Result.{err_from_is_err_and}
 use Rattle.std.proofs.lemmas.List.Recursion.{is_position_or_len}
 use Rattle.text.specs.Bytes.{pick, first_of}
 use Rattle.line.specs.declared.ev.Code.{Code}
@@ -52,6 +54,15 @@ module _ (c : Code) (codes : List ℕ) where
   pub some_place : (o : Option ℕ) → o ≡ position (λ x. eqb x c.0) codes → is_some o ≡ in_list c codes
   some_place None h = sym (not_found (sym h))
   some_place (Some k) h = sym (found k (sym h)).1
+
+-- what `?` hands on where no place is told as the error x
+pub unlisted : {A E : Type 0} (o : Option ℕ) (x y : E) → Err y ≡ ok_or o x → (r : Result A E)
+    → IsErrAnd r (λ e. e ≡ y) → (r ≡ Err x) × (o ≡ None)
+unlisted None x y e r f =
+    let p = err_from_is_err_and r f in
+    let q : y ≡ x = cc in
+    (p.1 ∙ ap (λ z. Err z) (p.2 ∙ q), refl)
+unlisted (Some k) x y e r f = absurd cc
 
 -- ---- slots of one kind, of which those before i are gathered
 module _ (codes : List ℕ) (kind : Kind) (slots : List (Option Code)) where

@@ -31,12 +31,11 @@ pub fn key_table() -> KeyTable
 pub fn key_button(code: Code) -> Button
     ensures { result ≡ key_button code }
 {
-    if code.0 < KEY_FIRST {
+    let Some(i) = code.0.checked_sub(KEY_FIRST) else {
         return Button::Unknown;
+    };
+    match BUTTONS.get(i as usize) {
+        Some(number) => Button(u16::from(*number)),
+        None => Button::Unknown,
     }
-    let i = (code.0 - KEY_FIRST) as usize;
-    if i < KEYS {
-        return Button(BUTTONS[i] as u16);
-    }
-    Button::Unknown
 }

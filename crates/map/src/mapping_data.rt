@@ -83,7 +83,8 @@ fn code_at(slots: &[Option<Code>], number: u16) -> Option<Code>
     slots.get(number as usize).copied().flatten()
 }
 
-// Another code, or none, put into a slot; the former one. A number past the last changes nothing.
+// Another code, or none, put into a slot; the former one. A number past the last changes nothing. By a test: `get_mut`
+// was tried, whose promise tells the slot that it lends, and not the slots that it leaves.
 fn replace(slots: &mut [Option<Code>], number: u16, code: Option<Code>) -> Option<Code>
     ensures former { result ≡ code_at (length slots.old) slots.old number }
     ensures held { slots.new ≡ slots_with (length slots.old) slots.old number code }

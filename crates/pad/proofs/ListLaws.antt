@@ -1,14 +1,14 @@
 -- Lists that the program writes one place after the other: the values, the events, the numbers of entries. Assumes
 -- nothing.
-use Prim.Native.Nat.{ℕ, zero, suc, ◌+◌, ◌-◌, ◌<◌, ◌≤◌}
+use Prim.Native.Nat.{ℕ, zero, suc, ◌+◌, ◌-◌, ◌<◌}
 use mathlib.Core.Path.{◌≡◌, refl, sym, ap, ◌∙◌}
 use mathlib.Core.Bool.{Bool, true, false}
 use mathlib.Core.List.{List, [], ◌∷◌, ◌++◌, map, append_assoc, append-nil}
 use native.Mathlib.Omega.{arith}
 use native.Mathlib.Numerals.{add-one}
 use lib.ListN.{length, take, drop, get_or, set, replicate, length-map, length-append, get_or-map}
-use lib.ListN.{drop_of_length-le, length-replicate}
-use lib.Seq.{drop-cons}
+use lib.ListN.{length-replicate}
+use mathlib.Core.Logic.{◌⊎◌, inl, inr}
 use lib.IntN.{ℤ, pos}
 use Rattle.line.specs.declared.mapping.Entry.{Entry}
 use Rattle.line.specs.Numbers.{entry_number}
@@ -54,78 +54,63 @@ event_pushed es v old h few =
     rw (h, n, m, set_next es v (27 - (length es + 1)))
 
 -- ---- the events between values
-module _ (bs cs : List ℤ) (k : ℕ) (lb : length bs ≡ 27) (la : length cs ≡ 27) (lt : k < 27) (d : ℤ) where
-  both-next : changes k (drop k bs) (drop k cs)
-      ≡ changes k (get_or bs k d ∷ drop (k + 1) bs) (get_or cs k d ∷ drop (k + 1) cs)
-  both-next =
-      let hb : k < length bs = omega arith in
-      let hc : k < length cs = omega arith in
-      rw (drop-cons bs k d hb, drop-cons cs k d hc, add-one)
+module _ (bs cs xs ys : List ℤ) (x y : ℤ) (k : ℕ) where
+  abbrev rest : List Event
+  rest = changes (k + 1) xs ys
 
   -- the same value
-  changes-same : get_or bs k d ≡ get_or cs k d
-      → changes k (drop k bs) (drop k cs) ≡ changes (k + 1) (drop (k + 1) bs) (drop (k + 1) cs)
+  changes_same : x ≡ y → changes k (x ∷ xs) (y ∷ ys) ≡ rest
   unfolding changes
-  changes-same e =
-      let s : sameℤ (get_or bs k d) (get_or cs k d) ≡ true =
-      ap (λ (x : ℤ). sameℤ x (get_or cs k d)) e ∙ same_refl (get_or cs k d) in
-      both-next ∙ rw (s, add-one)
+  changes_same e =
+      let s : sameℤ x y ≡ true = ap (λ (z : ℤ). sameℤ z y) e ∙ same_refl y in
+      rw (s, add-one)
 
   -- another value
-  changes_other : (get_or bs k d ≡ get_or cs k d → ⊥)
-      → changes k (drop k bs) (drop k cs)
-      ≡ one_event (element_at k) (get_or cs k d) ∷ changes (k + 1) (drop (k + 1) bs) (drop (k + 1) cs)
+  changes_other : (x ≡ y → ⊥) → changes k (x ∷ xs) (y ∷ ys) ≡ one_event (element_at k) y ∷ rest
   unfolding changes
-  changes_other d' = both-next ∙ by (sameℤ (get_or bs k d) (get_or cs k d)) refl
+  changes_other d = by (sameℤ x y) refl
     where
-      by : (t : Bool) → sameℤ (get_or bs k d) (get_or cs k d) ≡ t
-          → changes k (get_or bs k d ∷ drop (k + 1) bs) (get_or cs k d ∷ drop (k + 1) cs)
-          ≡ one_event (element_at k) (get_or cs k d) ∷ changes (k + 1) (drop (k + 1) bs) (drop (k + 1) cs)
-      by true e = absurd (d' (same_value (get_or bs k d) (get_or cs k d) e))
+      by : (t : Bool) → sameℤ x y ≡ t → changes k (x ∷ xs) (y ∷ ys) ≡ one_event (element_at k) y ∷ rest
+      by true e = absurd (d (same_value x y e))
       by false e = rw (e, add-one)
 
-  pub listed_same : (events : Events) → Listed bs cs events k → get_or bs k d ≡ get_or cs k d
-      → Listed bs cs events (k + 1)
+  pub listed_same : (events : Events) → Listed bs cs (x ∷ xs) (y ∷ ys) events k → x ≡ y
+      → Listed bs cs xs ys events (k + 1)
   listed_same events h e =
       record {
         es = h.es;
         are = h.are;
         few = omega (arith, h.few);
-        told = ap (λ (l : List Event). h.es ++ l) (sym (changes-same e)) ∙ h.told;
+        all = omega (arith, h.all);
+        told = ap (λ (l : List Event). h.es ++ l) (sym (changes_same e)) ∙ h.told;
       }
 
-  pub listed_other : (events more : Events) (v : Event) (h : Listed bs cs events k)
-      → (get_or bs k d ≡ get_or cs k d → ⊥) → v ≡ one_event (element_at k) (get_or cs k d)
-      → PushesEvent events v more → Listed bs cs more (k + 1)
+  pub listed_other : (events more : Events) (v : Event) (h : Listed bs cs (x ∷ xs) (y ∷ ys) events k) → (x ≡ y → ⊥)
+      → v ≡ one_event (element_at k) y → PushesEvent events v more → Listed bs cs xs ys more (k + 1)
   listed_other events more v h n ev p =
-      let rest : List Event = changes (k + 1) (drop (k + 1) bs) (drop (k + 1) cs) in
       record {
         es = h.es ++ v ∷ [];
-        are = p h.es h.are (omega (arith, h.few));
+        are = p h.es h.are (omega (arith, h.few, h.all));
         few = simp length-append (omega (arith, h.few));
+        all = omega (arith, h.all);
         told =
             append_assoc h.es (v ∷ []) rest
             ∙ ap (λ (w : Event). h.es ++ w ∷ rest) ev
             ∙ ap (λ (l : List Event). h.es ++ l) (sym (changes_other n)) ∙ h.told;
       }
 
-pub none-listed : (bs cs : List ℤ) (events : Events) → events ≡ events_in [] → Listed bs cs events 0
-none-listed bs cs events e = record { es = []; are = e; few = omega arith; told = refl }
-
-nothing_left : (xs ys : List ℤ) → length xs ≡ 27 → changes 27 (drop 27 xs) ys ≡ []
+nothing_left : (xs ys : List ℤ) (k : ℕ) → (length xs ≡ 0) ⊎ (length ys ≡ 0) → changes k xs ys ≡ []
 unfolding changes
-nothing_left xs ys l = ap (λ (z : List ℤ). changes 27 z ys) (none_after xs l)
-  where
-    none_after : (xs : List ℤ) → length xs ≡ 27 → drop 27 xs ≡ []
-    none_after xs l = let h : length xs ≤ 27 = omega arith in drop_of_length-le xs h
+nothing_left [] ys k h = refl
+nothing_left (x ∷ xs) [] k h = refl
+nothing_left (x ∷ xs) (y ∷ ys) k (inl e) = absurd (omega arith)
+nothing_left (x ∷ xs) (y ∷ ys) k (inr e) = absurd (omega arith)
 
-pub all_listed : (bs cs : List ℤ) (events : Events) (k : ℕ) → length bs ≡ 27 → k ≡ 27 → Listed bs cs events k
-    → events ≡ events_in (changes 0 bs cs)
-all_listed bs cs events k lb e h =
-    let none : changes k (drop k bs) (drop k cs) ≡ [] =
-    ap (λ (j : ℕ). changes j (drop j bs) (drop j cs)) e ∙ nothing_left bs (drop 27 cs) lb in
+pub all_listed : (bs cs xs ys : List ℤ) (events : Events) (k : ℕ) → (length xs ≡ 0) ⊎ (length ys ≡ 0)
+    → Listed bs cs xs ys events k → events ≡ events_in (changes 0 bs cs)
+all_listed bs cs xs ys events k e h =
     let all : h.es ≡ changes 0 bs cs =
-    sym (append-nil h.es) ∙ ap (λ (l : List Event). h.es ++ l) (sym none) ∙ h.told in
+    sym (append-nil h.es) ∙ ap (λ (l : List Event). h.es ++ l) (sym (nothing_left xs ys k e)) ∙ h.told in
     h.are ∙ ap (λ (l : List Event). events_in l) all
 
 -- ---- the numbers of entries

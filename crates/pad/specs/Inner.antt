@@ -1,6 +1,7 @@
 -- Values counted from the least one: what private functions compute with. No public contract cites these.
 -- Assumes nothing.
 use Rattle.std.specs.Prelude.{ℕ, suc, ◌+◌, ◌-◌, ◌*◌, ◌/◌, ◌%◌, ◌≤◌, ◌<◌, ◌≡◌, Bool, false, List, [], ◌∷◌, ◌++◌, map, eqb, ltb, length, take, drop, get_or, ℤ, pos, negsuc, ◌-ℤ◌, Option, Some, None, set, MatchOption, Result, Ok, MatchResult}
+use Rattle.std.specs.Borrow.{MutBor, Fml, Lends}
 use Rattle.text.specs.Bytes.{pick}
 use Rattle.line.specs.declared.ev.AxisOrBtn.{AxisOrBtn}
 use Rattle.line.specs.declared.ev.AxisOrBtn.TheVariants as El
@@ -23,7 +24,9 @@ use Rattle.pad.specs.declared.state.TooManyCodes.{TooManyCodes}
 use Rattle.pad.specs.declared.telling.Change.{Change}
 use Rattle.pad.specs.Pads.{held_max, put_held, gives, Chosen, none, chosen, preferred, choose, element_count, element_at, sameℤ, changes}
 use Rattle.pad.specs.States.{held_in, pad_values, pad_value, events_in, caught, Told, refused_of, raw_event_of}
-use Rattle.pad.specs.TwoPads.{farther}
+use Rattle.pad.specs.TwoPads.{farther, with_pad}
+use Rattle.pad.specs.contracts.two.Pads as P
+use Rattle.pad.specs.contracts.state.Pad as Q
 
 -- a value counted from the least one, and back
 abbrev pub shifted : ℤ → ℕ
@@ -120,12 +123,13 @@ grown_of i n = pick (ltb i n) n (n + 1)
 abbrev pub PushesEvent : Events → Event → Events → Type 0
 PushesEvent old e new = (es : List Event) → old ≡ events_in es → length es < 27 → new ≡ events_in (es ++ e ∷ [])
 
--- they are those of the first k places
-pub record Listed (bs cs : List ℤ) (events : Events) (k : ℕ) : Type 0 where
+-- they are those of the first k places, and the values xs and ys are still to come
+pub record Listed (bs cs xs ys : List ℤ) (events : Events) (k : ℕ) : Type 0 where
   pub es : List Event
   pub are : events ≡ events_in es
   pub few : length es ≤ k
-  pub told : es ++ changes k (drop k bs) (drop k cs) ≡ changes 0 bs cs
+  pub all : k + length xs ≡ 27
+  pub told : es ++ changes k xs ys ≡ changes 0 bs cs
 
 -- the event of a change, if there is one and the value is another
 abbrev pub event_by : Option Change → Option Event
@@ -151,6 +155,10 @@ PutsCode p c raw r q =
     (λ e. (raw_event_of p c raw ≡ refused_of p) × (q ≡ p))
 
 -- ---- two pads
+-- the pads end with the one that a call is for as it is left behind the reference to it
+abbrev pub LendsPad : Which → MutBor Pads → MutBor Pad → Fml
+LendsPad w s r = Lends P.the_row Q.the_row s r (λ q. with_pad w s.now q)
+
 -- the pad that plays along
 abbrev pub pad_beside : Which → Pads → Pad
 pad_beside Wh.First p = p.second

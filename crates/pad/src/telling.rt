@@ -65,9 +65,9 @@ pub fn differences(before: &[i16; ELEMENTS], after: &[i16; ELEMENTS]) -> Events
     ensures { result ≡ events_in (changes 0 before.now after.now) }
 {
     let mut events = Events::none();
-    for k in 0..ELEMENTS {
-        let value = after[k];
-        if before[k] != value {
+    for (k, (old, later)) in before.iter().zip(after).enumerate() {
+        let value = *later;
+        if *old != value {
             let element = element_at(k);
             events.push(Event { element, value });
         }

@@ -1,12 +1,13 @@
 // Two pads for one player: a second pad plays along.
 ghost use Rattle.std.specs.Prelude.{◌≡◌};
+ghost use Rattle.std.specs.Borrow.{sem};
 ghost use Rattle.line.specs.Maps.{held};
 ghost use Rattle.pad.specs.ValueClaims.{RawWithin};
 ghost use Rattle.pad.specs.States.{events_in, change_map_of};
 ghost use Rattle.pad.specs.PadGuarantee.{ShortAll, told_events};
 ghost use Rattle.pad.specs.TwoPads.{farther, pads_value, new_pads, pad_of, with_pad, pads_told_by, pads_raw_event_of};
 ghost use Rattle.pad.specs.TwoPads.{pads_change_map_of};
-ghost use Rattle.pad.specs.Inner.{PutsCode, TellsFew, pad_beside, joined_of, joined_by, refined};
+ghost use Rattle.pad.specs.Inner.{PutsCode, LendsPad, TellsFew, pad_beside, joined_of, joined_by, refined};
 
 use crate::events::{Event, Events, Raw};
 use crate::put::put_code;
@@ -84,10 +85,7 @@ impl Pads {
         ensures there { self.new ≡ with_pad which self.old (pad_of which self.new) }
         ensures within { RawWithin raw }
     {
-        match which {
-            Which::First => put_code(&mut self.first, code, raw),
-            Which::Second => put_code(&mut self.second, code, raw),
-        }
+        put_code(self.pad_mut(which), code, raw)
     }
 
     // Another map for the pad that a call is for, and that pad's events.
@@ -96,10 +94,7 @@ impl Pads {
         ensures left { self.new ≡ with_pad which self.old (change_map_of (pad_of which self.old) map.now).pad }
         ensures short { ShortAll (held map.now) }
     {
-        match which {
-            Which::First => self.first.change_map(map),
-            Which::Second => self.second.change_map(map),
-        }
+        self.pad_mut(which).change_map(map)
     }
 
     // The pad that a call is for.
@@ -109,6 +104,17 @@ impl Pads {
         match which {
             Which::First => &self.first,
             Which::Second => &self.second,
+        }
+    }
+
+    // The same, lent to be changed: the other one stays as it is.
+    fn pad_mut(&mut self, which: Which) -> &mut Pad
+        ensures* writes_back { sem 𝓛 (LendsPad which self.entry result) }
+        ensures lent { result.now ≡ pad_of which self.old }
+    {
+        match which {
+            Which::First => &mut self.first,
+            Which::Second => &mut self.second,
         }
     }
 

@@ -11,8 +11,8 @@ use line::ev::{AxisOrBtn, Code};
 use line::mapping::{Entry, Mapping};
 use line::parser::{AxisRange, Ranges};
 
-// The part that counts: the rest of d where it is inverted. That n is at most d is said at the three functions that take
-// them: a type of its own for two numbers, made in one place and taken apart in the next, would be no plainer.
+// The part that counts: the rest of d where it is inverted. That n is at most d is asked, and no struct says it:
+// `part_of`'s definition, public in specs, tells the part as two numbers.
 fn turn(inverted: bool, n: u32, d: u32) -> u32
     requires { Proper n d }
     ensures { (result ≡ turned inverted n d) × Proper result d }

@@ -47,9 +47,7 @@ pub fn gather(slots: &[Option<Code>], kind: Kind, list: &[u32]) -> Result<Filled
     let mut filled = ArrayVec::new();
     for (i, slot) in slots.iter().enumerate() {
         if let Some(code) = *slot {
-            let Some(place) = find_code(list, code) else {
-                return Err(MappingError::InvalidCode(code));
-            };
+            let place = find_code(list, code).ok_or(MappingError::InvalidCode(code))?;
             let entry = Entry::new(code, kind.element(i as u16));
             filled.push(Placed { entry, place });
         }

@@ -1,15 +1,16 @@
 -- By the slot: an empty one, one whose code is in the list, and one whose code is missing. Assumes nothing.
 use Rattle.std.proofs.Common.{arith, sym, ◌∙◌}
-use Rattle.map.proofs.FilledLaws.{gather_empty, gather_filled, gather_missing, gather_end}
+use Rattle.map.proofs.FilledLaws.{unlisted, gather_empty, gather_filled, gather_missing, gather_end}
 use Rattle.map.proofs.from_data.gather.gather.Goals as goal
-use Rattle.map.proofs.from_data.gather.gather.Goals.{in_default, in-Some+in-Some-find_code}
+use Rattle.map.proofs.from_data.gather.gather.Goals.{in_default, in-Some+in_ok-place}
 
-pub returns-in_default-find_code : goal.returns-in_default-find_code
-returns-in_default-find_code c =
-    λ rest.
+pub returns-in_err-place : goal.returns-in_err-place
+returns-in_err-place c =
     let a = c.args in
-    rw (gather_missing a.list.now a.kind a.slots.now c.loop-i.i (omega arith) _ c.loop-i.invariant _
-    c.in-Some.is (sym c.find_code.ensures ∙ c.in_default-find_code.is))
+    let away = unlisted _ _ _ c.in_err-place.ensures.value _ c.from_residual.ensures.1 in
+    rw away.0
+    (λ rest. rw (gather_missing a.list.now a.kind a.slots.now c.loop-i.i (omega arith) _ c.loop-i.invariant _
+    c.in-Some.is (sym c.find_code.ensures ∙ away.1)))
 
 pub loop-i-preserved : goal.loop-i-preserved
 loop-i-preserved c =
@@ -19,10 +20,10 @@ loop-i-preserved c =
           rw w.filled-is
           (gather_empty a.list.now a.kind a.slots.now c.loop-i.i (omega arith) _ c.loop-i.invariant
           w.in_default.is)
-      | in-Some+in-Some-find_code w ↦
+      | in-Some+in_ok-place w ↦
           rw (w.filled-is, w.push.ensures.items)
           (gather_filled a.list.now a.kind a.slots.now c.loop-i.i (omega arith) _ c.loop-i.invariant w.in-Some.code
-          w.in-Some.is w.in-Some-find_code.place (sym w.find_code.ensures ∙ w.in-Some-find_code.is) w.new-entry.result
+          w.in-Some.is w.in_ok-place.place (sym w.find_code.ensures ∙ w.in_ok-place.ensures.ok_part) w.new-entry.result
           (rw w.element.ensures at w.new-entry.ensures))
     ]
 
