@@ -108,13 +108,12 @@ fn fill(mut file: File, store: Halves) -> io::Result<()> {
     file.sync_all()
 }
 
-// The folder of a file, by its path up to the last slash. A match, and not `map_or`: the slice is taken where the slash
-// is known to lie in the path.
+// The folder of a file, by its path up to the last slash.
 fn folder_of(path: &[u8]) -> &[u8] {
-    match path.iter().rposition(|b| *b == b'/') {
-        Some(n) => &path[..=n],
-        None => b".",
-    }
+    path.iter()
+        .rposition(|b| *b == b'/')
+        .and_then(|n| path.get(..=n))
+        .unwrap_or(b".")
 }
 
 // A store that is changed, by the name of its file.

@@ -1,5 +1,7 @@
 // What the programs ask of the system: the three outputs, the arguments, and files by the bytes of their names.
 // Where the reader of a pipe has gone, a program says and changes nothing more, and ends as the signal SIGPIPE ends one.
+ghost use Rattle.std.specs.Prelude.{◌≤◌, length};
+
 use crate::fields::{before, first, without};
 use std::cell::Cell;
 use std::env::FillError;
@@ -9,9 +11,9 @@ use std::io::{Cursor, Error, ErrorKind, Result, Write};
 use std::rt::Env;
 use std::{fs, str};
 
-// The outputs are the system's numbers, and parameters that name one are numbers, not an enum of three: any may come in,
-// as it could before; one that is none of the three is not written to. The console and the number stay two parameters:
-// tied into one value they would name the same two things at each call, and most callers have the console alone.
+// The outputs are the system's numbers, and parameters that name one are numbers, not an enum of three: any number
+// may come in, and one that is none of the three is not written to. The console and the number stay two parameters: tied
+// into one value they would name the same two things at each call, and most callers have the console alone.
 pub const OUT: i32 = 1;
 
 pub const ERR: i32 = 2;
@@ -140,7 +142,9 @@ pub fn write_error(console: &Console, error: Error) {
 }
 
 // Argument `i`, which is put into `space`; nothing where there is none, or it is longer.
-pub fn argument<'a>(console: &Console, i: usize, space: &'a mut [u8]) -> &'a [u8] {
+pub fn argument<'a>(console: &Console, i: usize, space: &'a mut [u8]) -> &'a [u8]
+    ensures { length result.now ≤ length space.old }
+{
     let n = console.rt.arg(i, space).unwrap_or(0);
     first(space, n)
 }

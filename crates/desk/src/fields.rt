@@ -1,5 +1,6 @@
 // Parts of a text: before and after a byte, the part at a place, the first bytes. The crate parts has some of the same
 // (before, after, first): it serves the test programs, and the hub does not rest on it.
+ghost use Rattle.std.specs.Prelude.{◌≤◌, length};
 
 // What stands before the first `b`, and what stands after it; None where there is none.
 fn split_once(s: &[u8], b: u8) -> Option<(&[u8], &[u8])> {
@@ -18,7 +19,9 @@ pub fn after(s: &[u8], b: u8) -> &[u8] {
 }
 
 // The first of them, or all where there are fewer.
-pub fn first<T>(s: &[T], len: usize) -> &[T] {
+pub fn first<T>(s: &[T], len: usize) -> &[T]
+    ensures { length result.now ≤ length s.now }
+{
     s.get(..len).unwrap_or(s)
 }
 

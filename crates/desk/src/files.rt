@@ -20,7 +20,7 @@ pub const ARG_ROOM: usize = 16384;
 
 // The room for half a store, for a list and for an argument. The length is said, since a repeat of so many is long to
 // count.
-fn half() -> [u8; HALF]
+pub fn half() -> [u8; HALF]
     ensures { 65535 ≡ length result }
 {
     [0u8; HALF]

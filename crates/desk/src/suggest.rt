@@ -7,7 +7,7 @@ use crate::say::put;
 const FAR: usize = 3;
 
 // How many bytes the two have in common at their starts.
-fn common_start(a: &[u8], b: &[u8]) -> usize {
+pub fn common_start(a: &[u8], b: &[u8]) -> usize {
     a.iter()
         .zip(b)
         .take_while(|(x, y)| x.eq_ignore_ascii_case(y))
@@ -37,9 +37,9 @@ fn apart(a: &[u8], b: &[u8]) -> usize {
 // What is searched for, the nearest name so far, and how far it is apart.
 #[derive(Clone, Copy)]
 pub struct Near<'a> {
-    key: &'a [u8],
-    name: &'a [u8],
-    apart: usize,
+    pub key: &'a [u8],
+    pub name: &'a [u8],
+    pub apart: usize,
 }
 
 impl<'a> Near<'a> {

@@ -129,7 +129,7 @@ pub fn is_pad_name(arg: &[u8]) -> bool {
 }
 
 // Pad `n` of a list of devices, from 1 on; None where there are fewer.
-fn pad_device(list: &[u8], n: u16) -> Option<&[u8]> {
+pub fn pad_device(list: &[u8], n: u16) -> Option<&[u8]> {
     let before = (n as usize).checked_sub(1)?;
     devices_in(list).filter(|device| is_pad(device)).nth(before)
 }

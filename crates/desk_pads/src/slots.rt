@@ -18,7 +18,7 @@ pub struct Slots {
 }
 
 // The kind of an element's own list.
-fn kind_of(e: AxisOrBtn) -> Kind {
+pub fn kind_of(e: AxisOrBtn) -> Kind {
     if e.is_button() {
         Kind::Button
     } else {

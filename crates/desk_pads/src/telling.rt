@@ -119,7 +119,7 @@ impl Telling<'_> {
         }
     }
 
-    // A code that the pad has no room for.
+    // A code that the pad has no room for. pad gives the refusal of an answer alone, so the error is one again here.
     fn say_refused(&mut self, e: TooManyCodes) {
         say(self.console, b"no event: ");
         if let Err(refusal) = pad_outcome(Err(e)) {

@@ -55,7 +55,7 @@ impl<'a> Choice<'a> {
     }
 }
 
-// Whether the arguments besides the party are that one, or none.
-pub fn is_one(others: usize, argument: Option<usize>) -> bool {
-    others == 0 || others == 1 && argument.is_some()
+// Whether the arguments besides the party are the one that is known, or none.
+pub fn is_one(others: usize, is_known: bool) -> bool {
+    others == 0 || others == 1 && is_known
 }

@@ -37,7 +37,7 @@ fn insert_list(console: &Console, file: &mut StoreFile) -> Result<(), Failure> {
 ";
     say(console, list);
     let inserted = insert(&mut file.index, &mut file.text, Party::Hall, list);
-    let store = View::of(file);
+    let store = View::from(&*file);
     let report = Report {
         list,
         party: Party::Hall,
@@ -63,14 +63,14 @@ fn save_pad(console: &Console, file: &mut StoreFile) {
         b"Seat 4",
         PAD,
     );
-    say_saved(console, View::of(file).line(KEY), saved.map);
+    say_saved(console, View::from(&*file).line(KEY), saved.map);
 }
 
 // `hub demo`
 pub fn demo(console: &Console) -> Result<(), Failure> {
     let mut file = StoreFile::new();
     say(console, b"1. hub new STORE: a fresh store\n\n");
-    say_sound(console, View::of(&file))?;
+    say_sound(console, View::from(&file))?;
     say(
         console,
         b"\n2. hub insert STORE FILE: a list of four lines\n\n",
@@ -85,7 +85,7 @@ pub fn demo(console: &Console) -> Result<(), Failure> {
         b"   jump (a) is on button code 10131; the line that is filed, and its map\n\n",
     );
     save_pad(console, &mut file);
-    let store = View::of(&file);
+    let store = View::from(&file);
     say(
         console,
         b"\n4. hub find STORE UUID: the line is found again\n\n",

@@ -159,7 +159,7 @@ fn file_line(
 ) -> Result<(), Failure> {
     let inserted = insert(&mut file.index, &mut file.text, key.party, line);
     refused_outcome(console, store_outcome(inserted.answer))?;
-    if View::of(file).line(key) == line {
+    if View::from(&*file).line(key) == line {
         return Ok(());
     }
     complain(
@@ -181,7 +181,7 @@ fn say_edited(console: &Console, former: &[u8], line: &[u8]) {
 
 fn edit_held(console: &Console, target: Target, key: LineKey, from: usize) -> Result<(), Failure> {
     let former = target.load(console)?;
-    let store = View::of(&former);
+    let store = View::from(&former);
     exact(console, store, key)?;
     let held = store.line(key);
     let made = new_line(console, held, from).map_err(|failure| unchanged(console, failure))?;

@@ -1,4 +1,5 @@
 // The command export: lines for other programs.
+use crate::choosing::is_one;
 use crate::holding::sound;
 use crate::parties::{Caller, owner_of};
 use crate::records::{View, uuid_of};
@@ -46,21 +47,16 @@ fn say_exported(console: &Console, line: &[u8], digits: bool) {
     say(console, b"\n");
 }
 
-// Whether the arguments besides the party are the word `digits`, or none.
-fn is_asked(others: usize, digits: bool) -> bool {
-    others == 0 || others == 1 && digits
-}
-
 // `hub export STORE ..`
 pub fn export_store(console: &Console, path: &[u8], from: usize) -> Result<(), Failure> {
     let caller = Caller::named(console, from);
     let digits = has_word(console, b"digits", from);
-    if !is_asked(caller.others, digits) {
+    if !is_one(caller.others, digits) {
         return Err(wrong_use(console, b"export"));
     }
     let party = caller.party()?;
     let file = load(console, path)?;
-    let store = View::of(&file);
+    let store = View::from(&file);
     sound(console, store, party)?;
     for record in store.records() {
         if let Some(line) = record.line {

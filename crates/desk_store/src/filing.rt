@@ -54,7 +54,7 @@ fn swap(console: &Console, target: Target, old: &StoreFile) -> Result<(), Failur
     target.replace(console, &file, old)?;
     say(console, b"undone; hub undo once more takes this back\n");
     // A store that is not sound is put back all the same, and what it is is said.
-    let _ = say_sound(console, View::of(old));
+    let _ = say_sound(console, View::from(old));
     Ok(())
 }
 
@@ -62,7 +62,7 @@ fn swap(console: &Console, target: Target, old: &StoreFile) -> Result<(), Failur
 fn restore(console: &Console, target: Target, old: &StoreFile) -> Result<(), Failure> {
     target.place(console, old)?;
     say(console, b"the store was gone, and is STORE.old again\n");
-    let _ = say_sound(console, View::of(old));
+    let _ = say_sound(console, View::from(old));
     Ok(())
 }
 

@@ -30,7 +30,7 @@ struct Extent {
 
 // The lines held, and the room left in the index.
 #[derive(Clone, Copy)]
-pub(crate) struct Room {
+pub struct Room {
     pub held: usize,
     pub index: usize,
 }
@@ -65,7 +65,7 @@ pub(crate) fn say_shown_line(console: &Console, line: &[u8]) {
 }
 
 // Prints the line that a party holds under a UUID, or else under that without its checksum.
-pub(crate) fn say_line(console: &Console, store: View, key: LineKey) -> Result<(), Failure> {
+pub fn say_line(console: &Console, store: View, key: LineKey) -> Result<(), Failure> {
     say_shown_line(console, near_line(console, store, key, b"")?);
     Ok(())
 }
@@ -90,7 +90,7 @@ pub fn find_line(console: &Console, path: &[u8], key: &[u8], from: usize) -> Res
     }
     let party = caller.party()?;
     let file = load(console, path)?;
-    let store = View::of(&file);
+    let store = View::from(&file);
     match Uuid::parse_str(key) {
         Some(spelled) => {
             let id = spelled.id;
@@ -171,7 +171,7 @@ impl Extent {
 }
 
 // The room of a sound store.
-pub(crate) fn room_in(store: View) -> Room {
+pub fn room_in(store: View) -> Room {
     Extent::of(store).room()
 }
 
@@ -189,7 +189,8 @@ fn say_extent(console: &Console, store: View) {
     put_sum(console, OUT, claims);
 }
 
-// That a store is sound, and what it holds.
+// That a store is sound, and what it holds. This, say_long and say_list differ in what is printed between two calls: one
+// function for all would take that as a closure, ask a `requires` of it, and be no shorter.
 pub(crate) fn say_sound(console: &Console, store: View) -> Result<(), Failure> {
     sound(console, store, Party::Hall)?;
     say(console, b"sound: ");
@@ -218,17 +219,17 @@ pub(crate) fn say_list(console: &Console, store: View) -> Result<(), Failure> {
 // `hub list STORE`
 pub fn list_store(console: &Console, path: &[u8]) -> Result<(), Failure> {
     let file = load(console, path)?;
-    say_list(console, View::of(&file))
+    say_list(console, View::from(&file))
 }
 
 // `hub list STORE long`
 pub fn list_long(console: &Console, path: &[u8]) -> Result<(), Failure> {
     let file = load(console, path)?;
-    say_long(console, View::of(&file))
+    say_long(console, View::from(&file))
 }
 
 // `hub check STORE`
 pub fn check_store(console: &Console, path: &[u8]) -> Result<(), Failure> {
     let file = load(console, path)?;
-    say_sound(console, View::of(&file))
+    say_sound(console, View::from(&file))
 }

@@ -29,12 +29,12 @@ fn insert_text(
     if has_filed(inserted.answer) {
         target.replace(console, &former, &file)?;
     }
-    let store = View::of(&file);
+    let store = View::from(&file);
     let report = Report {
         list,
         party,
         inserted,
-        held: room_in(View::of(&former)).held,
+        held: room_in(View::from(&former)).held,
         store,
     };
     report.say(console)
@@ -91,7 +91,7 @@ pub fn insert_list(
     target.may_change(console)?;
     let caller = Caller::named(console, from);
     let only = argument_with(console, b"only", from);
-    if !is_one(caller.others, only) {
+    if !is_one(caller.others, only.is_some()) {
         return Err(wrong_use(console, b"insert"));
     }
     let party = caller.party()?;

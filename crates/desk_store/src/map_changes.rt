@@ -12,6 +12,7 @@ use desk_pads::playing::{Play, say_element, say_which};
 use line::mapping::Mapping;
 use pad::events::{Event, Events};
 use pad::two::Which;
+use std::str;
 use text::uuid::Uuid;
 
 // The most digits of a number of records.
@@ -26,17 +27,10 @@ struct MapChange {
 
 // A number of one to nine digits.
 pub fn parse_count(s: &[u8]) -> Option<usize> {
-    if s.is_empty() || DIGITS_MAX < s.len() {
+    if DIGITS_MAX < s.len() || !s.iter().all(|b| b.is_ascii_digit()) {
         return None;
     }
-    s.iter().try_fold(0, with_digit)
-}
-
-fn with_digit(n: usize, b: &u8) -> Option<usize> {
-    if !b.is_ascii_digit() {
-        return None;
-    }
-    n.checked_mul(10)?.checked_add(usize::from(*b - b'0'))
+    str::from_utf8(s).ok()?.parse().ok()
 }
 
 // `2:UUID`

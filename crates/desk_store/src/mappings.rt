@@ -85,7 +85,7 @@ fn show_line(console: &Console, line: &[u8], lists: &Lists) -> Result<(), Failur
 
 fn show_held(console: &Console, path: &[u8], id: Uuid, asked: Request) -> Result<(), Failure> {
     let file = load(console, path)?;
-    let line = near_line(console, View::of(&file), asked.key(id), b"")?;
+    let line = near_line(console, View::from(&file), asked.key(id), b"")?;
     show_line(console, line, &asked.lists)
 }
 

@@ -28,15 +28,16 @@ pub struct LineKey {
     pub id: Uuid,
 }
 
-impl<'a> View<'a> {
-    // Not `From`, which would not take a file that is lent to be changed.
-    pub fn of(file: &'a StoreFile) -> View<'a> {
+impl<'a> From<&'a StoreFile> for View<'a> {
+    fn from(file: &'a StoreFile) -> View<'a> {
         View {
             index: &file.index,
             text: &file.text,
         }
     }
+}
 
+impl<'a> View<'a> {
     // The records of a sound store.
     pub fn records(self) -> Records<'a> {
         Records { left: self }

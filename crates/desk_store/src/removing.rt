@@ -87,7 +87,7 @@ fn rest(console: &Console, former: View, store: View, key: LineKey) -> Result<()
 // Takes the line of a key out of a store.
 fn remove_held(console: &Console, target: Target, key: LineKey) -> Result<(), Failure> {
     let old = target.load(console)?;
-    let former = View::of(&old);
+    let former = View::from(&old);
     let mut file = old;
     let cleared = clear(&mut file.index, &mut file.text);
     refused_outcome(console, store_outcome(cleared))?;
@@ -95,7 +95,7 @@ fn remove_held(console: &Console, target: Target, key: LineKey) -> Result<(), Fa
     if refile(console, &mut file, former, key).is_err() {
         return Err(unchanged(console, b"a share or a line could not be put back"));
     }
-    let store = View::of(&file);
+    let store = View::from(&file);
     rest(console, former, store, key)?;
     target.replace(console, &old, &file)?;
     say(console, b"removed: ");

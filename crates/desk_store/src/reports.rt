@@ -44,11 +44,11 @@ pub fn has_filed(answer: Result<(), StoreError>) -> bool {
     )
 }
 
-// Where there is no room, in the index or in the text: the refusal's number.
+// Where there is no room.
 #[derive(Clone, Copy, PartialEq, Eq)]
 pub enum Full {
-    Index = 21,
-    Text = 25,
+    Index,
+    Text,
 }
 
 // A line that has no room in a store, in the place of one of `freed` bytes.

@@ -26,7 +26,7 @@ use store::calls::{SaveError, Saved, save};
 use text::uuid::Uuid;
 
 // A saved line and its map.
-pub(crate) fn say_saved(console: &Console, line: &[u8], map: Mapping) {
+pub fn say_saved(console: &Console, line: &[u8], map: Mapping) {
     say_shown_line(console, line);
     say_map(console, &map, line);
 }
@@ -95,8 +95,8 @@ impl Save<'_> {
         Failure::Refused
     }
 
-    fn no_room(&self, console: &Console, full: Full, store: View) -> Failure {
-        put_refused(console, ERR, full as usize);
+    fn no_room(&self, console: &Console, e: SaveError, full: Full, store: View) -> Failure {
+        put_refused(console, ERR, usize::from(e.refusal().number));
         complain(console, b"\n  ");
         let no_room = NoRoom {
             full,
@@ -113,8 +113,8 @@ impl Save<'_> {
     fn refused(&self, console: &Console, e: SaveError, store: View) -> Failure {
         match e {
             SaveError::Refused(e) => self.refused_build(console, e),
-            SaveError::NoRoom => self.no_room(console, Full::Index, store),
-            SaveError::NoText => self.no_room(console, Full::Text, store),
+            SaveError::NoRoom => self.no_room(console, e, Full::Index, store),
+            SaveError::NoText => self.no_room(console, e, Full::Text, store),
             _ => refused_by(console, e.refusal()),
         }
     }
@@ -126,10 +126,10 @@ impl Save<'_> {
         let saved = self.file(&mut file);
         saved
             .answer
-            .map_err(|e| self.refused(console, e, View::of(&file)))?;
+            .map_err(|e| self.refused(console, e, View::from(&file)))?;
         target.replace(console, &former, &file)?;
-        let line = View::of(&file).line(self.key);
-        say_filed(console, View::of(&former).line(self.key), line, saved.map);
+        let line = View::from(&file).line(self.key);
+        say_filed(console, View::from(&former).line(self.key), line, saved.map);
         Ok(())
     }
 }

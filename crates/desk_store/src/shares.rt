@@ -19,7 +19,7 @@ const TOO_MANY: usize = 65536;
 
 // How many parties have a share, and the sum over all parties of the larger of use and share.
 #[derive(Clone, Copy, Default)]
-pub(crate) struct Claims {
+pub struct Claims {
     pub shares: usize,
     pub bytes: usize,
 }
@@ -30,7 +30,7 @@ fn told_of(store: View, owner: u8) -> ShareUse {
 }
 
 // The share of a party in a sound store.
-pub(crate) fn share_in(store: View, owner: u8) -> usize {
+pub fn share_in(store: View, owner: u8) -> usize {
     told_of(store, owner).share
 }
 
@@ -100,7 +100,7 @@ fn claims_seen<F: Fn(u8, ShareUse)>(store: View, see: F) -> Claims
 }
 
 // What the parties claim in a sound store.
-pub(crate) fn claims_in(store: View) -> Claims {
+pub fn claims_in(store: View) -> Claims {
     claims_seen(store, |_, _| {})
 }
 
@@ -110,7 +110,7 @@ fn put_claims(console: &Console, fd: i32, store: View) -> Claims {
 }
 
 // `claimed: 513 of 65535 bytes ..`
-pub(crate) fn put_sum(console: &Console, fd: i32, claims: Claims) {
+pub fn put_sum(console: &Console, fd: i32, claims: Claims) {
     put(console, fd, b"claimed: ");
     put_number(console, fd, claims.bytes);
     put(console, fd, b" of ");
@@ -131,13 +131,13 @@ fn left_to(store: View, told: ShareUse) -> usize {
 }
 
 // How many bytes a line of a party can have that takes the place of one of `freed` bytes.
-pub(crate) fn free_for(store: View, party: Party, freed: usize) -> usize {
+pub fn free_for(store: View, party: Party, freed: usize) -> usize {
     let told = told_of(store, owner_of(party));
     left_to(store, told).saturating_sub(told.used.saturating_sub(freed))
 }
 
 // Who claims what of the text, where a share is set.
-pub(crate) fn complain_claims(console: &Console, store: View) {
+pub fn complain_claims(console: &Console, store: View) {
     if claims_in(store).shares == 0 {
         return;
     }
@@ -151,7 +151,7 @@ pub(crate) fn complain_claims(console: &Console, store: View) {
 // `hub shares STORE`
 pub fn list_shares(console: &Console, path: &[u8]) -> Result<(), Failure> {
     let file = load(console, path)?;
-    let store = View::of(&file);
+    let store = View::from(&file);
     share_of(store.index, store.text, 0).map_err(|e| refused_by(console, e.refusal()))?;
     put_sum(console, OUT, put_claims(console, OUT, store));
     Ok(())
@@ -228,11 +228,11 @@ fn set_in(console: &Console, target: Target, owner: u8, bytes: usize) -> Result<
     set_share(&mut file.index, &file.text, owner, bytes).map_err(|e| refused_share(
         console,
         e,
-        View::of(&file),
+        View::from(&file),
         owner,
     ))?;
     target.replace(console, &former, &file)?;
-    say_set(console, View::of(&file), owner);
+    say_set(console, View::from(&file), owner);
     Ok(())
 }
 

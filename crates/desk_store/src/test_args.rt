@@ -73,10 +73,10 @@ pub struct Seen {
 // arguments name the recordings and the second pad's UUID; and after how many records it ends. They stand from `from` on.
 #[derive(Clone, Copy)]
 pub struct Request {
-    first: Lists,
-    buttons: Option<Codes>,
-    axes: Option<Codes>,
-    party: Party,
+    pub first: Lists,
+    pub buttons: Option<Codes>,
+    pub axes: Option<Codes>,
+    pub party: Party,
     pub stream: usize,
     pub beside: Option<usize>,
     pub uuid: Option<usize>,

@@ -191,7 +191,7 @@ fn other_id(console: &Console, id: Uuid, asked: &Request) -> Result<Uuid, Failur
 fn test_held(console: &Console, path: &[u8], id: Uuid, asked: Request) -> Result<(), Failure> {
     let other = other_id(console, id, &asked)?;
     let file = load(console, path)?;
-    let store = View::of(&file);
+    let store = View::from(&file);
     let test = Test {
         store,
         asked: &asked,

@@ -19,6 +19,7 @@ use std::alloc::{AllocError, Global};
 use std::io::Read;
 use std::rt::Files;
 use std::{fs, io};
+use store::parties::Party;
 
 // The most bytes of a list, and of each of the store's two buffers.
 const ROOM: usize = 65536;
@@ -35,17 +36,9 @@ const FILES: [&str; 9] = [
     "share-history.txt",
 ];
 
-// One call of a party on the store, a comparison of a whole buffer, or a change of its bytes. The two buffers stand
-// beside each other here and below, as the store's own calls take them.
-fn run_case(
-    alloc: Global,
-    index: &mut [u8],
-    text: &mut [u8],
-    line: &[u8],
-) -> Result<bool, AllocError> {
-    let (party, call) = party_and_call(line);
+// One call of a party on the store, a comparison of a whole buffer, or a change of its bytes.
+fn run_case(alloc: Global, store: Store, call: &[u8]) -> Result<bool, AllocError> {
     let args = rest(call);
-    let store = Store { index, text, party };
     match word(call) {
         b"find" => is_looked(alloc, store.find(key_of(args)), args),
         b"near" => is_looked(alloc, store.near(key_of(args)), args),
@@ -69,7 +62,28 @@ fn end_of(whole: &mut [u8], len: usize) -> &mut [u8] {
     &mut whole[from..]
 }
 
-// The lengths of the buffers, and how many cases were run and went wrong, of this group and of all.
+// The store's two buffers, whole.
+#[derive(Drop)]
+struct Buffers {
+    index: [u8; ROOM],
+    text: [u8; ROOM],
+}
+
+impl Buffers {
+    fn new() -> Buffers {
+        Buffers {
+            index: [0u8; ROOM],
+            text: [0u8; ROOM],
+        }
+    }
+
+    fn clear(&mut self) {
+        self.index.fill(0);
+        self.text.fill(0);
+    }
+}
+
+// The lengths of the store's buffers, and how many cases were run and went wrong, of this group and of all.
 #[derive(Drop)]
 struct Run {
     index: usize,
@@ -80,11 +94,20 @@ struct Run {
 
 impl Run {
     // A fresh store: `new INDEX TEXT`.
-    fn renew(&mut self, index: &mut [u8], text: &mut [u8], args: &[u8]) {
-        index.fill(0);
-        text.fill(0);
+    fn renew(&mut self, buffers: &mut Buffers, args: &[u8]) {
+        buffers.clear();
         self.index = big(word(args));
         self.text = big(rest(args));
+    }
+
+    // The store of those lengths, for a call of a party.
+    fn store<'a>(&self, buffers: &'a mut Buffers, party: Party) -> Store<'a> {
+        let Buffers { index, text } = buffers;
+        Store {
+            index: end_of(index, self.index),
+            text: end_of(text, self.text),
+            party,
+        }
     }
 
     // Prints how a group went.
@@ -118,20 +141,18 @@ impl Run {
     fn line<R: Print + AllocGlobal>(
         &mut self,
         rt: &R,
-        index: &mut [u8],
-        text: &mut [u8],
+        buffers: &mut Buffers,
         line: &[u8],
     ) -> io::Result<()> {
         match word(line) {
             [b'=', ..] => self.title(rt, rest(line)),
             b"new" => {
-                self.renew(index, text, rest(line));
+                self.renew(buffers, rest(line));
                 Ok(())
             }
             kind => {
-                let index = end_of(index, self.index);
-                let text = end_of(text, self.text);
-                let right = run_case(rt.alloc(), index, text, line)?;
+                let (party, call) = party_and_call(line);
+                let right = run_case(rt.alloc(), self.store(buffers, party), call)?;
                 if kind.starts_with(b"p") {
                     return Ok(());
                 }
@@ -142,12 +163,11 @@ impl Run {
 
     // Runs a whole list in fresh buffers.
     fn list<R: Print + AllocGlobal>(&mut self, rt: &R, list: &[u8]) -> io::Result<()> {
-        let mut index = [0u8; ROOM];
-        let mut text = [0u8; ROOM];
+        let mut buffers = Buffers::new();
         for ended in list.split_inclusive(|b| *b == b'\n') {
             let line = before(ended, b'\n');
             if !is_blank(line) {
-                self.line(rt, &mut index, &mut text, line)?;
+                self.line(rt, &mut buffers, line)?;
             }
         }
         self.finish(rt)
