@@ -3,6 +3,7 @@ use Rattle.std.specs.Prelude.{Option, Some, None}
 use Rattle.std.specs.Option.{is_some}
 use Prim.Native.Nat.{ℕ, zero, suc, ◌+◌, ◌-◌, ◌/◌, ◌<◌, ◌≤◌}
 use mathlib.Core.Path.{◌≡◌, refl, sym, ap, ◌∙◌}
+use mathlib.Core.Logic.{⊎_elim}
 use mathlib.Core.Bool.{Bool, true, false}
 use mathlib.Core.List.{List, [], ◌∷◌, ◌++◌, map}
 use native.Mathlib.Omega.{arith}
@@ -18,6 +19,7 @@ use Rattle.pad.specs.Pads.{put_held, element_at, counts, place_from, place_of}
 use Rattle.line.specs.Numbers.{code_unit}
 use Rattle.pad.specs.States.{held_in, put_number}
 use Rattle.pad.specs.Inner.{place_in, IsPlace}
+use Rattle.pad.proofs.BiasLaws.{lt_or_le}
 
 -- ---- elements
 counts-yes : (last n : ℕ) → 1 ≤ n → n ≤ last → counts last n ≡ true
@@ -77,6 +79,10 @@ from_most first last n h = by (leb 1 n) (leb n last) refl refl
 pub place_most : (el : AxisOrBtn) → place_of el ≤ 27
 place_most (El.Btn b) = from_most 0 19 b.0 (omega arith)
 place_most (El.Axis a) = from_most 19 8 a.0 (omega arith)
+
+pub has_place_lem : (el : AxisOrBtn) (k : ℕ) → k ≡ place_of el → (k ≡ 27 → ⊥) → place_of el < 27
+has_place_lem el k e d =
+    ⊎_elim (λ l. l) (λ l. absurd (d (omega (arith, e, place_most el)))) (lt_or_le (place_of el) 27)
 
 -- whether an element has a place
 pub no_place : (k : ℕ) (o : Option ℕ) → IsPlace k o → is_some o ≡ false → k ≡ 27
