@@ -1,10 +1,10 @@
 -- A reading that is accepted: each of its pairs went, and all their entries fitted. Assumes nothing.
+use Rattle.line.proofs.TurnLaws.{refused_not}
 use Rattle.std.specs.Prelude.{Option, Some, None, Result, Ok, Err, ⊤}
 use Prim.Native.Nat.{ℕ, ◌+◌, ◌≤◌}
 use mathlib.Core.Path.{◌≡◌, refl}
 use mathlib.Core.List.{List, [], ◌∷◌}
 use mathlib.Core.Bool.{Bool, true, false}
-use native.Mathlib.Omega.{arith}
 use borrow.Author.Tests.{leb-true}
 use lib.Dec.{leb, eqb, ltb}
 use lib.ListN.{length, get_or}
@@ -37,9 +37,6 @@ use Rattle.line.proofs.PickLaws.{picked}
 use Rattle.line.proofs.ViewLaws.{with, put_to_map}
 use Rattle.line.proofs.PairLaws.{PairAnswer, pair_answer, pair_anywhere}
 use Rattle.line.proofs.FoldLaws.{puts_append, one_fits, Fits, pair_fits}
-
-pub refused_not : {A : Type 0} (e : ParseSdlMappingError) → ◌≡◌ {A = Result ⊤ ParseSdlMappingError} (Err e) (Ok tt) → A
-refused_not e h = let z : ◌≡◌ {A = ℕ} 0 1 = cc in absurd (omega arith)
 
 -- ---- an accepted whole has an accepted first part
 module _ (r : SdlMapping) where

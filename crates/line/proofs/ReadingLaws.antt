@@ -1,6 +1,7 @@
 -- The rest of a reading, from where the walker stands: a step of the walker takes the next field of the line.
 -- Assumes nothing.
-use Rattle.std.specs.Prelude.{Option, Some, None, Result, Ok, Err, ⊤}
+use Rattle.line.proofs.TurnLaws.{refused_not}
+use Rattle.std.specs.Prelude.{Option, Some, None, Ok, Err}
 use Prim.Native.Nat.{ℕ, ◌+◌, ◌≤◌, ◌<◌}
 use mathlib.Core.Path.{◌≡◌, refl, ◌∙◌}
 use mathlib.Core.List.{List, [], ◌∷◌}
@@ -115,9 +116,6 @@ module _ (s : List ℕ) (p : ℕ) (m : Mapping) (buttons axes : List ℕ) (h : p
   rest_step st = rw (lt-ltb p (length s) h) (field_step st)
 
 -- ---- an accepted turn moves on
-refused_not : {A : Type 0} (e : ParseSdlMappingError) → ◌≡◌ {A = Result ⊤ ParseSdlMappingError} (Err e) (Ok tt) → A
-refused_not e h = let z : ◌≡◌ {A = ℕ} 0 1 = cc in absurd (omega arith)
-
 module _ (p e n : ℕ) (m : Mapping) (buttons axes : List ℕ) (h : p ≤ e) where
   uuid_ends : (u : Spelled) (t : Bool)
       → (turn m (pick t (stepped (refuse 2 0) p St.Invalid) (stepped (Some (Ok (Tk.Uuid u.id))) (e + 1) St.Name))

@@ -32,7 +32,8 @@ use Rattle.line.proofs.PutLaws.{put_commute}
 use Rattle.line.proofs.PermutationLaws.{permuted_back, in_permuted, permuted_after, permuted_swap, or_swap}
 use Rattle.line.proofs.CommaLaws.{AllValid, first_valid, valid_first, fields_valid, valid_fields}
 use Rattle.line.proofs.FoldLaws.{pairs_fit}
-use Rattle.line.proofs.AcceptedLaws.{refused_not, pairs_accepted}
+use Rattle.line.proofs.AcceptedLaws.{pairs_accepted}
+use Rattle.line.proofs.TurnLaws.{refused_not}
 use Rattle.line.proofs.ReadBack.{named, shaped, line_shape}
 
 -- ---- entries and flags

@@ -1,11 +1,12 @@
 -- Laws of the filled slots: how they are gathered, slot after slot, and how many there are.
 -- Assumes nothing.
+use Rattle.text.proofs.ListLaws.{place_turn}
 use Rattle.std.proofs.Common.{ap, ℕ, zero, suc, ◌+◌, ◌-◌, ◌<◌, ◌≤◌, ◌≡◌, Bool, true, false, cond, Option, Some, None, List, [], ◌∷◌, ◌++◌, length, get_or, eqb, ltb, refl, sym, ◌∙◌, append_assoc, append-nil, length-append, add-one, arith, lt-ltb, position, is_some}
 use Rattle.std.specs.Prelude.{Result, Err, ok_or, IsErrAnd}
 use Rattle.std.specs.List.{position_or_len}
 use Rattle.std.proofs.lemmas.Result.{err_from_is_err_and}
 use Rattle.std.proofs.lemmas.List.Recursion.{is_position_or_len}
-use Rattle.text.specs.Bytes.{pick, first_of}
+use Rattle.text.specs.Bytes.{first_of}
 use Rattle.line.specs.declared.ev.Code.{Code}
 use Rattle.line.specs.declared.ev.AxisOrBtn.{AxisOrBtn}
 use Rattle.line.specs.declared.mapping.Entry.{Entry}
@@ -21,10 +22,6 @@ use Rattle.map.specs.Lists.{place_of, in_list}
 use Rattle.map.specs.Inner.{placed_at, placed_in, element_of, filled_after}
 
 -- ---- a code's first place
-place_turn : (t : Bool) (n : ℕ) → pick t 0 (suc n) ≡ cond t 0 (1 + n)
-place_turn true n = refl
-place_turn false n = omega arith
-
 pub place_is : (c : ℕ) (xs : List ℕ) → first_of c xs ≡ position_or_len (λ x. eqb x c) xs
 unfolding first_of
 place_is c xs = is_position_or_len (first_of c) (λ x. eqb x c) refl (λ x s. place_turn (eqb x c) (first_of c s)) xs

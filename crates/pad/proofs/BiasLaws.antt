@@ -7,7 +7,7 @@ use mathlib.Core.Logic.{◌⊎◌, inl, inr, ⊎_elim}
 use mathlib.Core.Bool.{Bool, true, false}
 use lib.Dec.{ltb, eqb}
 use lib.IntN.{ℤ, pos, negsuc, ◌+ℤ◌}
-use borrow.Author.Tests.{lt-ltb, le-ltb, eqb-true, eqb-false, ltb-true, ltb-false}
+use borrow.Author.Tests.{lt-ltb, le-ltb, eqb-true, eqb-false, ltb-false}
 use mir.Syntax.{w16}
 use mir.Val.{SFits, to_z, of_z}
 use mir.ValLaws.{to_z-of_z}
@@ -16,13 +16,7 @@ use Rattle.pad.specs.Values.{part_of}
 use Rattle.pad.specs.Inner.{shifted, unshifted, share_of, Proper}
 use Rattle.line.specs.declared.parser.AxisRange.{AxisRange}
 use Rattle.line.specs.declared.parser.AxisRange.TheVariants as Ar
-
-pub lt_or_le : (a b : ℕ) → (a < b) ⊎ (b ≤ a)
-lt_or_le a b = by (ltb a b) refl
-  where
-    by : (t : Bool) → ltb a b ≡ t → (a < b) ⊎ (b ≤ a)
-    by true e = inl (ltb-true a b e)
-    by false e = inr (ltb-false a b e)
+use Rattle.text.proofs.ListLaws.{lt_or_le}
 
 zero_or_more : (k : ℕ) → (k ≡ 0) ⊎ (0 < k)
 zero_or_more zero = inl refl

@@ -1,4 +1,5 @@
 -- The events of a raw value that was put: at most one, of the element of its code. Assumes nothing.
+use Rattle.text.proofs.ListLaws.{lt_or_le}
 use Rattle.std.specs.Prelude.{Option, Some, None}
 use Prim.Native.Nat.{ℕ, ◌<◌, ◌≤◌}
 use mathlib.Core.Path.{◌≡◌, refl, sym, ap, subst, ◌∙◌}
@@ -21,7 +22,6 @@ use Rattle.pad.specs.Pads.{changes}
 use Rattle.pad.specs.declared.state.Pad.{Pad}
 use Rattle.pad.specs.States.{caught, held_of, entries_of, pad_values, pad_value}
 use Rattle.pad.specs.Inner.{one_event, OnlyOf, Touched, event_by}
-use Rattle.pad.proofs.BiasLaws.{lt_or_le}
 use Rattle.pad.proofs.PlaceLaws.{element_place, other_element, place_most}
 use Rattle.pad.proofs.TouchLaws.{is_of, untouched, none-changed, one_changed}
 

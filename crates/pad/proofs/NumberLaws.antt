@@ -1,5 +1,6 @@
 -- Laws of held codes and entries as numbers, one after the other. Assumes nothing.
-use Rattle.std.proofs.Common.{ℕ, suc, ◌+◌, ◌/◌, ◌<◌, ◌≤◌, ◌≡◌, Bool, true, false, cond, Option, Some, None, Bor, List, [], ◌∷◌, ◌++◌, map, length, get_or, eqb, ltb, refl, sym, ◌∙◌, arith, position, unwrap_or}
+use Rattle.text.proofs.ListLaws.{place_turn}
+use Rattle.std.proofs.Common.{ℕ, suc, ◌/◌, ◌<◌, ◌≤◌, ◌≡◌, Bool, true, false, cond, Option, Some, None, Bor, List, [], ◌∷◌, ◌++◌, map, length, get_or, eqb, ltb, refl, sym, ◌∙◌, arith, position, unwrap_or}
 use borrow.Author.Tests.{ltb-true, ltb-false}
 use lib.IntN.{ℤ}
 use Rattle.std.specs.List.{position_or_len}
@@ -18,10 +19,6 @@ use Rattle.pad.proofs.BackLaws.{met, met-more}
 use Rattle.pad.proofs.PlaceLaws.{place_within}
 
 -- ---- the first place of a code
-place_turn : (t : Bool) (n : ℕ) → pick t 0 (suc n) ≡ cond t 0 (1 + n)
-place_turn true n = refl
-place_turn false n = omega arith
-
 place_is : (c : ℕ) (ys : List ℕ) → place_in c ys ≡ position_or_len (λ y. eqb (y / code_unit) c) ys
 unfolding place_in
 place_is c ys =

@@ -1,4 +1,5 @@
 -- The reader holds the values worked out afresh, after every list of calls. Assumes nothing.
+use Rattle.text.proofs.ListLaws.{lt_or_le}
 use Rattle.std.specs.Prelude.{Ok, Err, Result, ⊤}
 use Prim.Native.Nat.{ℕ, suc, ◌+◌, ◌-◌, ◌*◌, ◌/◌, ◌%◌, ◌<◌, ◌≤◌}
 use mathlib.Core.Path.{◌≡◌, refl, sym, ap, subst, ◌∙◌}
@@ -35,7 +36,7 @@ use Rattle.pad.specs.PadGuarantee.{held_with}
 use Rattle.pad.specs.PadGuarantee.{held_by, map_by, ShortAll, Fitting, ReaderAgrees, ReaderHolds, holds_code}
 use Rattle.pad.specs.PadGuarantee.{NoneTwice, PadHolds, RefusesAt256, OneEvent}
 use Rattle.pad.specs.Inner.{shifted, Touched}
-use Rattle.pad.proofs.BiasLaws.{lt_or_le, sum_is, shifted_small, unshifted-shifted}
+use Rattle.pad.proofs.BiasLaws.{sum_is, shifted_small, unshifted-shifted}
 use Rattle.pad.proofs.ValueLaws.{within_fits}
 use Rattle.pad.proofs.EventLaws.{few_changes}
 use Rattle.pad.proofs.PlaceLaws.{held_put}

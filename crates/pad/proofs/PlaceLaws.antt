@@ -1,4 +1,5 @@
 -- The place of an element among the 27, and of a number among the held ones. Assumes nothing.
+use Rattle.text.proofs.ListLaws.{lt_or_le}
 use Rattle.std.specs.Prelude.{Option, Some, None}
 use Rattle.std.specs.Option.{is_some}
 use Prim.Native.Nat.{ℕ, zero, suc, ◌+◌, ◌-◌, ◌/◌, ◌<◌, ◌≤◌}
@@ -19,7 +20,6 @@ use Rattle.pad.specs.Pads.{put_held, element_at, counts, place_from, place_of}
 use Rattle.line.specs.Numbers.{code_unit}
 use Rattle.pad.specs.States.{held_in, put_number}
 use Rattle.pad.specs.Inner.{place_in, IsPlace}
-use Rattle.pad.proofs.BiasLaws.{lt_or_le}
 
 -- ---- elements
 counts-yes : (last n : ℕ) → 1 ≤ n → n ≤ last → counts last n ≡ true

@@ -1,4 +1,5 @@
 -- What the calls of a pad answer, from what their parts do. Assumes nothing.
+use Rattle.text.proofs.ListLaws.{lt_or_le}
 use Rattle.std.specs.Prelude.{Ok}
 use Prim.Native.Nat.{min, ℕ, zero, suc, ◌/◌, ◌<◌, ◌≤◌}
 use mathlib.Core.Path.{◌≡◌, refl, sym, ap, ◌∙◌}
@@ -27,7 +28,6 @@ use Rattle.pad.specs.States.{held_number, held_in, held_of, entries_of, pad_valu
 use Rattle.pad.specs.States.{put_number}
 use Rattle.pad.specs.States.{with_held, held_after_event, refused_of, raw_event_of, entry_numbers, with_map, change_map_of}
 use Rattle.pad.specs.Inner.{helds_in, place_in, Touched, capped_of, grown_of}
-use Rattle.pad.proofs.BiasLaws.{lt_or_le}
 use Rattle.pad.proofs.PlaceLaws.{placed, place_within, stored, put_onto, put_after, held_put}
 
 -- an array of numbers has as many as its type says: what owning one tells, for `search (needs, numbers_long)`

@@ -1,5 +1,6 @@
 -- Laws of keys and of lists of lines: what striking out, filing and looking up do to each other.
 -- Assumes nothing.
+use Rattle.text.proofs.BytesLaws.{eqb_turned}
 use mathlib.Core.Bool.{Bool, true, false, not, ◌&&◌}
 use mathlib.Core.List.{List, [], ◌∷◌, ◌++◌, append_assoc}
 use mathlib.Core.Option.{Option, none}
@@ -8,7 +9,7 @@ use Prim.Native.Nat.{ℕ, zero, suc, ◌+◌}
 use native.Mathlib.Omega.{arith}
 use lib.Dec.{eqb}
 use lib.ListN.{length, length-append, replicate}
-use borrow.Author.Tests.{eqb-true, eq-eqb, not-true, eqb-false, ne_eqb}
+use borrow.Author.Tests.{eqb-true, eq-eqb, not-true}
 use Rattle.text.specs.Bytes.{pick}
 use Rattle.text.specs.declared.uuid.Uuid.{Uuid}
 use Rattle.store.specs.Decode.{zeroes}
@@ -17,13 +18,6 @@ use Rattle.store.specs.Layout.{Shape, Shapes, texts}
 use Rattle.store.proofs.BoolLaws.{and_left, and_right, and_both, or_false, or_left, or_right}
 
 -- laws of keys
-pub eqb-sym : (x y : ℕ) → eqb x y ≡ eqb y x
-eqb-sym x y = go (eqb x y) refl
-  where
-    go : (b : Bool) → eqb x y ≡ b → b ≡ eqb y x
-    go true e = sym (eq-eqb y x (sym (eqb-true x y e)))
-    go false e = sym (ne_eqb y x (λ q. eqb-false x y e (sym q)))
-
 pub same_refl : (k : Key) → same_key k k ≡ true
 unfolding same_key
 same_refl k =
@@ -46,8 +40,8 @@ same_eq a b e =
 pub same-sym : (a b : Key) → same_key a b ≡ same_key b a
 unfolding same_key
 same-sym a b =
-    ap₂ ◌&&◌ (eqb-sym a.owner b.owner)
-    (ap₂ ◌&&◌ (eqb-sym a.uuid.high b.uuid.high) (eqb-sym a.uuid.low b.uuid.low))
+    ap₂ ◌&&◌ (eqb_turned a.owner b.owner)
+    (ap₂ ◌&&◌ (eqb_turned a.uuid.high b.uuid.high) (eqb_turned a.uuid.low b.uuid.low))
 
 pub zeroes-replicate : (n : ℕ) → zeroes (replicate n 0) ≡ true
 unfolding zeroes

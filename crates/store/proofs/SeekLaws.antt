@@ -19,7 +19,7 @@ use Rattle.text.proofs.BytesLaws.{same_equal, first_at_lem, first_on, first_end,
 use Rattle.text.specs.Search.{begins_text, first_text}
 use Rattle.store.specs.Inner.{is_not}
 use Rattle.store.proofs.BoolLaws.{not-not}
-use Rattle.store.proofs.HeldLaws.{eqb-sym}
+use Rattle.text.proofs.BytesLaws.{eqb_turned}
 use Rattle.store.proofs.WantedLaws.{text_at, text_on, text_within}
 
 -- n bytes that are none of b
@@ -58,7 +58,7 @@ unfolding same
 same_is [] [] = refl
 same_is [] (y ∷ s) = refl
 same_is (x ∷ p) [] = refl
-same_is (x ∷ p) (y ∷ s) = ap₂ (λ (a b : Bool). a && b) (eqb-sym x y) (same_is p s)
+same_is (x ∷ p) (y ∷ s) = ap₂ (λ (a b : Bool). a && b) (eqb_turned x y) (same_is p s)
 
 pub begins_is : (p s : List ℕ) → pointwise eqb p (take (length p) s) ≡ begins_text p s
 begins_is p s = same_is p (take (length p) s)

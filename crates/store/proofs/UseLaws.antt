@@ -1,6 +1,7 @@
 -- Uses by rows: what the rows of a table add up to is what the lines that they give take, and the turns of the loops
 -- that add up uses and claims.
 -- Assumes nothing.
+use Rattle.store.proofs.BookLaws.{owners_below}
 use mathlib.Core.Bool.{Bool, true, false}
 use mathlib.Core.Option.{some}
 use mathlib.Core.List.{List, [], ◌∷◌, ◌++◌}
@@ -21,7 +22,7 @@ use Rattle.store.specs.declared.table.Fill.{Fill}
 use Rattle.store.specs.Held.{Held, text_max}
 use Rattle.store.specs.Decode.{decode}
 use Rattle.store.specs.Inner.{lengths, known}
-use Rattle.store.specs.Layout.{Given, Bytes, Shapes, texts}
+use Rattle.store.specs.Layout.{Given, Bytes, texts}
 use Rattle.store.specs.Rows.{row_in, key_in, len_in, unused}
 use Rattle.store.specs.Shares.{owners, no_shares, use_of, larger, claims_from, claims}
 use Rattle.store.specs.Claims.{not_of, OwnersBelow, Owed, Uses, row_lengths, row_use, Addable, Adds, Sums, Covers}
@@ -328,9 +329,6 @@ owed_on g o hs ks d e w = record {
 
 -- ---- the rows of a sound store
 
-owners_of : (hs : List Held) → Shapes hs → OwnersBelow hs
-owners_of [] w = tt
-owners_of (h ∷ hs) w = (w.0.key.owner, owners_of hs w.1)
 
 module _ (i t : List ℕ) (a : List Row) (heads next : List ℕ) (f : Fill) (loaded : Loads i a heads next f) where
   pub loads_addable : known (decode i t) ≡ true → Addable a f.count × (row_lengths a f.count ≤ f.used)
@@ -348,4 +346,4 @@ module _ (i t : List ℕ) (a : List Row) (heads next : List ℕ) (f : Fill) (loa
       → decode i t ≡ some hs → Owed g o hs d
   loads_owed g o d w b hs e =
       w hs ((loaded t [] hs e).used ∙ sym (lengths-texts hs)) (λ q m. loads_use hs e q)
-      (owners_of hs (laid i t hs b e).rows.lies.shapes)
+      (owners_below hs (laid i t hs b e).rows.lies.shapes)

@@ -59,7 +59,7 @@ pointwise_same [] (y ∷ ys) = refl
 pointwise_same (x ∷ xs) [] = refl
 pointwise_same (x ∷ xs) (y ∷ ys) = ap (both (eqb x y)) (pointwise_same xs ys)
 
-eqb_turned : (x y : ℕ) → eqb x y ≡ eqb y x
+pub eqb_turned : (x y : ℕ) → eqb x y ≡ eqb y x
 eqb_turned x y = go (eqb x y) refl
   where
     go : (t : Bool) → eqb x y ≡ t → t ≡ eqb y x

@@ -4,14 +4,15 @@ use mathlib.Core.Path.{◌≡◌, refl, sym}
 use mathlib.Core.Bool.{Bool, true, false}
 use mathlib.Core.Logic.{◌⊎◌, inl, inr}
 use mathlib.Core.List.{List, ◌∷◌}
-use Prim.Native.Nat.{ℕ, ◌+◌, ◌-◌, ◌<◌, ◌≤◌}
+use Prim.Native.Nat.{ℕ, suc, ◌+◌, ◌-◌, ◌<◌, ◌≤◌}
 use native.Mathlib.Numerals.{add-one}
 use native.Mathlib.Omega.{arith}
 use borrow.Author.Tests.{ltb-true, ltb-false, leb-true, leb-false, le-leb, lt-leb}
 use lib.Dec.{ltb, leb}
 use lib.ListN.{length, take, drop, get_or, length-drop}
 use lib.Seq.{drop-cons, length-take-le, take_all}
-use Rattle.text.specs.Bytes.{both}
+use Rattle.std.specs.Prelude.{cond}
+use Rattle.text.specs.Bytes.{pick, both}
 
 -- ---- numbers and tests
 
@@ -54,3 +55,8 @@ part_to_end s i = take_all (length s - i) (drop i s) (simp length-drop (omega ar
 -- how long a part is
 pub part_length : (s : List ℕ) (n i : ℕ) → i + n ≤ length s → length (take n (drop i s)) ≡ n
 part_length s n i h = length-take-le n (drop i s) (simp length-drop (omega arith))
+
+-- ---- a first place, here or further on
+pub place_turn : (t : Bool) (n : ℕ) → pick t 0 (suc n) ≡ cond t 0 (1 + n)
+place_turn true n = refl
+place_turn false n = omega arith
