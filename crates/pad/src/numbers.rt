@@ -54,8 +54,8 @@ pub fn part_of(v: i16, input: AxisRange) -> Option<(u32, u32)>
     share(biased(v), input)
 }
 
-// The output that n of d is, by its number. That n is at most d is asked, and no struct says it: `part_of`'s definition,
-// public in specs, tells the part as two numbers.
+// The output that n of d is, by its number. That n is at most d is asked, and no struct says it:
+// `part_of`'s definition, public in specs, tells the part as two numbers.
 fn output(e: AxisOrBtn, half: AxisRange, n: u32, d: u32) -> u16
     requires { Proper n d }
     ensures { result ≡ output_at e half n d }

@@ -100,8 +100,8 @@ impl Pad {
     }
 }
 
-// The entries of a map as numbers, and 0 up to 256 of them. By place: a proof is told nothing of what is written through
-// `iter_mut().zip(..)` once the loop is over.
+// The entries of a map as numbers, and 0 up to 256 of them. By place: `iter_mut().zip(..)` was tried, and once the loop
+// is over a proof is told nothing of what it wrote.
 fn entry_numbers(map: Mapping) -> [u64; CODES_MAX]
     ensures { (result ≡ entry_numbers (specs.held map)) × ShortAll (specs.held map) }
 {
