@@ -11,8 +11,8 @@ use std::io::{Cursor, Error, ErrorKind, Result, Write};
 use std::rt::Env;
 use std::{fs, str};
 
-// The outputs are the system's numbers, and parameters that name one are numbers, not an enum of three: any number
-// may come in, and one that is none of the three is not written to. The console and the number stay two parameters: tied
+// The outputs are the system's numbers, and parameters that name one are numbers, not an enum of three: any number may
+// come in, and one that is none of the three is not written to. The console and the number stay two parameters: tied
 // into one value they would name the same two things at each call, and most callers have the console alone.
 pub const OUT: i32 = 1;
 

@@ -26,11 +26,11 @@ impl Seat {
     }
 }
 
-// Where there is one recording, the second pad has no codes and the empty map: both seats stand always, as both pads do
-// in `Pads`, and `two` is read only where something is printed. With `Option<Seat>` in place of the two, `seat` would make
-// up an empty one, and `set_seat` would bring in a second pad. What tells takes the console, the play and which pad one
-// by one: which pad it is changes from record to record, so a struct of the three would be made for a single call.
-// telling.rt makes one, `Telling`, where several methods share the three, the code and its raw value.
+// Where there is one recording, the second pad has no codes and the empty map: both seats stand always, as both pads
+// do in `Pads`, and `two` is read only where something is printed. With an `Option<Seat>` in place of the two, `seat`
+// would make up an empty one, and `set_seat` would bring in a second pad. What tells takes the console, the play and
+// which pad one by one: which pad it is changes from record to record, so a struct of the three would be made for a
+// single call. telling.rt makes one, `Telling`, where several methods share the three, the code and its raw value.
 #[derive(Clone, Copy)]
 pub struct Play {
     pub two: bool,

@@ -129,8 +129,8 @@ pub fn is_pad_name(arg: &[u8]) -> bool {
 }
 
 // Pad `n` of a list of devices, from 1 on; None where there are fewer.
-pub fn pad_device(list: &[u8], n: u16) -> Option<&[u8]> {
-    let before = (n as usize).checked_sub(1)?;
+pub fn pad_device(list: &[u8], n: usize) -> Option<&[u8]> {
+    let before = n.checked_sub(1)?;
     devices_in(list).filter(|device| is_pad(device)).nth(before)
 }
 
@@ -147,7 +147,7 @@ pub fn pad_named(console: &Console, arg: &[u8]) -> Result<Plugged, Failure> {
     };
     let mut space = list_space();
     let list = read_devices(console, after(rest, b':'), &mut space)?;
-    let Some(device) = pad_device(list, n) else {
+    let Some(device) = pad_device(list, usize::from(n)) else {
         complain_shown(console, arg);
         complain(console, b": there is no such pad; hub pad lists them\n");
         return Err(Failure::Refused);

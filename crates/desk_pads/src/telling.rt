@@ -119,7 +119,8 @@ impl Telling<'_> {
         }
     }
 
-    // A code that the pad has no room for. pad gives the refusal of an answer alone, so the error is one again here.
+    // A code that the pad has no room for. The crate pad gives the refusal of an answer, and not of its error, so the
+    // error goes in as an answer.
     fn say_refused(&mut self, e: TooManyCodes) {
         say(self.console, b"no event: ");
         if let Err(refusal) = pad_outcome(Err(e)) {

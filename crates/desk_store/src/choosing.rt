@@ -55,7 +55,7 @@ impl<'a> Choice<'a> {
     }
 }
 
-// Whether the arguments besides the party are the one that is known, or none.
-pub fn is_one(others: usize, is_known: bool) -> bool {
-    others == 0 || others == 1 && is_known
+// Whether the arguments besides the party are only the one that a command knows, or none.
+pub fn is_one(others: usize, is_given: bool) -> bool {
+    others == 0 || others == 1 && is_given
 }

@@ -189,8 +189,8 @@ fn say_extent(console: &Console, store: View) {
     put_sum(console, OUT, claims);
 }
 
-// That a store is sound, and what it holds. This, say_long and say_list differ in what is printed between two calls: one
-// function for all would take that as a closure, ask a `requires` of it, and be no shorter.
+// That a store is sound, and what it holds. This, say_long and say_list differ in what is printed between two calls:
+// one function for all would take that as a closure, ask a `requires` of it, and be no shorter.
 pub(crate) fn say_sound(console: &Console, store: View) -> Result<(), Failure> {
     sound(console, store, Party::Hall)?;
     say(console, b"sound: ");
