@@ -34,17 +34,15 @@ pub struct SdlMapping {
 pub fn parse_sdl_mapping(line: &[u8], buttons: &[u32], axes: &[u32]) -> SdlMapping
     ensures { result ≡ reading_of line.now buttons.now axes.now }
 {
-    let mut map = Mapping::new();
-    match read(&mut map, line, buttons, axes) {
-        Ok(()) => SdlMapping {
-            answer: Ok(()),
-            map,
-        },
-        Err(error) => SdlMapping {
-            answer: Err(error),
-            map: Mapping::new(),
-        },
+    let mut reading = SdlMapping {
+        answer: Ok(()),
+        map: Mapping::new(),
+    };
+    reading.answer = read(&mut reading.map, line, buttons, axes);
+    if reading.answer.is_err() {
+        reading.map = Mapping::new();
     }
+    reading
 }
 
 // The reading into the empty map: 10, 12, then line order. After a refusal the map says nothing.
