@@ -5,13 +5,12 @@ mod gather;
 mod output;
 mod puts;
 
-ghost use Rattle.std.specs.Prelude.{◌≡◌};
-ghost use Rattle.map.specs.Build.{refused_build, Builds};
+ghost use Rattle.map.specs.Build.{Builds};
 
 use crate::error::MappingError;
 use crate::from_data::checks::checked;
 use crate::from_data::output::{put_line, too_short};
-use crate::from_data::puts::built_map;
+use crate::from_data::puts::put_map;
 use crate::lists::Codes;
 use crate::mapping_data::MappingData;
 use line::mapping::Mapping;
@@ -39,16 +38,6 @@ pub struct Built {
     pub len: usize,
 }
 
-fn refused(e: MappingError) -> Built
-    ensures { result ≡ refused_build e }
-{
-    Built {
-        answer: Err(e),
-        map: Mapping::new(),
-        len: 0,
-    }
-}
-
 // Builds the line of the filled slots into the output, and their map. A refused build leaves the output as it is.
 pub fn from_data(
     data: MappingData,
@@ -61,18 +50,21 @@ pub fn from_data(
     ensures { Builds «data» buttons.now axes.now name.now uuid
         out.old result out.new }
 {
+    let mut built = Built {
+        answer: Ok(()),
+        map: Mapping::new(),
+        len: 0,
+    };
     match checked(&data, Codes { buttons, axes }, name) {
-        Err(e) => refused(e),
+        Err(e) => built.answer = Err(e),
         Ok(pairs) => {
             if too_short(out.len(), &pairs, name) {
-                return refused(MappingError::OutputTooShort);
-            }
-            let len = put_line(out, &pairs, name, uuid);
-            Built {
-                answer: Ok(()),
-                map: built_map(&pairs, name.len()),
-                len,
+                built.answer = Err(MappingError::OutputTooShort);
+            } else {
+                built.len = put_line(out, &pairs, name, uuid);
+                put_map(&mut built.map, &pairs, name.len());
             }
         }
     }
+    built
 }

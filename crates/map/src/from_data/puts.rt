@@ -1,6 +1,7 @@
 // The map of a build, by the same puts as its line.
 ghost use Rattle.std.specs.Prelude.{◌≡◌};
 ghost use Rattle.map.specs.Inner.{PutsSlots, put_map_of};
+ghost use Rattle.line.specs.Maps.{empty_map};
 
 use crate::from_data::NAME_START;
 use crate::from_data::filled::{Pairs, Placed};
@@ -15,14 +16,13 @@ fn put_slots(map: &mut Mapping, slots: &[Placed])
     }
 }
 
-// The map of both, its name of so many bytes.
-pub fn built_map(pairs: &Pairs, name_len: usize) -> Mapping
-    ensures { result ≡ put_map_of pairs.now name_len }
+// The pairs of both put into the empty map, its name of so many bytes.
+pub fn put_map(map: &mut Mapping, pairs: &Pairs, name_len: usize)
+    requires { map.old ≡ empty_map }
+    ensures { map.new ≡ put_map_of pairs.now name_len }
 {
-    let mut map = Mapping::new();
     map.name_start = NAME_START;
     map.name_len = name_len;
-    put_slots(&mut map, pairs.buttons.as_slice());
-    put_slots(&mut map, pairs.axes.as_slice());
-    map
+    put_slots(map, pairs.buttons.as_slice());
+    put_slots(map, pairs.axes.as_slice());
 }

@@ -12,12 +12,12 @@ too_short-requires c =
 pub returns-then-too_short : goal.returns-then-too_short
 returns-then-too_short c =
     let a = c.args in
-    rw c.refused-then-too_short.ensures
+    rw c.new.ensures
     (built_short a.«data» a.buttons.now a.axes.now a.name.now a.uuid _ c.in-Ok.ensures.1 c.in-Ok.ensures.0 a.out.now
     (sym c.too_short.ensures ∙ c.if-too_short.true))
 
-pub put_line-len-requires : goal.put_line-len-requires
-put_line-len-requires c =
+pub put_line-requires : goal.put_line-requires
+put_line-requires c =
     let a = c.args in
     line_fits a.«data» a.buttons.now a.axes.now a.name.now a.uuid _ c.in-Ok.ensures.1 c.in-Ok.ensures.0 a.out.now
     (sym c.too_short.ensures ∙ c.if-too_short.false)
@@ -25,12 +25,12 @@ put_line-len-requires c =
 pub returns-in-Err : goal.returns-in-Err
 returns-in-Err c =
     let a = c.args in
-    rw c.refused.ensures
+    rw c.new.ensures
     (refused_build_lem a.«data» a.buttons.now a.axes.now a.name.now a.uuid a.out.now _ (sym c.in-Err.ensures) _ refl)
 
 pub returns-else-too_short : goal.returns-else-too_short
 returns-else-too_short c =
     let a = c.args in
-    rw c.built_map.ensures
+    rw c.put_map.ensures
     (built_whole a.«data» a.buttons.now a.axes.now a.name.now a.uuid _ c.in-Ok.ensures.1 c.in-Ok.ensures.0 a.out.now
-    (sym c.too_short.ensures ∙ c.if-too_short.false) _ _ c.put_line-len.ensures)
+    (sym c.too_short.ensures ∙ c.if-too_short.false) _ _ c.put_line.ensures)
