@@ -21,6 +21,7 @@ use Rattle.pad.specs.declared.events.Event.{Event}
 use lib.IntN.{pos}
 use Rattle.exports.specs.FlatMaps.{flat_entry, Unused}
 use Rattle.exports.specs.declared.flat_mapping.FlatEntry.{FlatEntry}
+use Rattle.exports.specs.declared.flat_mapping.FlatMapping.{FlatMapping}
 use Rattle.exports.specs.declared.flat_data.FlatSlot.{FlatSlot}
 
 -- an entry that is not used
@@ -96,6 +97,17 @@ laid_first n xs h =
     ∙ sym (drop-replicate n codes_max flat_unused) in
     ap (λ (r : List FlatEntry). map flat_entry (take n xs) ++ r) (sym e) ∙ sym (map-append flat_entry (take n xs) (drop n xs))
     ∙ ap (λ (r : List Entry). map flat_entry r) (take-append-drop n xs)
+
+-- a map with its entries as they are laid out
+abbrev pub laid_out : Mapping → List FlatEntry → FlatMapping
+laid_out m es = record {
+  count = m.count;
+  entries = es;
+  name_start = m.name_start;
+  name_len = m.name_len;
+  is_default = m.is_default;
+  hats_mapped = m.hats_mapped;
+}
 
 -- ---- a map of document 01's shape has nothing after its entries
 pub shaped_unused : (m : Mapping) → Shaped m → Unused m.count m.entries

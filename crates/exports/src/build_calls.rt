@@ -4,16 +4,13 @@ ghost use Rattle.line.specs.Elements.{code_of};
 ghost use Rattle.map.specs.Default.{default_of};
 ghost use Rattle.map.specs.Keys.{key_button, key_table};
 ghost use Rattle.map.specs.Build.{build_of, output_of};
-ghost use Rattle.exports.specs.FlatMaps.{Unused};
 ghost use Rattle.exports.specs.FlatSlots.{data_in, flat_default, flat_built};
 
 use crate::flat::FlatRefusal;
 use crate::flat_data::FlatData;
 use crate::flat_mapping::{FlatMapping, flat_made};
 use line::ev::Code;
-use map::default::DefaultMap;
 use map::error::mapping_outcome;
-use map::from_data::Built;
 use map::keys::{KeyTable, key_button, key_table};
 use text::uuid::Uuid;
 
@@ -34,17 +31,6 @@ pub struct FlatBuilt {
     pub len: usize,
 }
 
-impl From<DefaultMap> for FlatDefault {
-    ghost from_gives = { λ d f. f ≡ flat_default d };
-
-    fn from(d: DefaultMap) -> FlatDefault {
-        FlatDefault {
-            refusal: mapping_outcome(d.answer).into(),
-            map: d.map.into(),
-        }
-    }
-}
-
 #[unsafe(no_mangle)]
 pub extern "C" fn raspteal_key_button(code: u32) -> u16
     ensures { result ≡ (key_button (code_of code)).0 }
@@ -63,17 +49,10 @@ pub extern "C" fn raspteal_key_table() -> KeyTable
 pub extern "C" fn raspteal_default(buttons: &[u32], axes: &[u32]) -> FlatDefault
     ensures { result ≡ flat_default (default_of buttons.now axes.now) }
 {
-    map::default::default(buttons, axes).into()
-}
-
-fn flat_built(b: Built) -> FlatBuilt
-    requires { Unused b.map.count b.map.entries }
-    ensures { result ≡ flat_built b }
-{
-    FlatBuilt {
-        refusal: mapping_outcome(b.answer).into(),
-        map: flat_made(b.map),
-        len: b.len,
+    let made = map::default::default(buttons, axes);
+    FlatDefault {
+        refusal: mapping_outcome(made.answer).into(),
+        map: flat_made(&made.map),
     }
 }
 
@@ -89,5 +68,10 @@ pub extern "C" fn raspteal_from_data(
     ensures value { result ≡ flat_built (build_of (data_in «data») buttons.now axes.now name.now id (length out.old)) }
     ensures out_after { out.new ≡ output_of (data_in «data») buttons.now axes.now name.now id out.old }
 {
-    flat_built(map::from_data::from_data(data.into(), buttons, axes, name, id, out))
+    let built = map::from_data::from_data(data.into(), buttons, axes, name, id, out);
+    FlatBuilt {
+        refusal: mapping_outcome(built.answer).into(),
+        map: flat_made(&built.map),
+        len: built.len,
+    }
 }

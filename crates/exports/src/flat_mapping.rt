@@ -55,50 +55,40 @@ impl From<Entry> for FlatEntry {
     }
 }
 
-// A map, its entries as they were laid out.
-#[tactic(auto, unfolding(crate::specs::FlatMaps::flat_mapping))]
-fn with_entries(m: Mapping, entries: [FlatEntry; CODES_MAX]) -> FlatMapping
-    requires { entries ≡ map flat_entry m.entries }
-    ensures { result ≡ flat_mapping m }
-{
-    FlatMapping {
-        count: m.count,
-        entries,
-        name_start: m.name_start,
-        name_len: m.name_len,
-        is_default: m.is_default,
-        hats_mapped: m.hats_mapped,
-    }
-}
-
 impl From<Mapping> for FlatMapping {
     ghost from_gives = { λ m f. f ≡ flat_mapping m };
 
     fn from(m: Mapping) -> FlatMapping {
-        with_entries(m, array::from_fn(|i| m.entries[i].into()))
+        FlatMapping {
+            count: m.count,
+            entries: array::from_fn(|i| m.entries[i].into()),
+            name_start: m.name_start,
+            name_len: m.name_len,
+            is_default: m.is_default,
+            hats_mapped: m.hats_mapped,
+        }
     }
 }
 
-// The entries of a map of which those from n on are unused: only those before n are laid out one by one, which spares a
-// reading a tenth of its time.
-fn flat_first(entries: [Entry; CODES_MAX], n: usize) -> [FlatEntry; CODES_MAX]
-    requires { Unused n entries }
-    ensures { result ≡ map flat_entry entries }
+// A map that has nothing after its entries, as one that was built: only those in use are laid out one by one, which spares
+// a reading a tenth of its time. By place: with lent places in a `zip`, which was tried, the proof that each entry lies at
+// its own didn't close.
+pub fn flat_made(m: &Mapping) -> FlatMapping
+    requires { Unused m.now.count m.now.entries }
+    ensures { result ≡ flat_mapping m.now }
 {
-    let mut out = [FlatEntry::UNUSED; CODES_MAX];
-    // By place: with lent places in a `zip`, which was tried, the proof that each entry lies at its own didn't close.
-    for i in 0..n {
-        out[i] = entries[i].into();
+    let mut flat = FlatMapping {
+        count: m.count,
+        entries: [FlatEntry::UNUSED; CODES_MAX],
+        name_start: m.name_start,
+        name_len: m.name_len,
+        is_default: m.is_default,
+        hats_mapped: m.hats_mapped,
+    };
+    for i in 0..m.count {
+        flat.entries[i] = m.entries[i].into();
     }
-    out
-}
-
-// A map that has nothing after its entries, as one that was built: only those in use are laid out one by one.
-pub fn flat_made(m: Mapping) -> FlatMapping
-    requires { Unused m.count m.entries }
-    ensures { result ≡ flat_mapping m }
-{
-    with_entries(m, flat_first(m.entries, m.count))
+    flat
 }
 
 pub fn ranges_of(input: u8, output: u8, inverted: bool) -> Ranges

@@ -110,6 +110,6 @@ pub extern "C" fn raspteal_parse_sdl_mapping(
     let read = line::reading::parse_sdl_mapping(line, buttons, axes);
     FlatReading {
         refusal: reading_outcome(read.answer).into(),
-        map: flat_made(read.map),
+        map: flat_made(&read.map),
     }
 }

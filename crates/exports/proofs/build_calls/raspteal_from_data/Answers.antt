@@ -7,7 +7,7 @@ use Rattle.exports.specs.FlatMaps.{Unused}
 use Rattle.exports.proofs.FlatLaws.{shaped_unused}
 use Rattle.exports.proofs.build_calls.raspteal_from_data.Goals as goal
 
-pub flat_built-requires : goal.flat_built-requires
-flat_built-requires c =
-    subst (λ (b : Built). Unused b.map.count b.map.entries) (sym c.from_data.ensures.0)
+pub flat_made-requires : goal.flat_made-requires
+flat_made-requires c =
+    subst (λ (b : Built). Unused b.map.count b.map.entries) (sym c.from_data-built.ensures.0)
     (shaped_unused _ (build_shaped _ _ _ _ _ _))
