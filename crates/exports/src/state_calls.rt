@@ -34,6 +34,13 @@ pub struct FlatTold {
     pub events: [FlatEvent; ELEMENTS],
 }
 
+impl FlatEvent {
+    pub const NONE: FlatEvent = FlatEvent {
+        element: FlatElement::NONE,
+        value: 0,
+    };
+}
+
 impl From<Event> for FlatEvent {
     ghost from_gives = { λ e f. f ≡ flat_event e };
 
@@ -53,17 +60,26 @@ pub fn flat_events(events: &Events) -> [FlatEvent; ELEMENTS]
 }
 
 impl FlatTold {
-    // The state after a call, and what the call gave.
-    #[tactic(auto, unfolding(crate::specs::FlatPads::flat_told))]
-    fn new(answer: Result<(), TooManyCodes>, pad: Pad, events: &Events) -> FlatTold
-        ensures { result ≡ flat_told (record { answer = answer; pad = pad; events = events.now }) }
+    // A state of which nothing is told yet. A call changes the pad where it stands here, which spares a copy.
+    fn of(pad: Pad) -> FlatTold
+        ensures { result.pad ≡ pad }
     {
         FlatTold {
-            refusal: pad_outcome(answer).into(),
+            refusal: FlatRefusal::NONE,
             pad,
-            count: events.count,
-            events: flat_events(events),
+            count: 0,
+            events: [FlatEvent::NONE; ELEMENTS],
         }
+    }
+
+    // What a call gave.
+    #[tactic(auto, unfolding(crate::specs::FlatPads::flat_told))]
+    fn tell(&mut self, answer: Result<(), TooManyCodes>, events: &Events)
+        ensures { self.new ≡ flat_told (record { answer = answer; pad = self.old.pad; events = events.now }) }
+    {
+        self.refusal = pad_outcome(answer).into();
+        self.count = events.count;
+        self.events = flat_events(events);
     }
 }
 
@@ -78,20 +94,22 @@ pub extern "C" fn raspteal_pad_new() -> Pad
 pub extern "C" fn raspteal_pad_raw_event(pad: Pad, code: u32, raw: u8, v: i16) -> FlatTold
     ensures { (result ≡ flat_told (raw_event_of pad (code_of code) (raw_of raw v))) × RawWithin (raw_of raw v) }
 {
-    let mut pad = pad;
-    match pad.raw_event(Code(code), raw_of(raw, v)) {
-        Ok(event) => FlatTold::new(Ok(()), pad, &Events::from(event)),
-        Err(e) => FlatTold::new(Err(e), pad, &Events::from(None)),
+    let mut told = FlatTold::of(pad);
+    match told.pad.raw_event(Code(code), raw_of(raw, v)) {
+        Ok(event) => told.tell(Ok(()), &Events::from(event)),
+        Err(e) => told.tell(Err(e), &Events::from(None)),
     }
+    told
 }
 
 #[unsafe(no_mangle)]
 pub extern "C" fn raspteal_pad_change_map(pad: Pad, map: FlatMapping) -> FlatTold
     ensures { (result ≡ flat_told (change_map_of pad (mapping_in map))) × ShortAll (held (mapping_in map)) }
 {
-    let mut pad = pad;
-    let events = pad.change_map(&map.into());
-    FlatTold::new(Ok(()), pad, &events)
+    let mut told = FlatTold::of(pad);
+    let events = told.pad.change_map(&map.into());
+    told.tell(Ok(()), &events);
+    told
 }
 
 #[unsafe(no_mangle)]

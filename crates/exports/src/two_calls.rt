@@ -38,17 +38,26 @@ fn which_of(second: bool) -> Which
 }
 
 impl FlatPadsTold {
-    // The state after a call, and what the call gave.
-    #[tactic(auto, unfolding(crate::specs::FlatTwo::flat_pads_told))]
-    fn new(answer: Result<(), TooManyCodes>, pads: Pads, events: &Events) -> FlatPadsTold
-        ensures { result ≡ flat_pads_told (record { answer = answer; pads = pads; events = events.now }) }
+    // A state of which nothing is told yet, as FlatTold has it.
+    fn of(pads: Pads) -> FlatPadsTold
+        ensures { result.pads ≡ pads }
     {
         FlatPadsTold {
-            refusal: pad_outcome(answer).into(),
+            refusal: FlatRefusal::NONE,
             pads,
-            count: events.count,
-            events: flat_events(events),
+            count: 0,
+            events: [FlatEvent::NONE; ELEMENTS],
         }
+    }
+
+    // What a call gave.
+    #[tactic(auto, unfolding(crate::specs::FlatTwo::flat_pads_told))]
+    fn tell(&mut self, answer: Result<(), TooManyCodes>, events: &Events)
+        ensures { self.new ≡ flat_pads_told (record { answer = answer; pads = self.old.pads; events = events.now }) }
+    {
+        self.refusal = pad_outcome(answer).into();
+        self.count = events.count;
+        self.events = flat_events(events);
     }
 }
 
@@ -70,11 +79,15 @@ pub extern "C" fn raspteal_pads_raw_event(
     ensures { (result ≡ flat_pads_told (pads_raw_event_of pads (which_of second) (code_of code) (raw_of raw v)))
         × RawWithin (raw_of raw v) }
 {
-    let mut pads = pads;
-    match pads.raw_event(which_of(second), Code(code), raw_of(raw, v)) {
-        Ok(event) => FlatPadsTold::new(Ok(()), pads, &Events::from(event)),
-        Err(e) => FlatPadsTold::new(Err(e), pads, &Events::from(None)),
+    let mut told = FlatPadsTold::of(pads);
+    match told
+        .pads
+        .raw_event(which_of(second), Code(code), raw_of(raw, v))
+    {
+        Ok(event) => told.tell(Ok(()), &Events::from(event)),
+        Err(e) => told.tell(Err(e), &Events::from(None)),
     }
+    told
 }
 
 #[unsafe(no_mangle)]
@@ -86,9 +99,10 @@ pub extern "C" fn raspteal_pads_change_map(
     ensures { (result ≡ flat_pads_told (pads_change_map_of pads (which_of second) (mapping_in map)))
         × ShortAll (held (mapping_in map)) }
 {
-    let mut pads = pads;
-    let events = pads.change_map(which_of(second), &map.into());
-    FlatPadsTold::new(Ok(()), pads, &events)
+    let mut told = FlatPadsTold::of(pads);
+    let events = told.pads.change_map(which_of(second), &map.into());
+    told.tell(Ok(()), &events);
+    told
 }
 
 #[unsafe(no_mangle)]

@@ -10,6 +10,6 @@ pub returns : goal.returns
 unfolding change_map_of told_of
 returns c =
     let h = c.change_map-events.ensures in (
-      simp (c.new.ensures, h.told, h.left, c.into.ensures),
+      simp (c.tell.ensures, c.of-told.ensures, h.told, h.left, c.into.ensures),
       subst (λ (m : Mapping). ShortAll (held m)) c.into.ensures h.short,
     )

@@ -11,6 +11,6 @@ pub returns : goal.returns
 unfolding pads_change_map_of pads_told_of change_map_of told_of
 returns c =
     let h = c.change_map-events.ensures in (
-      simp (c.new.ensures, c.which_of.ensures, h.told, h.left, c.into.ensures),
+      simp (c.tell.ensures, c.of-told.ensures, c.which_of.ensures, h.told, h.left, c.into.ensures),
       subst (λ (m : Mapping). ShortAll (held m)) c.into.ensures h.short,
     )
