@@ -53,6 +53,10 @@ flat_mapping m =
 abbrev pub Unused : ℕ → List Entry → Type 0
 Unused n es = (n ≤ codes_max) × (drop n es ≡ replicate (codes_max - n) unused_entry)
 
+-- no entry is in use: what a map is laid out into
+abbrev pub Blank : FlatMapping → Type 0
+Blank f = f.entries ≡ replicate codes_max (flat_entry unused_entry)
+
 unfoldable pub mapping_in : FlatMapping → Mapping
 mapping_in m =
     record {

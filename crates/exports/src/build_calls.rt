@@ -8,7 +8,7 @@ ghost use Rattle.exports.specs.FlatSlots.{data_in, flat_default, flat_built};
 
 use crate::flat::FlatRefusal;
 use crate::flat_data::FlatData;
-use crate::flat_mapping::{FlatMapping, flat_made};
+use crate::flat_mapping::FlatMapping;
 use line::ev::Code;
 use map::error::mapping_outcome;
 use map::keys::{KeyTable, key_button, key_table};
@@ -50,10 +50,12 @@ pub extern "C" fn raspteal_default(buttons: &[u32], axes: &[u32]) -> FlatDefault
     ensures { result ≡ flat_default (default_of buttons.now axes.now) }
 {
     let made = map::default::default(buttons, axes);
-    FlatDefault {
+    let mut flat = FlatDefault {
         refusal: mapping_outcome(made.answer).into(),
-        map: flat_made(&made.map),
-    }
+        map: FlatMapping::EMPTY,
+    };
+    flat.map.lay_out(&made.map);
+    flat
 }
 
 #[unsafe(no_mangle)]
@@ -69,9 +71,11 @@ pub extern "C" fn raspteal_from_data(
     ensures out_after { out.new ≡ output_of (data_in «data») buttons.now axes.now name.now id out.old }
 {
     let built = map::from_data::from_data(data.into(), buttons, axes, name, id, out);
-    FlatBuilt {
+    let mut flat = FlatBuilt {
         refusal: mapping_outcome(built.answer).into(),
-        map: flat_made(&built.map),
+        map: FlatMapping::EMPTY,
         len: built.len,
-    }
+    };
+    flat.map.lay_out(&built.map);
+    flat
 }

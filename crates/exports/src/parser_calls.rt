@@ -8,7 +8,7 @@ ghost use Rattle.exports.specs.FlatTokens.{state_number, state_in, flat_answer, 
 ghost use Rattle.exports.specs.FlatMaps.{flat_reading};
 
 use crate::flat::{FlatRefusal, form_number};
-use crate::flat_mapping::{FlatMapping, flat_made};
+use crate::flat_mapping::FlatMapping;
 use crate::flat_token::{FlatToken, state_number, state_of};
 use line::parser::Stepped;
 use line::parser::tokens::{Tokens, count_tokens, token_at};
@@ -108,8 +108,10 @@ pub extern "C" fn raspteal_parse_sdl_mapping(
     ensures { result ≡ flat_reading (reading_of line.now buttons.now axes.now) }
 {
     let read = line::reading::parse_sdl_mapping(line, buttons, axes);
-    FlatReading {
+    let mut flat = FlatReading {
         refusal: reading_outcome(read.answer).into(),
-        map: flat_made(&read.map),
-    }
+        map: FlatMapping::EMPTY,
+    };
+    flat.map.lay_out(&read.map);
+    flat
 }

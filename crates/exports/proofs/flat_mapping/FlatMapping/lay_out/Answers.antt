@@ -6,7 +6,7 @@ use lib.ListN.{length, replicate, length-replicate}
 use Rattle.line.proofs.MapLaws.{past}
 use Rattle.exports.specs.FlatMaps.{flat_entry, flat_mapping}
 use Rattle.exports.proofs.FlatLaws.{flat_unused, laid_more, laid_first, laid_out}
-use Rattle.exports.proofs.flat_mapping.flat_made.Goals as goal
+use Rattle.exports.proofs.flat_mapping.FlatMapping.lay_out.Goals as goal
 
 pub loop-i-preserved : goal.loop-i-preserved
 loop-i-preserved c =
@@ -22,4 +22,4 @@ unfolding flat_mapping
 returns c =
     let m = c.args.m.now in
     let done : c.loop-i.i ≡ m.count = omega arith in
-    (rw done at c.loop-i.invariant) ∙ ap (laid_out m) (laid_first m.count m.entries c.requires)
+    (rw done at c.loop-i.invariant) ∙ ap (laid_out m) (laid_first m.count m.entries c.requires.0)

@@ -6,8 +6,8 @@ use Rattle.exports.proofs.FlatLaws.{flat_unused, laid_out}
 use lib.ListN.{take, drop, replicate}
 use mathlib.Core.List.{◌++◌, map}
 use mathlib.Core.Path.{◌≡◌}
-use Rattle.exports.proofs.flat_mapping.flat_made.Given as goal
+use Rattle.exports.proofs.flat_mapping.FlatMapping.lay_out.Given as goal
 
 abbrev pub invariant-loop-i : goal.invariant-loop-i
-invariant-loop-i l = l.flat
+invariant-loop-i l = l.self
     ≡ laid_out l.m (map flat_entry (take l.i l.m.entries) ++ drop l.i (replicate codes_max flat_unused))
