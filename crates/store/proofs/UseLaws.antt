@@ -329,7 +329,6 @@ owed_on g o hs ks d e w = record {
 
 -- ---- the rows of a sound store
 
-
 module _ (i t : List ℕ) (a : List Row) (heads next : List ℕ) (f : Fill) (loaded : Loads i a heads next f) where
   pub loads_addable : known (decode i t) ≡ true → Addable a f.count × (row_lengths a f.count ≤ f.used)
   loads_addable k =
