@@ -62,7 +62,8 @@ fn end_of(whole: &mut [u8], len: usize) -> &mut [u8] {
     &mut whole[from..]
 }
 
-// The store's two buffers, whole.
+// The store's two buffers, whole. replay has a struct of two such buffers with cases of its own: two arrays are all that a
+// common one would have.
 #[derive(Drop)]
 struct Buffers {
     index: [u8; ROOM],
