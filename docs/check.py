@@ -85,7 +85,7 @@ def library_names():
 def every_name():
     names = set(KEYWORDS) | library_names() | {os.path.basename(p) for p in glob.glob("crates/*")}
     for path in glob.glob("crates/**/*", recursive=True):
-        if path.endswith((".antt", ".rt")):
+        if path.endswith((".antt", ".rt")) and "/out/" not in path:
             names |= names_in(path)
     return names
 

@@ -52,14 +52,14 @@ module _ (c : Code) (codes : List ℕ) where
   some_place None h = sym (not_found (sym h))
   some_place (Some k) h = sym (found k (sym h)).1
 
--- what `?` hands on where no place is told as the error x
-pub unlisted : {A E : Type 0} (o : Option ℕ) (x y : E) → Err y ≡ ok_or o x → (r : Result A E)
+-- what `?` hands on where none is told as the error x
+pub none_refused : {A B E : Type 0} (o : Option B) (x y : E) → Err y ≡ ok_or o x → (r : Result A E)
     → IsErrAnd r (λ e. e ≡ y) → (r ≡ Err x) × (o ≡ None)
-unlisted None x y e r f =
+none_refused None x y e r f =
     let p = err_from_is_err_and r f in
     let q : y ≡ x = cc in
     (p.1 ∙ ap (λ z. Err z) (p.2 ∙ q), refl)
-unlisted (Some k) x y e r f = absurd cc
+none_refused (Some s) x y e r f = absurd cc
 
 -- ---- slots of one kind, of which those before i are gathered
 module _ (codes : List ℕ) (kind : Kind) (slots : List (Option Code)) where

@@ -1,6 +1,5 @@
 -- The loop of `survey`: it goes as `walk` does, writes the lines down, and tells whether a key stands twice.
 -- Assumes nothing.
-use Rattle.std.proofs.lemmas.Result.{err_from_is_err_and}
 use Rattle.std.specs.Prelude.{Option as Optional, Some, None, Result, Err, IsSome, ok_or, IsErrAnd}
 use mathlib.Core.Bool.{Bool, true, false, ◌&&◌}
 use mathlib.Core.List.{List, []}
@@ -29,6 +28,7 @@ use Rattle.store.specs.Inner.{HasRecord, known}
 use Rattle.store.specs.Keys.{rows_max, Says, Tells, told_of, Chained, Sought}
 use Rattle.store.specs.Rows.{key_in, row_put, Long}
 use Rattle.store.specs.Table.{InRows, Loads, Surveys, OnceSurveyed, Stocks, OnceStocked}
+use Rattle.map.proofs.FilledLaws.{none_refused}
 use Rattle.store.proofs.BodyLaws.{bytes_part}
 use Rattle.store.proofs.BoolLaws.{true-false}
 use Rattle.store.proofs.ChainLaws.{says-turn, says_agree}
@@ -211,15 +211,6 @@ pub survey_of : (i t : List ℕ) (a : List Row) (heads next : List ℕ) (o : Opt
     → OnceSurveyed i t a heads next o
     → (r : Surveyed) → o ≡ Some r → Surveys i t a heads next r
 survey_of i t a heads next o w r e = subst (OnceSurveyed i t a heads next) e w
-
--- what `?` hands on where none is told as the error x
-pub none_refused : {A B E : Type 0} (o : Optional B) (x y : E) → Err y ≡ ok_or o x → (r : Result A E)
-    → IsErrAnd r (λ e. e ≡ y) → (r ≡ Err x) × (o ≡ None)
-none_refused None x y e r f =
-    let p = err_from_is_err_and r f in
-    let q : y ≡ x = cc in
-    (p.1 ∙ ap (λ z. Err z) (p.2 ∙ q), refl)
-none_refused (Some s) x y e r f = absurd cc
 
 pub stock_refused : {A E : Type 0} (i t : List ℕ) (l : Ledger) (o : Optional Stock) → OnceStocked i t l o
     → (x y : E) → Err y ≡ ok_or o x → (r : Result A E) → IsErrAnd r (λ e. e ≡ y)

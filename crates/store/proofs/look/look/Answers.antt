@@ -5,7 +5,7 @@ use Rattle.store.specs.declared.calls.LookError.TheVariants as L
 use Rattle.store.specs.Store.{Looked}
 use Rattle.store.specs.Sights.{Sees}
 use Rattle.store.proofs.PartyLaws.{look_nobody, look_owner}
-use Rattle.store.proofs.SurveyLaws.{none_refused}
+use Rattle.map.proofs.FilledLaws.{none_refused}
 use Rattle.store.proofs.look.look.Goals as goal
 
 pub returns-in_err-owner : goal.returns-in_err-owner

@@ -5,7 +5,7 @@ use Rattle.store.specs.declared.calls.LookError.TheVariants as L
 use Rattle.store.specs.Near.{Nearby}
 use Rattle.store.specs.Sights.{NearSees}
 use Rattle.store.proofs.PartyLaws.{near_nobody, near_owner}
-use Rattle.store.proofs.SurveyLaws.{none_refused}
+use Rattle.map.proofs.FilledLaws.{none_refused}
 use Rattle.store.proofs.near.look_near.Goals as goal
 
 pub returns-in_err-owner : goal.returns-in_err-owner

@@ -1,13 +1,13 @@
 -- By the slot: an empty one, one whose code is in the list, and one whose code is missing. Assumes nothing.
 use Rattle.std.proofs.Common.{arith, sym, ◌∙◌}
-use Rattle.map.proofs.FilledLaws.{unlisted, gather_empty, gather_filled, gather_missing, gather_end}
+use Rattle.map.proofs.FilledLaws.{none_refused, gather_empty, gather_filled, gather_missing, gather_end}
 use Rattle.map.proofs.from_data.gather.gather.Goals as goal
 use Rattle.map.proofs.from_data.gather.gather.Goals.{in_default, in-Some+in_ok-place}
 
 pub returns-in_err-place : goal.returns-in_err-place
 returns-in_err-place c =
     let a = c.args in
-    let away = unlisted _ _ _ c.in_err-place.ensures.value _ c.from_residual.ensures.1 in
+    let away = none_refused _ _ _ c.in_err-place.ensures.value _ c.from_residual.ensures.1 in
     rw away.0
     (λ rest. rw (gather_missing a.list.now a.kind a.slots.now c.loop-i.i (omega arith) _ c.loop-i.invariant _
     c.in-Some.is (sym c.find_code.ensures ∙ away.1)))
