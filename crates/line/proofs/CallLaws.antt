@@ -42,7 +42,7 @@ module _ (s : Bor (List ℕ)) (h : 0 < length s.now) where
   abbrev standing : Stepped → Parser
   standing x = record { «data» = s; pos = x.pos; state = x.state }
 
-  step_10 : step_of s.now 0 St.NotUtf8 ≡ stepped (refuse 10 (valid_run s.now)) 0 St.NotUtf8
+  step_10 : step_of s.now 0 St.NotUtf8 ≡ stepped (Some (refuse 10 (valid_run s.now))) 0 St.NotUtf8
   unfolding step_of field_step_of
   step_10 = rw (lt-ltb 0 (length s.now) h)
 
@@ -52,7 +52,7 @@ module _ (s : Bor (List ℕ)) (h : 0 < length s.now) where
   again_10 zero = ap (λ (x : Stepped). answer_outcome x.answer) step_10
   again_10 (suc n) = ap (λ (x : Stepped). saying_of n (standing x)) step_10 ∙ again_10 n
 
-  step_9 : step_of s.now 0 St.Invalid ≡ stepped (refuse 9 0) 0 St.Invalid
+  step_9 : step_of s.now 0 St.Invalid ≡ stepped (Some (refuse 9 0)) 0 St.Invalid
   unfolding step_of field_step_of
   step_9 = rw (lt-ltb 0 (length s.now) h)
 
@@ -67,9 +67,9 @@ module _ (s : Bor (List ℕ)) (h : 0 < length s.now) where
   broken None e m k n p q = again_9 n
   broken (Some u) e m k n p q = by (eqb e m) q
     where
-      by : (t : Bool) → number_of (answer_outcome (pick t (stepped (refuse 2 0) 0 St.Invalid)
+      by : (t : Bool) → number_of (answer_outcome (pick t (stepped (Some (refuse 2 0)) 0 St.Invalid)
           (stepped (Some (Ok (Tk.Uuid u.id))) (e + 1) St.Name)).answer) ≡ k
-          → saying_of n (standing (pick t (stepped (refuse 2 0) 0 St.Invalid)
+          → saying_of n (standing (pick t (stepped (Some (refuse 2 0)) 0 St.Invalid)
           (stepped (Some (Ok (Tk.Uuid u.id))) (e + 1) St.Name))) ≡ Err (refusal_at 9 0)
       by true q = again_9 n
       by false q = absurd (omega (arith, q))

@@ -157,7 +157,7 @@ digits_low (x ∷ s) h (suc j) = digits_low s (both_parts (is_digit x) (every is
 module _ (key : List ℕ) (to : AxisOrBtn) (is : Named key to) (i : ℕ) where
   module _ (small : i ≤ number_max) where
     button_token_lem : pair_of (pair_text key (byte "b") i) 0
-        ≡ Some (Ok (Tk.ButtonMapping i to (ranges_of Ar.Full Ar.Full false)))
+        ≡ Ok (Tk.ButtonMapping i to (ranges_of Ar.Full Ar.Full false))
     unfolding pair_of keyed_of value_of
     button_token_lem =
         let v = byte "b" ∷ decimal i in
@@ -175,7 +175,7 @@ module _ (key : List ℕ) (to : AxisOrBtn) (is : Named key to) (i : ℕ) where
           read_back i small,
         )
 
-    axis_token_lem : pair_of (pair_text key (byte "a") i) 0 ≡ Some (Ok (Tk.AxisMapping i to (ranges_of Ar.Full Ar.Full false)))
+    axis_token_lem : pair_of (pair_text key (byte "a") i) 0 ≡ Ok (Tk.AxisMapping i to (ranges_of Ar.Full Ar.Full false))
     unfolding pair_of keyed_of value_of axis_value_of
     axis_token_lem =
         let v = byte "a" ∷ decimal i in

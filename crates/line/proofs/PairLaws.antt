@@ -84,7 +84,7 @@ module _ (p q : ℕ) where
 
 -- ---- a pair at two places
 module _ (buttons axes : List ℕ) where
-  abbrev SameEffect : Option (Result Token Error) → Option (Result Token Error) → Type 0
+  abbrev SameEffect : Result Token Error → Result Token Error → Type 0
   SameEffect a b = answer_effect a buttons axes ≡ answer_effect b buttons axes
 
   mapped_free : (v : Result Value ℕ) (out : AxisRange) (to : Option AxisOrBtn) (p : ℕ) → SameEffect (mapped_of v out to p)
@@ -108,7 +108,7 @@ module _ (buttons axes : List ℕ) where
   unfolding answer_effect
   refused_same n p q = refl
 
-  platform-same : (at to n : ℕ) → SameEffect (Some (Ok (Tk.Platform at n))) (Some (Ok (Tk.Platform to n)))
+  platform-same : (at to n : ℕ) → SameEffect (Ok (Tk.Platform at n)) (Ok (Tk.Platform to n))
   unfolding answer_effect puts_of
   platform-same at to n = refl
 
@@ -128,15 +128,14 @@ module _ (buttons axes : List ℕ) where
       (p + (first_of (byte ":") f + 1)) q (q + (first_of (byte ":") f + 1))) (refused_same 3 p q)
 
 -- ---- a pair gives no name and no UUID
-unfoldable pub PairAnswer : Option (Result Token Error) → Type 0
-PairAnswer (Some (Ok (Tk.Uuid u))) = ⊥
-PairAnswer (Some (Ok (Tk.Name start len))) = ⊥
-PairAnswer (Some (Ok (Tk.Platform start len))) = Unit {0}
-PairAnswer (Some (Ok (Tk.AxisMapping n to r))) = Unit {0}
-PairAnswer (Some (Ok (Tk.ButtonMapping n to r))) = Unit {0}
-PairAnswer (Some (Ok (Tk.HatMapping h d to r))) = Unit {0}
-PairAnswer (Some (Err e)) = Unit {0}
-PairAnswer None = Unit {0}
+unfoldable pub PairAnswer : Result Token Error → Type 0
+PairAnswer (Ok (Tk.Uuid u)) = ⊥
+PairAnswer (Ok (Tk.Name start len)) = ⊥
+PairAnswer (Ok (Tk.Platform start len)) = Unit {0}
+PairAnswer (Ok (Tk.AxisMapping n to r)) = Unit {0}
+PairAnswer (Ok (Tk.ButtonMapping n to r)) = Unit {0}
+PairAnswer (Ok (Tk.HatMapping h d to r)) = Unit {0}
+PairAnswer (Err e) = Unit {0}
 
 mapped_pair : (v : Result Value ℕ) (out : AxisRange) (to : Option AxisOrBtn) (p : ℕ) → PairAnswer (mapped_of v out to p)
 unfolding PairAnswer
@@ -152,7 +151,7 @@ refused_pair : (n p : ℕ) → PairAnswer (refuse n p)
 unfolding PairAnswer
 refused_pair n p = tt
 
-platform_pair : (at n : ℕ) → PairAnswer (Some (Ok (Tk.Platform at n)))
+platform_pair : (at n : ℕ) → PairAnswer (Ok (Tk.Platform at n))
 unfolding PairAnswer
 platform_pair at n = tt
 

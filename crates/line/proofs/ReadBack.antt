@@ -1,9 +1,9 @@
 -- A line that is written field by field reads as the puts of its pairs: what the read-back of a built line rests on.
 -- Assumes nothing.
-use Rattle.std.specs.Prelude.{Option, Some, None}
+use Rattle.std.specs.Prelude.{Option, Some, None, Result, Err}
 use Prim.Native.Nat.{ℕ, ◌+◌, ◌≤◌, ◌<◌}
 use mathlib.Core.Path.{◌≡◌, refl, ◌∙◌}
-use mathlib.Core.Bool.{true, false}
+use mathlib.Core.Bool.{true}
 use mathlib.Core.List.{List, [], ◌∷◌}
 use mathlib.Core.Logic.{⊎_elim}
 use native.Mathlib.Omega.{arith}
@@ -18,14 +18,15 @@ use Rattle.text.specs.declared.uuid.Form.TheVariants as Fm
 use Rattle.text.proofs.ListLaws.{lt_or_le}
 use Rattle.text.proofs.BytesLaws.{same-lengths}
 use Rattle.text.proofs.UuidLaws.{uuid_back, uuid_text-length}
-use Rattle.line.specs.declared.reading.SdlMapping.{SdlMapping}
-use Rattle.line.specs.Maps.{codes_max, MapView, to_map, empty_map, puts_into}
+use Rattle.line.specs.declared.refusal.Refusal.{Refusal}
+use Rattle.line.specs.Maps.{codes_max, MapView, to_map, empty_view, puts_into}
+use Rattle.line.specs.Puts.{puts_of}
 use Rattle.line.specs.Fields.{fields_of, first_field, later_fields}
 use Rattle.line.specs.Walker.{guid_of}
 use Rattle.line.specs.Refusals.{refusal_at}
 use Rattle.line.specs.Tiles.{tiled}
-use Rattle.line.specs.Reading.{list_max, refuses, accepted_of, pairs_from, named_from, headed, read_line}
-use Rattle.line.specs.Reading.{reading_of}
+use Rattle.line.specs.Reading.{list_max, with_name, taken, pairs_from, named_from, headed, read_line, read_view}
+use Rattle.line.specs.Reading.{accepted_of, reading_of}
 use Rattle.line.specs.Effects.{entries_of, AllGo}
 use Rattle.line.specs.Folds.{flags_of, after}
 use Rattle.line.proofs.ReadingLaws.{line_head}
@@ -41,13 +42,13 @@ guid_back u small =
 
 -- a map with a name after a first field of k bytes
 abbrev pub named : ℕ → List ℕ → MapView
-named k n = record { list = []; name_start_of = 0 + k + 1; name_len_of = length n; is_default = false; hat_flags = 0 }
+named k n = with_name empty_view (k + 1) (length n)
 
 module _ (buttons axes : List ℕ) where
   -- what a line with a name field reads as
-  abbrev pub shaped : Option Spelled → ℕ → List ℕ → List (List ℕ) → SdlMapping
-  shaped None k n fs = refuses (refusal_at 1 0)
-  shaped (Some u) k n fs = pairs_from (0 + k + 1 + length n + 1) fs (to_map (named k n)) buttons axes
+  abbrev pub shaped : Option Spelled → ℕ → List ℕ → List (List ℕ) → Result MapView Refusal
+  shaped None k n fs = Err (refusal_at 1 0)
+  shaped (Some u) k n fs = pairs_from (k + 1 + length n + 1) fs (named k n) buttons axes
 
   no_field : {A : Type 0} (n : List ℕ) (fs : List (List ℕ)) → [] ≡ n ∷ fs → A
   no_field n fs e = let z : ◌≡◌ {A = ℕ} 0 1 = cc in absurd (omega arith)
@@ -59,8 +60,8 @@ module _ (buttons axes : List ℕ) where
       (lt_or_le (first_of (byte ",") s + 1) (length s))
 
   shape_by : (s n : List ℕ) (fs : List (List ℕ)) (g : Option Spelled) → later_fields s ≡ n ∷ fs
-      → headed g 0 (first_of (byte ",") s) s empty_map buttons axes ≡ shaped g (first_of (byte ",") s) n fs
-  unfolding named_from empty_map to_map
+      → headed g (first_of (byte ",") s) s buttons axes ≡ shaped g (first_of (byte ",") s) n fs
+  unfolding named_from taken puts_of
   shape_by s n fs None e = refl
   shape_by s n fs (Some u) e =
       let l = long s n fs e in
@@ -68,10 +69,9 @@ module _ (buttons axes : List ℕ) where
 
   pub line_shape : (s n : List ℕ) (fs : List (List ℕ)) → later_fields s ≡ n ∷ fs
       → read_line s buttons axes ≡ shaped (guid_of (first_field s)) (first_of (byte ",") s) n fs
-  unfolding read_line
   line_shape s n fs e =
       let l = long s n fs e in
-      line_head 0 s empty_map buttons axes (omega arith) ∙ shape_by s n fs (guid_of (first_field s)) e
+      line_head s buttons axes (omega arith) ∙ shape_by s n fs (guid_of (first_field s)) e
 
 -- ---- a line whose pairs go and whose entries fit
 module _ (buttons axes : List ℕ) (u n : List ℕ) (fs : List (List ℕ)) (free-u : Free (byte ",") u)
@@ -81,11 +81,19 @@ module _ (buttons axes : List ℕ) (u n : List ℕ) (fs : List (List ℕ)) (free
       → AllGo fs buttons axes → length (puts_into (entries_of fs buttons axes) []) ≤ codes_max
       → reading_of (line_of u n fs) buttons axes
       ≡ accepted_of (to_map (after (named (length u) n) (entries_of fs buttons axes) (flags_of fs buttons axes)))
-  unfolding reading_of
+  unfolding reading_of read_view
   reads_back id g v b a go fits =
       let s = line_of u n fs in
       let shape = line_shape buttons axes s n fs (later_fields_lem u n fs free-u free) in
       let first = take-before (byte ",") u (tiled (n ∷ fs)) free-u in
       let k = first-after (byte ",") u (tiled (n ∷ fs)) free-u in
-      rw (v, le-leb (length buttons) list_max b, le-leb (length axes) list_max a, shape, first, k, g)
-      (pairs_fit buttons axes fs (0 + length u + 1 + length n + 1) (named (length u) n) go fits)
+      rw (
+        v,
+        le-leb (length buttons) list_max b,
+        le-leb (length axes) list_max a,
+        shape,
+        first,
+        k,
+        g,
+        pairs_fit buttons axes fs (length u + 1 + length n + 1) (named (length u) n) go fits,
+      )

@@ -33,7 +33,7 @@ use Rattle.line.specs.Values.{starts_with, axis_numbered, axis_value_of, signed_
 use Rattle.line.specs.Values.{hat_numbers, hat_of, value_of}
 use Rattle.line.specs.Pairs.{refuse, half_of, skip_of, mapped_of, keyed_of, pair_of}
 use Rattle.line.specs.Walker.{guid_of, stepped, uuid_step, field_step_of, step_of}
-use Rattle.line.specs.Reading.{refuses, lists_fit, read_line, reading_of}
+use Rattle.line.specs.Reading.{lists_fit, read_line, read_view, returned, reading_of}
 use Rattle.line.specs.Refusals.{refusal, refusal_at, reading_outcome}
 use Rattle.line.specs.Regrouping.{In, here, there}
 use Rattle.line.specs.Places.{field_at, value_part, four_places, PlaceOf, AnswerIn, Stands}
@@ -133,8 +133,8 @@ module _ (p : ℕ) (v : List ℕ) where
 
 -- ---- a pair f that starts at p of the line s
 module _ (s f : List ℕ) (p : ℕ) (starts : p < length s) (ends : p + length f ≤ length s) where
-  abbrev InLine : Option (Result Token Error) → Type 0
-  InLine a = AnswerIn s f p a
+  abbrev InLine : Result Token Error → Type 0
+  InLine a = AnswerIn s f p (Some a)
 
   mapped_placed : (v : Result Value ℕ) (out : AxisRange) (to : Option AxisOrBtn) → first_of (byte ":") f < length f
       → BadAt p (value_part f) v → InLine (mapped_of v out to p)
@@ -216,15 +216,15 @@ step_placed s p st k = by (ltb p (length s)) refl
 -- ---- "Order: reading 10, 12, then line order."
 pub reading_order : (s buttons axes : List ℕ) → reading_outcome (reading_of s buttons axes).answer
     ≡ pick (is_utf8 s)
-    (pick (lists_fit buttons axes) (reading_outcome (read_line s buttons axes).answer) (Err (refusal 12)))
+    (pick (lists_fit buttons axes) (reading_outcome (returned (read_line s buttons axes)).answer) (Err (refusal 12)))
     (Err (refusal_at 10 (valid_run s)))
-unfolding reading_of
+unfolding reading_of read_view
 reading_order s buttons axes = by (is_utf8 s) (lists_fit buttons axes)
   where
     by : (t u : Bool)
-        → reading_outcome (pick t (pick u (read_line s buttons axes) (refuses (refusal 12)))
-        (refuses (refusal_at 10 (valid_run s)))).answer
-        ≡ pick t (pick u (reading_outcome (read_line s buttons axes).answer) (Err (refusal 12)))
+        → reading_outcome (returned (pick t (pick u (read_line s buttons axes) (Err (refusal 12)))
+        (Err (refusal_at 10 (valid_run s))))).answer
+        ≡ pick t (pick u (reading_outcome (returned (read_line s buttons axes)).answer) (Err (refusal 12)))
         (Err (refusal_at 10 (valid_run s)))
     by true true = refl
     by true false = refl

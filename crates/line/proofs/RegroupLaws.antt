@@ -1,6 +1,6 @@
 -- `regrouped`: pairs in another order give the same map (document 02, P8). Two puts of one code are the same entry, and
 -- all others change places freely; so do flags, and the bytes of whole fields. Assumes nothing.
-use Rattle.std.specs.Prelude.{Option, Some, None, Ok}
+use Rattle.std.specs.Prelude.{Option, Some, None, Result, Ok, Err}
 use Prim.Native.Nat.{ℕ, ◌+◌, ◌≤◌}
 use mathlib.Core.Path.{◌≡◌, refl, sym, ap, ◌∙◌}
 use mathlib.Core.List.{List, ◌∷◌}
@@ -13,17 +13,16 @@ use lib.ListN.{length, drop}
 use lib.Seq.{length-take-le}
 use Rattle.text.specs.declared.uuid.Spelled.{Spelled}
 use Rattle.text.specs.Bytes.{pick, byte, first_of}
-use Rattle.text.specs.Utf8.{valid_run, is_utf8}
+use Rattle.text.specs.Utf8.{is_utf8}
 use Rattle.text.proofs.AsciiLaws.{Valid, valid_is, is_valid}
 use Rattle.text.proofs.BytesLaws.{first_le}
 use Rattle.line.specs.declared.mapping.Entry.{Entry}
-use Rattle.line.specs.declared.parser.ErrorKind.TheVariants as Ek
-use Rattle.line.specs.declared.reading.ParseSdlMappingError.TheVariants as Pe
-use Rattle.line.specs.Maps.{codes_max, MapView, to_map, put_entry, puts_into}
+use Rattle.line.specs.declared.refusal.Refusal.{Refusal}
+use Rattle.line.specs.Maps.{codes_max, MapView, put_entry, puts_into}
 use Rattle.line.specs.Fields.{first_field, later_fields}
 use Rattle.line.specs.Walker.{guid_of}
 use Rattle.line.specs.Refusals.{refusal}
-use Rattle.line.specs.Reading.{refuses, accepted_of, pairs_from, read_line, reading_of, lists_fit}
+use Rattle.line.specs.Reading.{pairs_from, read_line, lists_fit, read_view, returned, reading_of}
 use Rattle.line.specs.Effects.{effect_of, entries_of, AllGo}
 use Rattle.line.specs.Folds.{flags_of, or_all, after}
 use Rattle.line.specs.Regrouping.{Permuted, none, keep, swap, then, here, there, Alike, Regrouped}
@@ -32,8 +31,7 @@ use Rattle.line.proofs.PutLaws.{put_commute}
 use Rattle.line.proofs.PermutationLaws.{permuted_back, in_permuted, permuted_after, permuted_swap, or_swap}
 use Rattle.line.proofs.CommaLaws.{AllValid, first_valid, valid_first, fields_valid, valid_fields}
 use Rattle.line.proofs.FoldLaws.{pairs_fit}
-use Rattle.line.proofs.AcceptedLaws.{pairs_accepted}
-use Rattle.line.proofs.TurnLaws.{refused_not}
+use Rattle.line.proofs.AcceptedLaws.{Accepted, accepted_in, pairs_accepted}
 use Rattle.line.proofs.ReadBack.{named, shaped, line_shape}
 
 -- ---- entries and flags
@@ -96,8 +94,8 @@ module _ (buttons axes : List ℕ) where
 
   pub pairs_regrouped : (fs gs : List (List ℕ)) (p : ℕ) (v : MapView) → Permuted fs gs
       → Alike (entries_of fs buttons axes) → length v.list ≤ codes_max
-      → (pairs_from p fs (to_map v) buttons axes).answer ≡ Ok tt
-      → pairs_from p gs (to_map v) buttons axes ≡ pairs_from p fs (to_map v) buttons axes
+      → Accepted (pairs_from p fs v buttons axes)
+      → pairs_from p gs v buttons axes ≡ pairs_from p fs v buttons axes
   pairs_regrouped fs gs p v o a h ok =
       let was = pairs_accepted buttons axes fs p v h ok in
       let entries = puts_permuted (entries_permuted o) a v.list in
@@ -105,7 +103,7 @@ module _ (buttons axes : List ℕ) where
       let before = after v (entries_of fs buttons axes) (flags_of fs buttons axes) in
       let same : before ≡ after v (entries_of gs buttons axes) (flags_of gs buttons axes) = rw (entries, flags) in
       pairs_fit buttons axes gs p v (go_permuted o was.0) (rw entries at was.1)
-      ∙ ap (λ (w : MapView). accepted_of (to_map w)) (sym same)
+      ∙ ap (λ (w : MapView). Ok w) (sym same)
       ∙ sym (pairs_fit buttons axes fs p v was.0 was.1)
 
 -- ---- UTF-8
@@ -119,11 +117,11 @@ all_permuted (then p q) v = all_permuted q (all_permuted p v)
 -- ---- lines
 module _ (buttons axes : List ℕ) where
   shaped_regrouped : (g : Option Spelled) (k : ℕ) (n : List ℕ) (fs gs : List (List ℕ)) → Permuted fs gs
-      → Alike (entries_of fs buttons axes) → (shaped buttons axes g k n fs).answer ≡ Ok tt
+      → Alike (entries_of fs buttons axes) → Accepted (shaped buttons axes g k n fs)
       → shaped buttons axes g k n gs ≡ shaped buttons axes g k n fs
   shaped_regrouped None k n fs gs o a ok = refl
   shaped_regrouped (Some u) k n fs gs o a ok =
-      pairs_regrouped buttons axes fs gs (0 + k + 1 + length n + 1) (named k n) o a (omega arith) ok
+      pairs_regrouped buttons axes fs gs (k + 1 + length n + 1) (named k n) o a (omega arith) ok
 
   module _ (s t : List ℕ) (r : Regrouped s t) where
     comma_alike : first_of (byte ",") s ≡ first_of (byte ",") t
@@ -132,7 +130,7 @@ module _ (buttons axes : List ℕ) where
         ∙ ap length r.first
         ∙ length-take-le (first_of (byte ",") t) t (first_le (byte ",") t)
 
-    line_regrouped : Alike (entries_of r.pairs buttons axes) → (read_line s buttons axes).answer ≡ Ok tt
+    line_regrouped : Alike (entries_of r.pairs buttons axes) → Accepted (read_line s buttons axes)
         → read_line t buttons axes ≡ read_line s buttons axes
     line_regrouped a ok =
         let x = line_shape buttons axes s r.name r.pairs r.in_s in
@@ -150,26 +148,28 @@ module _ (buttons axes : List ℕ) where
         let g : AllValid (later_fields t) = rw r.in_t (all_permuted (keep r.order) f) in
         valid_first t (rw r.first at w.0) (valid_fields (drop (first_of (byte ",") t + 1) t) g)
 
-    line_reads_alike : Alike (entries_of r.pairs buttons axes) → (reading_of s buttons axes).answer ≡ Ok tt
-        → reading_of t buttons axes ≡ reading_of s buttons axes
-    unfolding reading_of
+    line_reads_alike : Alike (entries_of r.pairs buttons axes) → Accepted (read_view s buttons axes)
+        → read_view t buttons axes ≡ read_view s buttons axes
+    unfolding read_view
     line_reads_alike a ok = text (is_utf8 s) refl
       where
-        lists : (b : Bool) → (pick b (read_line s buttons axes) (refuses (refusal 12))).answer ≡ Ok tt
-            → pick b (read_line t buttons axes) (refuses (refusal 12))
-            ≡ pick b (read_line s buttons axes) (refuses (refusal 12))
+        lists : (b : Bool) → Accepted (pick b (read_line s buttons axes) (Err (refusal 12)))
+            → pick b (read_line t buttons axes) (Err (refusal 12)) ≡ pick b (read_line s buttons axes) (Err (refusal 12))
         lists true k = line_regrouped a k
         lists false k = refl
 
-        text : (b : Bool) → is_utf8 s ≡ b → reading_of t buttons axes ≡ reading_of s buttons axes
+        text : (b : Bool) → is_utf8 s ≡ b → read_view t buttons axes ≡ read_view s buttons axes
         text true e =
             let v = valid_is t (text_regrouped (is_valid s e)) in
             rw (e, v) (lists (lists_fit buttons axes) (rw e at ok))
-        text false e = refused_not (Pe.ParseError (record { kind = Ek.NotUtf8; position = valid_run s })) (rw e at ok)
+        text false e = absurd (rw e at ok)
 
 -- ---- the theorem
 pub regrouped : ReadsAlike
-regrouped s t buttons axes r a ok = line_reads_alike buttons axes s t r a ok
+unfolding reading_of
+regrouped s t buttons axes r a ok =
+    ap (λ (y : Result MapView Refusal). returned y)
+    (line_reads_alike buttons axes s t r a (accepted_in (read_view s buttons axes) ok))
 
 -- "if one is accepted .. the other": either line may be the one, since the premises turn round
 pub turned_round : (s t : List ℕ) → Regrouped s t → Regrouped t s

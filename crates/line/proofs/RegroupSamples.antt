@@ -18,14 +18,14 @@ use Rattle.line.specs.declared.reading.SdlMapping.{SdlMapping}
 use Rattle.line.specs.Buttons as B
 use Rattle.line.specs.Axes as A
 use Rattle.line.specs.Elements.{code_of}
-use Rattle.line.specs.Maps.{entry_of, to_map, empty_map, put_entry, put_of, map_of}
+use Rattle.line.specs.Maps.{entry_of, to_map, empty_map, put_entry, map_of}
 use Rattle.line.specs.Tables.{axes_sdl, axes_table, row_from, key_row}
 use Rattle.line.specs.Fields.{count_of, fields_of}
 use Rattle.line.specs.Values.{axis_value_of, signed_of, hat_of, value_of}
 use Rattle.line.specs.Pairs.{half_of, keyed_of, pair_of}
 use Rattle.line.specs.Walker.{guid_of}
 use Rattle.line.specs.Puts.{listed, hat_codes, dpad_axis, hat_puts, puts_of}
-use Rattle.line.specs.Reading.{accepted_of, put_one, taken, pairs_from, named_from, line_from, read_line, reading_of}
+use Rattle.line.specs.Reading.{accepted_of, put_one, taken, pairs_from, named_from, read_line, read_view, reading_of}
 use Rattle.line.specs.Effects.{answer_effect, entries_of}
 use Rattle.line.specs.Regrouping.{swap, In, here, there, Alike, Regrouped}
 use Rattle.line.proofs.RegroupLaws.{regrouped}
@@ -109,8 +109,8 @@ two_alike : Alike (south ∷ left_stick ∷ [])
 two_alike e f i j c = two-by e f c (member i) (member j)
 
 pub button_first_lem : read button_first ≡ accepted (south ∷ left_stick ∷ [])
-unfolding reading_of read_line line_from named_from pairs_from taken put_one puts_of hat_puts dpad_axis hat_codes listed fields_of
-    pair_of keyed_of half_of value_of hat_of signed_of axis_value_of guid_of count_of first_of empty_map put_entry put_of to_map same
+unfolding reading_of read_view read_line named_from pairs_from taken put_one puts_of hat_puts dpad_axis hat_codes listed fields_of
+    pair_of keyed_of half_of value_of hat_of signed_of axis_value_of guid_of count_of first_of empty_map put_entry to_map same
     read_digits unsigned index_number begins first_length char_length run_of valid_run is_utf8 axes_sdl axes_table row_from key_row
     hex_digit read_hex hyphenated uuid_of
 button_first_lem = refl
@@ -145,8 +145,8 @@ same_pairs_too =
 
 pub the_later_stays : (read south_first ≡ accepted (button 0x10130 B.East ∷ []))
     × (read east_first ≡ accepted (button 0x10130 B.South ∷ []))
-unfolding reading_of read_line line_from named_from pairs_from taken put_one puts_of hat_puts dpad_axis hat_codes listed fields_of
-    pair_of keyed_of half_of value_of hat_of signed_of axis_value_of guid_of count_of first_of empty_map put_entry put_of to_map same
+unfolding reading_of read_view read_line named_from pairs_from taken put_one puts_of hat_puts dpad_axis hat_codes listed fields_of
+    pair_of keyed_of half_of value_of hat_of signed_of axis_value_of guid_of count_of first_of empty_map put_entry to_map same
     read_digits unsigned index_number begins first_length char_length run_of valid_run is_utf8 axes_sdl axes_table row_from key_row
     hex_digit read_hex hyphenated uuid_of
 the_later_stays = (refl, refl)

@@ -16,14 +16,14 @@ use Rattle.line.specs.declared.reading.SdlMapping.{SdlMapping}
 use Rattle.line.specs.Buttons as B
 use Rattle.line.specs.Axes as A
 use Rattle.line.specs.Elements.{code_of}
-use Rattle.line.specs.Maps.{entry_of, MapView, to_map, empty_map, put_entry, put_of}
+use Rattle.line.specs.Maps.{entry_of, MapView, to_map, empty_map, put_entry}
 use Rattle.line.specs.Tables.{axes_sdl, axes_table, row_from, key_row}
 use Rattle.line.specs.Fields.{count_of, fields_of}
 use Rattle.line.specs.Values.{axis_value_of, signed_of, hat_of, value_of}
 use Rattle.line.specs.Pairs.{half_of, keyed_of, pair_of}
 use Rattle.line.specs.Walker.{guid_of}
 use Rattle.line.specs.Puts.{listed, hat_codes, dpad_axis, hat_puts, puts_of}
-use Rattle.line.specs.Reading.{accepted_of, put_one, taken, pairs_from, named_from, line_from, read_line, reading_of}
+use Rattle.line.specs.Reading.{accepted_of, put_one, taken, pairs_from, named_from, read_line, read_view, reading_of}
 use Rattle.line.specs.Refusals.{refusal_at, reading_outcome}
 
 -- ---- what a sample says: entries, name, flags; or a number at a place, with the empty map
@@ -86,8 +86,8 @@ samples =
     ∷ []
 
 pub samples_hold : Holds samples
-unfolding reading_of read_line line_from named_from pairs_from taken put_one puts_of hat_puts dpad_axis hat_codes listed fields_of
-    pair_of keyed_of half_of value_of hat_of signed_of axis_value_of guid_of count_of first_of empty_map put_entry put_of to_map same
+unfolding reading_of read_view read_line named_from pairs_from taken put_one puts_of hat_puts dpad_axis hat_codes listed fields_of
+    pair_of keyed_of half_of value_of hat_of signed_of axis_value_of guid_of count_of first_of empty_map put_entry to_map same
     read_digits unsigned index_number begins first_length char_length run_of valid_run is_utf8 axes_sdl axes_table row_from key_row
     hex_digit read_hex hyphenated uuid_of
 samples_hold = (

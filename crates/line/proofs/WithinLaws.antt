@@ -1,8 +1,8 @@
 -- The place of a reading's refusal and the name of its map lie within the line: a reading is the walker's steps, one
 -- after the other, and each of them has its places there. Assumes nothing.
-use Rattle.std.specs.Prelude.{Option, Some, None, Result, Ok, Err, ⊤}
+use Rattle.std.specs.Prelude.{Option, Some, None, Result, Ok, Err}
 use Prim.Native.Nat.{ℕ, zero, suc, ◌+◌, ◌<◌, ◌≤◌}
-use mathlib.Core.Path.{◌≡◌, refl, sym, subst}
+use mathlib.Core.Path.{◌≡◌, refl, sym, ap, subst}
 use mathlib.Core.Bool.{Bool, true, false}
 use mathlib.Core.Logic.{⊎_elim}
 use mathlib.Core.List.{List, []}
@@ -10,17 +10,13 @@ use native.Mathlib.Omega.{arith}
 use borrow.Author.Tests.{eqb-false, lt-ltb}
 use lib.Dec.{eqb, leb, ltb}
 use lib.ListN.{length}
-use Rattle.line.specs.declared.mapping.MapFull.{MapFull}
 use Rattle.text.specs.declared.uuid.Spelled.{Spelled}
-use Rattle.line.specs.declared.reading.ParseSdlMappingError.{ParseSdlMappingError}
 use Rattle.line.specs.declared.parser.Error.{Error}
 use Rattle.line.specs.declared.parser.Token.{Token}
 use Rattle.text.specs.Bytes.{pick, byte}
 use Rattle.text.specs.Utf8.{valid_run, is_utf8}
 use Rattle.text.proofs.ListLaws.{lt_or_le}
 use Rattle.line.specs.declared.mapping.Entry.{Entry}
-use Rattle.line.specs.declared.mapping.Mapping.{Mapping}
-use Rattle.line.specs.Maps.{PutAnswer}
 use Rattle.line.specs.declared.parser.Parser.{Parser}
 use Rattle.line.specs.declared.parser.State.{State}
 use Rattle.line.specs.declared.parser.State.TheVariants as St
@@ -30,127 +26,110 @@ use Rattle.line.specs.declared.reading.puts.Puts.{Puts}
 use Rattle.line.specs.declared.reading.puts.Puts.TheVariants.{Nothing, Name, One, Two, UnknownHatDirection}
 use Rattle.line.specs.declared.reading.ParseSdlMappingError.TheVariants as Pe
 use Rattle.line.specs.declared.reading.SdlMapping.{SdlMapping}
+use Rattle.line.specs.declared.refusal.Refusal.{Refusal}
 use Rattle.line.specs.Fields.{find_from, field}
-use Rattle.line.specs.Maps.{codes_max, empty_map, to_map, held, put_entry, with_entries, put_of}
+use Rattle.line.specs.Maps.{codes_max, MapView, empty_view, empty_map, to_map, put_entry}
 use Rattle.line.specs.Pairs.{refuse, pair_of}
 use Rattle.line.specs.Puts.{listed, hat_puts, puts_of}
-use Rattle.line.specs.Refusals.{refusal, refusal_at, reading_outcome}
-use Rattle.line.specs.Reading.{accepted_of, refused_of, refuses, follow, with_hat, stored_at, put_one}
-use Rattle.line.specs.Reading.{then_put, flagged, put_all, skips, taken, lists_fit, read_line, reading_of}
+use Rattle.line.specs.Refusals.{refusal, refusal_at, error_refusal, reading_refusal, reading_error_of, reading_outcome}
+use Rattle.line.specs.Reading.{follow, with_hat, put_one, then_put, put_all, skips, taken, lists_fit, read_line}
+use Rattle.line.specs.Reading.{read_view, returned, reading_of}
 use Rattle.line.specs.Walker.{guid_of, start_of, stepped, uuid_step, field_step_of, step_of}
 use Rattle.line.specs.Parser.{parser_of, moved}
 use Rattle.line.specs.Calls.{after_calls}
-use Rattle.line.specs.Places.{field_at, AnswerIn, Stands, WalkerPlaced, OutcomeIn, ReadingPlaced}
+use Rattle.line.specs.Places.{field_at, AnswerIn, Stands, WalkerPlaced, PlaceIn, OutcomeIn, ReadingPlaced}
+use Rattle.line.specs.Inner.{step_taken}
 use Rattle.line.proofs.PickLaws.{picked}
+use Rattle.line.proofs.KindLaws.{reading_one_to_one}
 use Rattle.line.proofs.CountLaws.{find_le}
 use Rattle.line.proofs.PairLaws.{PairAnswer, pair_answer}
 use Rattle.line.proofs.AcceptedLaws.{NotName, listed_unnamed, hat_unnamed}
-use Rattle.line.proofs.ReadingLaws.{rest_of, rest_done, turn_refused, turn_accepted, turn_moves}
+use Rattle.line.proofs.ReadingLaws.{rest_of, Begun, at_first, rest_done, turn, turn_refused, turn_accepted, turn_moves}
+use Rattle.line.proofs.ReadingLaws.{turn_begun}
 use Rattle.line.proofs.RefusalLaws.{below, run_below, pair_placed, field_ends, step_placed}
 
--- ---- an answer with its map, in a line of n bytes
-abbrev NameIn : ℕ → Mapping → Type 0
-NameIn n m = m.name_start + m.name_len ≤ n
+-- ---- a name or a refusal, in a line of n bytes
+abbrev NameIn : ℕ → MapView → Type 0
+NameIn n v = v.name_start_of + v.name_len_of ≤ n
 
-abbrev Within : ℕ → SdlMapping → Type 0
-Within n r = OutcomeIn n (reading_outcome r.answer) × NameIn n r.map
+-- a refusal's case has its number and its place
+abbrev Told : Refusal → Type 0
+Told r = reading_refusal (reading_error_of r) ≡ r
 
-empty_named : (n : ℕ) → NameIn n empty_map
-unfolding empty_map to_map
-empty_named n = omega arith
+error_told : (e : Error) → Told (error_refusal e)
+error_told e = ap reading_refusal (reading_one_to_one.case_back (Pe.ParseError e))
+
+abbrev Within : ℕ → Result MapView Refusal → Type 0
+Within n (Ok v) = NameIn n v
+Within n (Err r) = PlaceIn n r.place × Told r
 
 module _ (n : ℕ) where
-  put_named : (m : Mapping) (e : Entry) → NameIn n m → NameIn n (put_of m e).map
-  unfolding put_of
-  put_named m e h = by (leb (length (put_entry e (held m))) codes_max)
-    where
-      by : (t : Bool) → NameIn n (pick {A = PutAnswer} t
-          (record { answer = Ok tt; map = with_entries m (put_entry e (held m)) })
-          (record { answer = Err (record {}); map = m })).map
-      by true = h
-      by false = h
+  follow_within : (r : Result MapView Refusal) (rest : MapView → Result MapView Refusal) → Within n r
+      → ((v : MapView) → NameIn n v → Within n (rest v)) → Within n (follow r rest)
+  follow_within (Ok v) rest h f = f v h
+  follow_within (Err r) rest h f = h
 
   module _ (p : ℕ) (l : p < n) where
-    stored_within : (r : Result ⊤ MapFull) (m : Mapping) → NameIn n m → Within n (stored_at r m p)
-    stored_within (Ok u) m h = (tt, h)
-    stored_within (Err u) m h = (l, empty_named n)
-
-    one_within : (m : Mapping) (e : Entry) → NameIn n m → Within n (put_one m e p)
+    one_within : (v : MapView) (e : Entry) → NameIn n v → Within n (put_one v e p)
     unfolding put_one
-    one_within m e h = stored_within (put_of m e).answer (put_of m e).map (put_named m e h)
+    one_within v e h = picked (Within n) (leb (length (put_entry e v.list)) codes_max) h (l, refl)
 
-    follow_within : (a : Result ⊤ ParseSdlMappingError) (part rest : SdlMapping) → Within n part → Within n rest
-        → Within n (follow a part rest)
-    follow_within (Ok u) part rest h k = k
-    follow_within (Err e) part rest h k = h
-
-    flagged_within : (r : SdlMapping) (flags : ℕ) → Within n r → Within n (flagged r flags)
-    flagged_within r flags h =
-        follow_within r.answer r (accepted_of (with_hat r.map flags)) h (tt, h.1)
-
-    two_within : (m : Mapping) (e f : Entry) → NameIn n m → Within n (then_put (put_one m e p) f p)
-    two_within m e f h =
-        let first = one_within m e h in
-        follow_within (put_one m e p).answer (put_one m e p) (put_one (put_one m e p).map f p) first
-        (one_within (put_one m e p).map f first.1)
-
-    all_within : (m : Mapping) (x : Puts) → NotName x → NameIn n m → Within n (put_all m x p)
+    all_within : (v : MapView) (x : Puts) → NotName x → NameIn n v → Within n (put_all v x p)
     unfolding NotName
-    all_within m Nothing u h = (tt, h)
-    all_within m (Name start len) u h = absurd u
-    all_within m (One e flags) u h = flagged_within (put_one m e p) flags (one_within m e h)
-    all_within m (Two e f flags) u h = flagged_within (then_put (put_one m e p) f p) flags (two_within m e f h)
-    all_within m UnknownHatDirection u h = (omega (arith, l), empty_named n)
+    all_within v Nothing u h = h
+    all_within v (Name start len) u h = absurd u
+    all_within v (One e flags) u h =
+        follow_within (put_one v e p) (λ w. Ok (with_hat w flags)) (one_within v e h) (λ w k. k)
+    all_within v (Two e f flags) u h =
+        follow_within (then_put (put_one v e p) f p) (λ w. Ok (with_hat w flags))
+        (follow_within (put_one v e p) (λ w. put_one w f p) (one_within v e h) (λ w k. one_within w f k)) (λ w k. k)
+    all_within v UnknownHatDirection u h = (omega (arith, l), refl)
 
 -- ---- a step at p of the line, which has n bytes
 module _ (s buttons axes : List ℕ) where
   abbrev n : ℕ
   n = length s
 
-  abbrev turned : Mapping → Stepped → ℕ → SdlMapping
-  turned m x p = taken m x.answer p x.pos buttons axes
+  abbrev turned : MapView → Stepped → ℕ → Result MapView Refusal
+  turned v x p = turn v x p buttons axes
 
-  module _ (p : ℕ) (l : p < n) (m : Mapping) (h : NameIn n m) where
-    -- what the walker answers for a pair f
-    pair_within : (f : List ℕ) (q : ℕ) (a : Option (Result Token Error)) → PairAnswer a → AnswerIn s f p a
-        → Within n (taken m a p q buttons axes)
+  module _ (p : ℕ) (l : p < n) (v : MapView) (h : NameIn n v) where
+    -- what the walker says of a pair f
+    pair_within : (f : List ℕ) (q : ℕ) (a : Result Token Error) → PairAnswer a → AnswerIn s f p (Some a)
+        → Within n (taken v a p q buttons axes)
     unfolding taken puts_of PairAnswer
-    pair_within f q (Some (Ok (Tk.Uuid u))) k i = absurd k
-    pair_within f q (Some (Ok (Tk.Name start len))) k i = absurd k
-    pair_within f q (Some (Ok (Tk.Platform start len))) k i = (tt, h)
-    pair_within f q (Some (Ok (Tk.AxisMapping j to r))) k i =
-        all_within n p l m (listed axes j to r) (listed_unnamed axes j to r) h
-    pair_within f q (Some (Ok (Tk.ButtonMapping j to r))) k i =
-        all_within n p l m (listed buttons j to r) (listed_unnamed buttons j to r) h
-    pair_within f q (Some (Ok (Tk.HatMapping j d to r))) k i =
-        all_within n p l m (hat_puts j d to r) (hat_unnamed j d to r) h
-    pair_within f q (Some (Err e)) k i =
-        picked (Within n) (skips e.kind) {x = accepted_of m} {y = refused_of (Pe.ParseError e)} (tt, h)
-        (i.1, empty_named n)
-    pair_within f q None k i = (tt, h)
+    pair_within f q (Ok (Tk.Uuid u)) k i = absurd k
+    pair_within f q (Ok (Tk.Name start len)) k i = absurd k
+    pair_within f q (Ok (Tk.Platform start len)) k i = h
+    pair_within f q (Ok (Tk.AxisMapping j to r)) k i =
+        all_within n p l v (listed axes j to r) (listed_unnamed axes j to r) h
+    pair_within f q (Ok (Tk.ButtonMapping j to r)) k i =
+        all_within n p l v (listed buttons j to r) (listed_unnamed buttons j to r) h
+    pair_within f q (Ok (Tk.HatMapping j d to r)) k i = all_within n p l v (hat_puts j d to r) (hat_unnamed j d to r) h
+    pair_within f q (Err e) k i = picked (Within n) (skips e.kind) h (i.1, error_told e)
 
-    uuid_within : (g : Option Spelled) (e : ℕ) → e ≤ n → Within n (turned m (uuid_step g p e n) p)
-    unfolding taken puts_of
-    uuid_within None e k = (omega (arith, l), empty_named n)
+    uuid_within : (g : Option Spelled) (e : ℕ) → e ≤ n → Within n (turned v (uuid_step g p e n) p)
+    unfolding step_taken taken puts_of
+    uuid_within None e k = (omega (arith, l), refl)
     uuid_within (Some u) e k = by (eqb e n) refl
       where
-        by : (t : Bool) → eqb e n ≡ t → Within n (turned m (pick t (stepped (refuse 2 0) p St.Invalid)
+        by : (t : Bool) → eqb e n ≡ t → Within n (turned v (pick t (stepped (Some (refuse 2 0)) p St.Invalid)
             (stepped (Some (Ok (Tk.Uuid u.id))) (e + 1) St.Name)) p)
-        by true q = (omega (arith, l), empty_named n)
-        by false q = (tt, omega (arith, below e n k (eqb-false e n q)))
+        by true q = (omega (arith, l), refl)
+        by false q = omega (arith, below e n k (eqb-false e n q))
 
-    field_within : (st : State) → Stands s st → Within n (turned m (field_step_of s p (find_from (byte ",") s p) st) p)
-    unfolding field_step_of taken puts_of
+    field_within : (st : State) → Stands s st → Within n (turned v (field_step_of s p (find_from (byte ",") s p) st) p)
+    unfolding field_step_of step_taken taken puts_of
     field_within St.Uuid k =
         uuid_within (guid_of (field_at s p)) (find_from (byte ",") s p) (find_le (byte ",") s p (omega (arith, l)))
-    field_within St.Name k = (tt, omega (arith, l, find_le (byte ",") s p (omega (arith, l))))
+    field_within St.Name k = omega (arith, l, find_le (byte ",") s p (omega (arith, l)))
     field_within St.KeyVal k =
         pair_within (field_at s p) (find_from (byte ",") s p + 1) (pair_of (field_at s p) p) (pair_answer (field_at s p) p)
         (pair_placed s (field_at s p) p l (field_ends s p l))
-    field_within St.Invalid k = (omega (arith, l), empty_named n)
-    field_within St.NotUtf8 k = (run_below s k, empty_named n)
+    field_within St.Invalid k = (omega (arith, l), refl)
+    field_within St.NotUtf8 k = (run_below s k, refl)
 
-    step_within : (st : State) → Stands s st → Within n (turned m (step_of s p st) p)
+    step_within : (st : State) → Stands s st → Within n (turned v (step_of s p st) p)
     unfolding step_of
     step_within st k = rw (lt-ltb p n l) (field_within st k)
 
@@ -175,54 +154,62 @@ module _ (s buttons axes : List ℕ) where
   -- ---- what is left to read, from p on, in at most k steps
   abbrev RestWithin : ℕ → Type 0
   RestWithin k =
-      (p : ℕ) (st : State) (m : Mapping) → n ≤ p + k → Stands s st → NameIn n m
-      → Within n (rest_of s p st m buttons axes)
+      (p : ℕ) (st : State) (v : MapView) → n ≤ p + k → Stands s st → Begun st p v → NameIn n v
+      → Within n (rest_of s p st v buttons axes)
 
-  done_within : (p : ℕ) (st : State) (m : Mapping) → n ≤ p → NameIn n m → Within n (rest_of s p st m buttons axes)
-  done_within p st m l h = rw (rest_done s p st m buttons axes l) (tt, h)
+  done_within : (p : ℕ) (st : State) (v : MapView) → n ≤ p → Begun st p v → NameIn n v
+      → Within n (rest_of s p st v buttons axes)
+  done_within p st v l b h = rw (rest_done s p st v buttons axes l b) h
 
-  go_within : (k : ℕ) → RestWithin k → (p : ℕ) (st : State) (m : Mapping) → n ≤ p + suc k → Stands s st → NameIn n m
-      → p < n → Within n (rest_of s p st m buttons axes)
-  go_within k ih p st m f u h l = by y.answer refl
+  go_within : (k : ℕ) → RestWithin k → (p : ℕ) (st : State) (v : MapView) → n ≤ p + suc k → Stands s st → Begun st p v
+      → NameIn n v → p < n → Within n (rest_of s p st v buttons axes)
+  go_within k ih p st v f u b h l = by (turned v (step_of s p st) p) refl (step_within p l v h st u)
     where
       x : Stepped
       x = step_of s p st
 
-      y : SdlMapping
-      y = turned m x p
-
-      w : Within n y
-      w = step_within p l m h st u
-
-      by : (t : Result ⊤ ParseSdlMappingError) → y.answer ≡ t → Within n (rest_of s p st m buttons axes)
-      by (Err e) q =
-          subst (λ (r : SdlMapping). Within n r) (sym (turn_refused s buttons axes p st m l x refl y refl e q)) w
-      by (Ok ok) q =
-          let moved = turn_moves s buttons axes p st m l x refl y refl q in
-          subst (λ (r : SdlMapping). Within n r) (sym (turn_accepted s buttons axes p st m l x refl y refl q))
-          (ih x.pos x.state y.map (omega (arith, f, moved)) (step_stands p st u) w.1)
+      by : (y : Result MapView Refusal) → turned v (step_of s p st) p ≡ y → Within n y
+          → Within n (rest_of s p st v buttons axes)
+      by (Err r) q w =
+          subst (λ (z : Result MapView Refusal). Within n z) (sym (turn_refused s buttons axes p st v l b x refl r q)) w
+      by (Ok m) q w =
+          let moved = turn_moves s buttons axes p st v l b x refl m q in
+          subst (λ (z : Result MapView Refusal). Within n z) (sym (turn_accepted s buttons axes p st v l b x refl m q))
+          (ih x.pos x.state m (omega (arith, f, moved)) (step_stands p st u)
+          (turn_begun s buttons axes p st v l b x refl m q) w)
 
   rest_within : (k : ℕ) → RestWithin k
-  rest_within zero p st m f u h = done_within p st m (omega (arith, f)) h
-  rest_within (suc k) p st m f u h =
-      ⊎_elim (λ l. go_within k (rest_within k) p st m f u h l) (λ l. done_within p st m l h) (lt_or_le p n)
+  rest_within zero p st v f u b h = done_within p st v (omega (arith, f)) b h
+  rest_within (suc k) p st v f u b h =
+      ⊎_elim (λ l. go_within k (rest_within k) p st v f u b h l) (λ l. done_within p st v l b h) (lt_or_le p n)
 
   line_within : Within n (read_line s buttons axes)
-  unfolding read_line rest_of
-  line_within = rest_within n 0 St.Uuid empty_map (omega arith) tt (empty_named n)
+  unfolding rest_of
+  line_within = rest_within n 0 St.Uuid empty_view (omega arith) tt at_first (omega arith)
 
-  all_read : Within n (reading_of s buttons axes)
-  unfolding reading_of
+  all_read : Within n (read_view s buttons axes)
+  unfolding read_view
   all_read = by (is_utf8 s) refl
     where
       by : (t : Bool) → is_utf8 s ≡ t
-          → Within n (pick t (pick (lists_fit buttons axes) (read_line s buttons axes) (refuses (refusal 12)))
-          (refuses (refusal_at 10 (valid_run s))))
-      by true e = picked (Within n) (lists_fit buttons axes) line_within (tt, empty_named n)
-      by false e = (run_below s e, empty_named n)
+          → Within n (pick t (pick (lists_fit buttons axes) (read_line s buttons axes) (Err (refusal 12)))
+          (Err (refusal_at 10 (valid_run s))))
+      by true e = picked (Within n) (lists_fit buttons axes) line_within (tt, refl)
+      by false e = (run_below s e, refl)
+
+  -- what it returns
+  abbrev Placed : SdlMapping → Type 0
+  Placed r = OutcomeIn n (reading_outcome r.answer) × (r.map.name_start + r.map.name_len ≤ n)
+
+  returned_within : (y : Result MapView Refusal) → Within n y → Placed (returned y)
+  unfolding empty_map to_map
+  returned_within (Ok v) w = (tt, w)
+  returned_within (Err r) w = (subst (λ (x : Refusal). PlaceIn n x.place) (sym w.1) w.0, omega arith)
 
   pub reading_placed : ReadingPlaced s buttons axes
-  reading_placed = record { refusal = all_read.0; name = all_read.1 }
+  unfolding reading_of
+  reading_placed =
+      let w = returned_within (read_view s buttons axes) all_read in record { refusal = w.0; name = w.1 }
 
 -- ---- the walker that is made over a line, after any number of calls
 abbrev StandsSo : Parser → Type 0

@@ -1,6 +1,6 @@
 -- What a pair puts, wherever it stands in a line (document 01, 'Reading').
 -- The theorems `regrouped` and `eleven_exactly` rest on these definitions; they assume nothing.
-use Rattle.std.specs.Prelude.{ℕ, ◌≡◌, List, [], ◌∷◌, ◌++◌, Bool, true, false, Option, Some, None, Result, Ok, Err}
+use Rattle.std.specs.Prelude.{ℕ, ◌≡◌, List, [], ◌∷◌, ◌++◌, Bool, true, false, Result, Ok, Err}
 use Rattle.line.specs.declared.parser.Error.{Error}
 use Rattle.line.specs.declared.parser.Token.{Token}
 use Rattle.text.specs.Bytes.{pick}
@@ -32,10 +32,9 @@ puts_effect (Two e f flag) = does (e ∷ f ∷ []) (flag ∷ [])
 puts_effect UnknownHatDirection = stops
 
 -- what the walker says of a pair: "An 8 is skipped", each other refusal is the line's
-unfoldable pub answer_effect : Option (Result Token Error) → List ℕ → List ℕ → Effect
-answer_effect (Some (Ok t)) buttons axes = puts_effect (puts_of t 0 buttons axes)
-answer_effect (Some (Err e)) buttons axes = pick (skips e.kind) (does [] []) stops
-answer_effect None buttons axes = does [] []
+unfoldable pub answer_effect : Result Token Error → List ℕ → List ℕ → Effect
+answer_effect (Ok t) buttons axes = puts_effect (puts_of t 0 buttons axes)
+answer_effect (Err e) buttons axes = pick (skips e.kind) (does [] []) stops
 
 -- a pair with the two lists; what it puts does not depend on its place, so place 0 will do
 abbrev pub effect_of : List ℕ → List ℕ → List ℕ → Effect

@@ -1,15 +1,16 @@
 -- What the private functions of the tables, of a put and of a reading promise. No public contract cites these.
 -- Assumes nothing.
-use Rattle.std.specs.Prelude.{ℕ, ◌<◌, ◌≤◌, ◌≡◌, List, ◌∷◌, ◌++◌, length, take, drop, set, Option, Some, Result, Ok, Err, ⊤}
+use Rattle.std.specs.Prelude.{ℕ, ◌-◌, ◌<◌, ◌≤◌, ◌≡◌, List, ◌∷◌, ◌++◌, length, take, drop, set, replicate, Option, Some, None, Result, Ok, Err, ⊤}
 use Rattle.line.specs.declared.reading.ParseSdlMappingError.{ParseSdlMappingError}
 use Rattle.line.specs.declared.parser.Error.{Error}
 use Rattle.line.specs.declared.parser.Token.{Token}
 use Rattle.line.specs.declared.mapping.Entry.{Entry}
 use Rattle.line.specs.declared.mapping.Mapping.{Mapping}
 use Rattle.line.specs.declared.parser.ErrorKind.{ErrorKind}
-use Rattle.line.specs.declared.reading.SdlMapping.{SdlMapping}
-use Rattle.line.specs.Maps.{put_entry}
-use Rattle.line.specs.Reading.{accepted_of, refused_of}
+use Rattle.line.specs.declared.refusal.Refusal.{Refusal}
+use Rattle.line.specs.Maps.{codes_max, unused_entry, MapView, held, put_entry}
+use Rattle.line.specs.Refusals.{reading_refusal}
+use Rattle.line.specs.Reading.{taken}
 
 -- xs with e before the entry at k
 abbrev pub insert_at : ℕ → Entry → List Entry → List Entry
@@ -24,11 +25,32 @@ Placed xs e (Err k) = (k ≤ length xs) × (put_entry e xs ≡ insert_at k e xs)
 abbrev pub refused_as : ErrorKind → ℕ → Option (Result Token Error)
 refused_as k p = Some (Err (record { kind = k; position = p }))
 
+-- the view of a map, whatever stands behind its entries
+abbrev pub view_of : Mapping → MapView
+view_of m =
+    record {
+      list = held m;
+      name_start_of = m.name_start;
+      name_len_of = m.name_len;
+      is_default = m.is_default;
+      hat_flags = m.hats_mapped;
+    }
+
+-- behind the entries that count are unused ones: the map is that of its view
+abbrev pub Padded : Mapping → Type 0
+Padded m =
+    (m.count ≡ length (held m)) × (m.entries ≡ held m ++ replicate (codes_max - length (held m)) unused_entry)
+
 -- an answer and the map after it
-abbrev pub outcome : Result ⊤ ParseSdlMappingError → Mapping → SdlMapping
-outcome (Ok u) m = accepted_of m
-outcome (Err e) m = refused_of e
+abbrev pub outcome : Result ⊤ ParseSdlMappingError → Mapping → Result MapView Refusal
+outcome (Ok u) m = Ok (view_of m)
+outcome (Err e) m = Err (reading_refusal e)
 
 -- a turn's answer, and the map that it leaves, are what y says
-abbrev pub Turned : SdlMapping → Result ⊤ ParseSdlMappingError → Mapping → Type 0
-Turned y r m = y ≡ outcome r m
+abbrev pub Turned : Result MapView Refusal → Result ⊤ ParseSdlMappingError → Mapping → Type 0
+Turned y r m = (y ≡ outcome r m) × Padded m
+
+-- what a step of the walker answers at p; the end puts nothing
+unfoldable pub step_taken : MapView → Option (Result Token Error) → ℕ → ℕ → List ℕ → List ℕ → Result MapView Refusal
+step_taken v (Some a) p q buttons axes = taken v a p q buttons axes
+step_taken v None p q buttons axes = Ok v

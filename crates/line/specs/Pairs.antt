@@ -17,8 +17,8 @@ use Rattle.line.specs.Fields.{count_of}
 use Rattle.line.specs.Values.{starts_with, value_of}
 
 -- a refusal by document 01's number, at a place
-abbrev pub refuse : ℕ → ℕ → Option (Result Token Error)
-refuse n p = Some (Err (record { kind = kind_of n; position = p }))
+abbrev pub refuse : ℕ → ℕ → Result Token Error
+refuse n p = Err (record { kind = kind_of n; position = p })
 
 -- "a leading `+` or `-` of the key sets the output half and is cut off"
 unfoldable pub half_of : List ℕ → AxisRange
@@ -35,34 +35,34 @@ abbrev pub ranges_of : AxisRange → AxisRange → Bool → Ranges
 ranges_of input output inverted = record { input = input; output = output; inverted = inverted }
 
 -- "Last, the key is sought in `AXES_SDL` and `AXES`, ..: not there, 5 for an `a` value, else 6."
-abbrev pub axis_token : ℕ → Ranges → Option AxisOrBtn → ℕ → Option (Result Token Error)
-axis_token n r (Some e) p = Some (Ok (Tk.AxisMapping n e r))
+abbrev pub axis_token : ℕ → Ranges → Option AxisOrBtn → ℕ → Result Token Error
+axis_token n r (Some e) p = Ok (Tk.AxisMapping n e r)
 axis_token n r None p = refuse 5 p
 
-abbrev pub button_token : ℕ → Ranges → Option AxisOrBtn → ℕ → Option (Result Token Error)
-button_token n r (Some e) p = Some (Ok (Tk.ButtonMapping n e r))
+abbrev pub button_token : ℕ → Ranges → Option AxisOrBtn → ℕ → Result Token Error
+button_token n r (Some e) p = Ok (Tk.ButtonMapping n e r)
 button_token n r None p = refuse 6 p
 
-abbrev pub hat_token : ℕ → ℕ → Ranges → Option AxisOrBtn → ℕ → Option (Result Token Error)
-hat_token h d r (Some e) p = Some (Ok (Tk.HatMapping h d e r))
+abbrev pub hat_token : ℕ → ℕ → Ranges → Option AxisOrBtn → ℕ → Result Token Error
+hat_token h d r (Some e) p = Ok (Tk.HatMapping h d e r)
 hat_token h d r None p = refuse 6 p
 
 -- the value (4) comes before the key (5, 6)
-abbrev pub mapped_of : Result Value ℕ → AxisRange → Option AxisOrBtn → ℕ → Option (Result Token Error)
+abbrev pub mapped_of : Result Value ℕ → AxisRange → Option AxisOrBtn → ℕ → Result Token Error
 mapped_of (Err place) out to p = refuse 4 place
 mapped_of (Ok (Vl.Axis n half inverted)) out to p = axis_token n (ranges_of half out inverted) to p
 mapped_of (Ok (Vl.Button n)) out to p = button_token n (ranges_of Ar.Full out false) to p
 mapped_of (Ok (Vl.Hat h d)) out to p = hat_token h d (ranges_of Ar.Full out false) to p
 
 -- a key and its value, which stands at place `at` of the line: "empty value, 8; key `platform`, a platform token"
-unfoldable pub keyed_of : List ℕ → List ℕ → ℕ → ℕ → Option (Result Token Error)
+unfoldable pub keyed_of : List ℕ → List ℕ → ℕ → ℕ → Result Token Error
 keyed_of k v p at =
     pick (eqb (length v) 0) (refuse 8 p)
-    (pick (same k (ascii "platform")) (Some (Ok (Tk.Platform at (length v))))
+    (pick (same k (ascii "platform")) (Ok (Tk.Platform at (length v)))
     (mapped_of (value_of p v) (half_of k) (key_element (drop (skip_of (half_of k)) k)) p))
 
 -- "not exactly one colon, 3"; else the pair is cut at the colon
-unfoldable pub pair_of : List ℕ → ℕ → Option (Result Token Error)
+unfoldable pub pair_of : List ℕ → ℕ → Result Token Error
 pair_of s p =
     let colon = first_of (byte ":") s in
     pick (eqb (count_of (byte ":") s) 1)

@@ -32,18 +32,18 @@ guid_of s =
 
 -- the first field, from p to e of a line of n bytes: "else 1; then 2 if no comma follows"
 abbrev pub uuid_step : Option Spelled → ℕ → ℕ → ℕ → Stepped
-uuid_step None p e n = stepped (refuse 1 0) p St.Invalid
+uuid_step None p e n = stepped (Some (refuse 1 0)) p St.Invalid
 uuid_step (Some u) p e n =
-    pick (eqb e n) (stepped (refuse 2 0) p St.Invalid) (stepped (Some (Ok (Tk.Uuid u.id))) (e + 1) St.Name)
+    pick (eqb e n) (stepped (Some (refuse 2 0)) p St.Invalid) (stepped (Some (Ok (Tk.Uuid u.id))) (e + 1) St.Name)
 
 -- a step before the line's end, by the state; e is the next comma or the end.
 -- "Second field: the name. Then pairs"; "After either, each further call gives 9"; "gives 10 on every call"
 unfoldable pub field_step_of : List ℕ → ℕ → ℕ → State → Stepped
 field_step_of s p e St.Uuid = uuid_step (guid_of (field s p e)) p e (length s)
 field_step_of s p e St.Name = stepped (Some (Ok (Tk.Name p (e - p)))) (e + 1) St.KeyVal
-field_step_of s p e St.KeyVal = stepped (pair_of (field s p e) p) (e + 1) St.KeyVal
-field_step_of s p e St.Invalid = stepped (refuse 9 0) p St.Invalid
-field_step_of s p e St.NotUtf8 = stepped (refuse 10 (valid_run s)) p St.NotUtf8
+field_step_of s p e St.KeyVal = stepped (Some (pair_of (field s p e) p)) (e + 1) St.KeyVal
+field_step_of s p e St.Invalid = stepped (Some (refuse 9 0)) p St.Invalid
+field_step_of s p e St.NotUtf8 = stepped (Some (refuse 10 (valid_run s))) p St.NotUtf8
 
 -- "At or past the line's end: end."
 unfoldable pub step_of : List ℕ → ℕ → State → Stepped

@@ -15,7 +15,7 @@ use Rattle.line.specs.Parser.{answers_from}
 -- the answers for pairs, the first of them at p
 unfoldable pub pairs_at : ℕ → List (List ℕ) → List (Option (Result Token Error))
 pairs_at p [] = []
-pairs_at p (f ∷ fs) = pair_of f p ∷ pairs_at (p + length f + 1) fs
+pairs_at p (f ∷ fs) = Some (pair_of f p) ∷ pairs_at (p + length f + 1) fs
 
 -- the answers for the fields after the first comma, the first of them at p: the name, then the pairs
 unfoldable pub named_at : ℕ → List (List ℕ) → List (Option (Result Token Error))

@@ -3,8 +3,8 @@ mod puts;
 
 ghost use Rattle.std.specs.Prelude.{◌≡◌};
 ghost use Rattle.line.specs.Maps.{empty_map};
-ghost use Rattle.line.specs.Reading.{skips, put_one, put_all, taken, read_line, reading_of};
-ghost use Rattle.line.specs.Inner.{Turned};
+ghost use Rattle.line.specs.Reading.{skips, put_one, put_all, read_line, read_view, reading_of};
+ghost use Rattle.line.specs.Inner.{view_of, Padded, Turned, step_taken};
 
 use crate::mapping::{Entry, Mapping};
 use crate::parser::{Error, ErrorKind, State, Token, step};
@@ -53,7 +53,7 @@ fn read(
     axes: &[u32],
 ) -> Result<(), ParseSdlMappingError>
     requires { map.old ≡ empty_map }
-    ensures { Turned (reading_of line.now buttons.now axes.now) result map.new }
+    ensures { Turned (read_view line.now buttons.now axes.now) result map.new }
 {
     let run = valid_up_to(line);
     if run != line.len() {
@@ -94,7 +94,7 @@ fn read_fields(
 }
 
 // What the walker answered at p, after which the line goes on at `after`.
-#[tactic(auto, unfolding(crate::specs::Reading::taken))]
+#[tactic(auto, unfolding(crate::specs::Inner::step_taken, crate::specs::Reading::taken))]
 fn take_answer(
     map: &mut Mapping,
     answer: Option<Result<Token, Error>>,
@@ -103,7 +103,8 @@ fn take_answer(
     buttons: &[u32],
     axes: &[u32],
 ) -> Result<(), ParseSdlMappingError>
-    ensures { Turned (taken map.old answer p after buttons.now axes.now) result map.new }
+    requires { Padded map.old }
+    ensures { Turned (step_taken (view_of map.old) answer p after buttons.now axes.now) result map.new }
 {
     match answer {
         Some(Ok(token)) => put_all(map, puts_of(token, after, buttons, axes), p),
@@ -122,7 +123,8 @@ fn is_skipped(kind: ErrorKind) -> bool
 
 // The puts of the field at p, then the hat flags.
 fn put_all(map: &mut Mapping, puts: Puts, p: usize) -> Result<(), ParseSdlMappingError>
-    ensures { Turned (put_all map.old puts p) result map.new }
+    requires { Padded map.old }
+    ensures { Turned (put_all (view_of map.old) puts p) result map.new }
 {
     match puts {
         Puts::Nothing => Ok(()),
@@ -152,7 +154,8 @@ fn put_all(map: &mut Mapping, puts: Puts, p: usize) -> Result<(), ParseSdlMappin
 
 // A put by the pair at p: refused where the map is full.
 fn put_one(map: &mut Mapping, e: Entry, p: usize) -> Result<(), ParseSdlMappingError>
-    ensures { Turned (put_one map.old e p) result map.new }
+    requires { Padded map.old }
+    ensures { Turned (put_one (view_of map.old) e p) result map.new }
 {
     map.put(e)
         .map_err(|_| ParseSdlMappingError::TooManyCodes { position: p })

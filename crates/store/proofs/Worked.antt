@@ -1,5 +1,5 @@
 -- The worked examples of docs/READING.md, computed by the definitions. Assumes nothing.
-use Rattle.std.specs.Prelude.{Some, Err, Ok}
+use Rattle.std.specs.Prelude.{Err, Ok}
 use mathlib.Core.Path.{◌≡◌, refl, ap, ◌∙◌}
 use mathlib.Core.Bool.{Bool, true, false, ◌&&◌}
 use mathlib.Core.Option.{Option, none}
@@ -19,14 +19,14 @@ use Rattle.line.specs.declared.reading.puts.Puts.TheVariants.{Two}
 use Rattle.line.specs.Buttons as B
 use Rattle.line.specs.Axes as A
 use Rattle.line.specs.Elements.{code_of, axis_dpady, button_code}
-use Rattle.line.specs.Maps.{entry_of, to_map, empty_map, put_entry, put_of}
+use Rattle.line.specs.Maps.{entry_of, to_map, empty_map, put_entry}
 use Rattle.line.specs.Tables.{axes_sdl, axes_table, row_from, key_row}
 use Rattle.line.specs.Fields.{count_of, fields_of}
 use Rattle.line.specs.Values.{hat_of, value_of}
 use Rattle.line.specs.Pairs.{ranges_of, half_of, keyed_of, pair_of}
 use Rattle.line.specs.Walker.{guid_of}
 use Rattle.line.specs.Puts.{listed, hat_codes, dpad_axis, hat_puts, puts_of}
-use Rattle.line.specs.Reading.{accepted_of, put_one, taken, pairs_from, named_from, line_from, read_line, reading_of}
+use Rattle.line.specs.Reading.{accepted_of, put_one, taken, pairs_from, named_from, read_line, read_view, reading_of}
 use Rattle.line.specs.Refusals.{refusal_at, reading_outcome}
 use Rattle.map.specs.Slots.{no_slots, button_of, axis_of}
 use Rattle.map.specs.Build.{filled_from, missing_of, axis_checks, slot_checks, checks_of, ended, pair_texts}
@@ -55,7 +55,7 @@ nil = record { high = 0; low = 0 }
 -- ---- 1. the map of `U,T,dpup:h0.1,`
 
 -- the pair at place 35, and what it puts
-dpup_pair : pair_of (ascii "dpup:h0.1") 35 ≡ Some (Ok (Tk.HatMapping 0 1 (Btn B.DPadUp) (ranges_of Full Full false)))
+dpup_pair : pair_of (ascii "dpup:h0.1") 35 ≡ Ok (Tk.HatMapping 0 1 (Btn B.DPadUp) (ranges_of Full Full false))
 unfolding pair_of keyed_of half_of value_of hat_of count_of first_of same read_digits unsigned index_number axes_sdl axes_table
     row_from key_row
 dpup_pair = refl
@@ -75,8 +75,8 @@ dpup_map : reading_of (u ++ ascii ",T,dpup:h0.1,") [] []
       is_default = false;
       hat_flags = 1;
     }))
-unfolding reading_of read_line line_from named_from pairs_from taken put_one puts_of hat_puts dpad_axis hat_codes listed
-    fields_of pair_of keyed_of half_of value_of hat_of guid_of count_of first_of empty_map put_entry put_of to_map same read_digits
+unfolding reading_of read_view read_line named_from pairs_from taken put_one puts_of hat_puts dpad_axis hat_codes listed
+    fields_of pair_of keyed_of half_of value_of hat_of guid_of count_of first_of empty_map put_entry to_map same read_digits
     unsigned index_number begins first_length char_length run_of valid_run is_utf8 axes_sdl axes_table row_from key_row hex_digit
     read_hex uuid_of u
 dpup_map = refl
@@ -88,7 +88,7 @@ unfolding value_of hat_of first_of read_digits unsigned index_number
 dpright_value = refl
 
 dpright_place : reading_outcome (reading_of (u ++ ascii ",T,dpright:h0.q") [] []).answer ≡ Err (refusal_at 4 38)
-unfolding reading_of read_line line_from named_from pairs_from taken fields_of pair_of keyed_of half_of value_of hat_of guid_of
+unfolding reading_of read_view read_line named_from pairs_from taken puts_of fields_of pair_of keyed_of half_of value_of hat_of guid_of
     count_of first_of empty_map to_map same read_digits unsigned index_number begins first_length char_length run_of valid_run
     is_utf8 axes_sdl axes_table row_from key_row hex_digit read_hex uuid_of u
 dpright_place = refl

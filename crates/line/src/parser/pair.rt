@@ -1,5 +1,5 @@
 // A pair of a key and a value: the checks in their order, and the token.
-ghost use Rattle.std.specs.Prelude.{◌≡◌, ◌+◌, ◌<◌, ◌^◌, length, Some};
+ghost use Rattle.std.specs.Prelude.{◌≡◌, ◌+◌, ◌<◌, ◌^◌, length};
 ghost use Rattle.text.specs.Bytes.{ascii, same};
 ghost use Rattle.line.specs.Fields.{count_of};
 ghost use Rattle.line.specs.Pairs.{half_of, skip_of, mapped_of, keyed_of, pair_of};
@@ -14,7 +14,7 @@ use text::bytes::{find_byte, same_bytes};
 #[tactic(auto, using(crate::proofs::CountLaws::first_below), unfolding(crate::specs::Pairs::pair_of))]
 pub fn read_pair(pair: &[u8], p: usize) -> Result<Token, Error>
     requires { p + length pair.now < 2 ^ 64 }
-    ensures { Some result ≡ pair_of pair.now p }
+    ensures { result ≡ pair_of pair.now p }
 {
     if count_byte(pair, b':') != 1 {
         return Err(Error {
@@ -45,7 +45,7 @@ fn count_byte(s: &[u8], b: u8) -> usize
 #[tactic(auto, using(crate::proofs::CountLaws::skip_le), unfolding(crate::specs::Pairs::keyed_of))]
 fn keyed(key: &[u8], value: &[u8], p: usize, at: usize) -> Result<Token, Error>
     requires { p + length value.now < 2 ^ 64 }
-    ensures { Some result ≡ keyed_of key.now value.now p at }
+    ensures { result ≡ keyed_of key.now value.now p at }
 {
     let len = value.len();
     if len == 0 {
@@ -98,7 +98,7 @@ fn mapped(
     to: Option<AxisOrBtn>,
     p: usize,
 ) -> Result<Token, Error>
-    ensures { Some result ≡ mapped_of value output to p }
+    ensures { result ≡ mapped_of value output to p }
 {
     let refusal = |kind| Error { kind, position: p };
     let halved = Ranges {
