@@ -27,7 +27,6 @@ use Rattle.text.specs.Search.{lf}
 use Rattle.store.specs.Layout.{Bytes}
 use Rattle.store.specs.Inner.{GoodFor, behind, first_line, known, insert_full}
 use Rattle.store.specs.Claims.{not_of, Owed}
-use Rattle.store.specs.Keys.{rows_max}
 use Rattle.store.specs.Lines.{lines_of, wanted}
 use Rattle.store.specs.Table.{Tabled, Settles, Settled, InRows, Loads, Files', Filed, fits, full}
 use Rattle.store.specs.Table.{FilesRow, Comes, goes, stops}
@@ -167,10 +166,10 @@ module _ {d : Dues} {i t s : List ℕ} {a₀ : List Row} {heads₀ next₀ : Lis
     first_at_lem = omega (arith, w.counted)
 
     -- the insert goes on from `at`
-    pub take_on : (f₀.count < rows_max → from < length s → from < at)
+    pub take_on : (f₀.count < length a₀ → from < length s → from < at)
         → TakesLines d i t s a₀ heads₀ next₀ own from f₀ a
         (record { answer = Ok tt; at = at; count = count; filled = f.count })
-        × Went s from f₀.count (record { answer = Ok tt; at = at; count = count; filled = f.count })
+        × Went s from f₀.count (length a₀) (record { answer = Ok tt; at = at; count = count; filled = f.count })
     take_on moves = (
       λ g old hs o p.
           let x : Took g i t s a heads next own from old f at count hs = w.took g old hs o p in
@@ -233,7 +232,7 @@ module _ {d : Dues} {i t s : List ℕ} {a₀ : List Row} {heads₀ next₀ : Lis
       pub take_off : (e : StoreError) → r ≡ Err e
           → TakesLines d i t s a₀ heads₀ next₀ own from f₀ a'
           (record { answer = Err e; at = at; count = count; filled = f.count })
-          × Went s from f₀.count (record { answer = Err e; at = at; count = count; filled = f.count })
+          × Went s from f₀.count (length a₀) (record { answer = Err e; at = at; count = count; filled = f.count })
       take_off e z = (
         λ g old hs o p.
             let x : Took g i t s a heads next own from old f at count hs = w.took g old hs o p in
@@ -293,8 +292,8 @@ module _ (d : Dues) (g i t s : List ℕ) (a : List Row) (heads next : List ℕ) 
         go (onward ks o run k p) = onward ks o run k (held ks p)
         go (halted ks v o run k p) = halted ks v o run k (held ks p)
 
-pub went_from : (s : List ℕ) (from f : ℕ) (r : Walked) → f < rows_max → Went s from f r → Went s from 0 r
-went_from s from f r l w =
+pub went_from : (s : List ℕ) (from f n : ℕ) (r : Walked) → f < n → Went s from f n r → Went s from 0 n r
+went_from s from f n r l w =
     record { within = w.within; counted = w.counted; moved = λ p q o. w.moved l q o }
 
 pub both_most : (i t : List ℕ) → Bytes i → known (decode i t) ≡ true → (length i ≤ index_max) × (length t ≤ text_max)

@@ -9,12 +9,12 @@ use Prim.Native.Nat.{ℕ, ◌+◌, ◌-◌, ◌≤◌, ◌<◌}
 use native.Mathlib.Nat.{eq-or-lt_of_le}
 use native.Mathlib.Omega.{arith}
 use lib.Dec.{eqb, ltb}
-use lib.ListN.{get_or, set, replicate, get_or-replicate, length-replicate, length-set}
+use lib.ListN.{length, get_or, set, replicate, get_or-replicate, length-replicate, length-set}
 use lib.Seq.{get_or-set_same, get_or-set_other}
 use borrow.Author.Count.{below_more}
 use borrow.Author.Tests.{ltb-true, ltb-false, eqb-true, eqb-false}
 use Rattle.store.specs.Held.{Key, same_key}
-use Rattle.store.specs.Keys.{rows_max, bucket, AllApart, Twice, NotIn, Kin, Last, Linked, Headed}
+use Rattle.store.specs.Keys.{bucket, AllApart, Twice, NotIn, Kin, Last, Linked, Headed}
 use Rattle.store.specs.Keys.{Chained, Seeks, Sought, Says, Tells, told_of}
 use Rattle.store.specs.declared.chains.Verdict.{Verdict}
 use Rattle.store.specs.declared.chains.Verdict.TheVariants as Vd
@@ -28,14 +28,14 @@ unlike a b n e =
     omega arith
 
 -- what is left to seek at c
-pub record Seeking (K : ℕ → Key) (k m c : ℕ) : Type 0 where
+pub record Seeking (N : ℕ) (K : ℕ → Key) (k m c : ℕ) : Type 0 where
   pub passed : NotIn K k c m
-  pub kin : Kin K k c
+  pub kin : Kin N K k c
   pub within : c ≤ k
 
-pub seek_turn : (K : ℕ → Key) (next : List ℕ) (k m c d : ℕ) → Linked K next k → Seeking K k m c → 0 < c
-    → same_key (K (c - 1)) (K k) ≡ false → d ≡ get_or next (c - 1) 0 → Seeking K k m d × (d < c)
-seek_turn K next k m c d links s pos ne hd = (
+pub seek_turn : (N : ℕ) (K : ℕ → Key) (next : List ℕ) (k m c d : ℕ) → Linked N K next k → Seeking N K k m c → 0 < c
+    → same_key (K (c - 1)) (K k) ≡ false → d ≡ get_or next (c - 1) 0 → Seeking N K k m d × (d < c)
+seek_turn N K next k m c d links s pos ne hd = (
   record {
     passed = λ j l h e. go j l h e (ltb j (c - 1)) refl;
     kin = λ p. last.kin p ∙ s.kin pos;
@@ -44,22 +44,23 @@ seek_turn K next k m c d links s pos ne hd = (
   omega (arith, last.within),
 )
   where
-    last : Last K (bucket (K (c - 1))) (c - 1) d
-    last = subst (Last K (bucket (K (c - 1))) (c - 1)) (sym hd) (links (c - 1) (omega (arith, s.within)))
+    last : Last N K (bucket N (K (c - 1))) (c - 1) d
+    last = subst (Last N K (bucket N (K (c - 1))) (c - 1)) (sym hd) (links (c - 1) (omega (arith, s.within)))
 
     go : (j : ℕ) → d ≤ j → j < m → K j ≡ K k → (t : Bool) → ltb j (c - 1) ≡ t → ⊥
-    go j l h e true t = last.near j l (ltb-true j (c - 1) t) (ap bucket e ∙ sym (s.kin pos))
+    go j l h e true t = last.near j l (ltb-true j (c - 1) t) (ap (bucket N) e ∙ sym (s.kin pos))
     go j l h e false t =
         ⊎_elim (λ q. unlike (K (c - 1)) (K k) ne (ap K q ∙ e)) (λ lt. s.passed j (omega arith) h e)
         (eq-or-lt_of_le (ltb-false j (c - 1) t))
 
 -- the first step of number k, which is linked, in the chain that starts before m: where m is 0, nothing comes behind it
-module _ (K : ℕ → Key) (next : List ℕ) (k m : ℕ) (links : Linked K next (k + 1)) (kin : Kin K k m) (w : m ≤ k) where
+module _ (N : ℕ) (K : ℕ → Key) (next : List ℕ) (k m : ℕ) (links : Linked N K next (k + 1)) (kin : Kin N K k m)
+    (w : m ≤ k) where
   pub step_on : (d : ℕ) → same_key (K (m - 1)) (K k) ≡ false → d ≡ get_or next (m - 1) 0
-      → (NotIn K k d m × (d ≤ m)) × Kin K k d
+      → (NotIn K k d m × (d ≤ m)) × Kin N K k d
   step_on d ne e = go (eqb m 0) refl
     where
-      go : (t : Bool) → eqb m 0 ≡ t → (NotIn K k d m × (d ≤ m)) × Kin K k d
+      go : (t : Bool) → eqb m 0 ≡ t → (NotIn K k d m × (d ≤ m)) × Kin N K k d
       go true t =
           let z : m ≡ 0 = eqb-true m 0 t in
           let first : m - 1 ≡ 0 = omega (arith, z) in
@@ -68,7 +69,7 @@ module _ (K : ℕ → Key) (next : List ℕ) (k m : ℕ) (links : Linked K next 
           ((λ j l h q. omega (arith, z, h), omega (arith, z, least)), λ p. absurd (omega (arith, p, least)))
       go false t =
           let n : m ≡ 0 → ⊥ = eqb-false m 0 t in
-          let on = seek_turn K next k m m d (λ a l. links a (omega (arith, l)))
+          let on = seek_turn N K next k m m d (λ a l. links a (omega (arith, l)))
           (record { passed = λ j l h q. omega arith; kin = kin; within = w }) (omega (arith, n)) ne e in
           ((on.0.passed, omega (arith, on.1)), on.0.kin)
 
@@ -80,74 +81,89 @@ seeks_from K k m d r n q = record { clear = λ l j a b e. go l j a b e (ltb j d)
     go l j a b e true t = q.clear l j a (ltb-true j d t) e
     go l j a b e false t = n j (ltb-false j d t) b e
 
-pub chained_none : (K : ℕ → Key) → Chained K (replicate rows_max 0) (replicate rows_max 0) 0
-chained_none K = record {
+pub chained_none : (K : ℕ → Key) (N : ℕ) → N ≤ 65535 → Chained K (replicate N 0) (replicate N 0) 0
+chained_none K N m = record {
   links = λ a l. absurd (omega arith);
-  ends = λ b l. subst (Last K b 0) (sym (get_or-replicate {A = ℕ} rows_max b 0 0 l))
+  ends = λ b l. subst (Last (length (replicate {A = ℕ} N 0)) K b 0)
+      (sym (get_or-replicate {A = ℕ} N b 0 0 (omega (arith, l, length-replicate {A = ℕ} N 0))))
       (record { near = λ j m n e. omega arith; kin = λ p. absurd (omega arith); within = omega arith });
-  heads_long = length-replicate {A = ℕ} rows_max 0;
-  next_long = length-replicate {A = ℕ} rows_max 0;
+  most = omega (arith, length-replicate {A = ℕ} N 0);
+  alike = refl;
 }
 
 -- what the chain says, all numbers below k say
-pub chain_sought : (K : ℕ → Key) (k c : ℕ) → Last K (bucket (K k)) k c → (r : ℕ) → Seeks K k c r → Sought K k r
-chain_sought K k c last r q = record { clear = λ l j a b e. go l j a b e (ltb j c) refl; hit = q.hit }
+pub chain_sought : (N : ℕ) (K : ℕ → Key) (k c : ℕ) → Last N K (bucket N (K k)) k c → (r : ℕ) → Seeks K k c r
+    → Sought K k r
+chain_sought N K k c last r q = record { clear = λ l j a b e. go l j a b e (ltb j c) refl; hit = q.hit }
   where
     go : r ≤ k → (j : ℕ) → r ≤ j → j < k → K j ≡ K k → (t : Bool) → ltb j c ≡ t → ⊥
     go l j a b e true t = q.clear l j a (ltb-true j c t) e
-    go l j a b e false t = last.near j (ltb-false j c t) b (ap bucket e)
+    go l j a b e false t = last.near j (ltb-false j c t) b (ap (bucket N) e)
 
-pub chain_from : (K : ℕ → Key) (next : List ℕ) (n k c : ℕ) → Linked K next n → k < n → c ≡ get_or next k 0
-    → Last K (bucket (K k)) k c
-chain_from K next n k c links l e = subst (Last K (bucket (K k)) k) (sym e) (links k l)
+pub chain_from : (N : ℕ) (K : ℕ → Key) (next : List ℕ) (n k c : ℕ) → Linked N K next n → k < n → c ≡ get_or next k 0
+    → Last N K (bucket N (K k)) k c
+chain_from N K next n k c links l e = subst (Last N K (bucket N (K k)) k) (sym e) (links k l)
 
 -- number k, of bucket h, is linked to c, the head of its chain
-module _ {K : ℕ → Key} {heads next : List ℕ} {k h c : ℕ} (s : Chained K heads next k)
-    (at : (h ≡ bucket (K k)) × (h < rows_max)) (hc : c ≡ get_or heads h 0) (kl : k < rows_max) where
-  pub here : Last K (bucket (K k)) k c
-  here = subst (λ (b : ℕ). Last K b k c) at.0 (subst (Last K h k) (sym hc) (s.ends h at.1))
+module _ {N : ℕ} {K : ℕ → Key} {heads next : List ℕ} {k h c : ℕ} (s : Chained K heads next k)
+    (hn : length heads ≡ N) (at : (h ≡ bucket N (K k)) × (h < N)) (hc : c ≡ get_or heads h 0) (kl : k < N) where
+  -- the links so far, by that number of buckets
+  pub links_so_far : Linked N K next k
+  links_so_far = subst (λ (n : ℕ). Linked n K next k) hn s.links
+
+  pub here : Last N K (bucket N (K k)) k c
+  here =
+      subst (λ (b : ℕ). Last N K b k c) at.0 (subst (Last N K h k) (sym hc)
+      (subst (λ (n : ℕ). Headed n K heads k) hn s.ends h at.1))
 
   pub sought : {r : ℕ} → Seeks K k c r → Sought K k r
-  sought q = chain_sought K k c here _ q
+  sought q = chain_sought N K k c here _ q
 
-  pub links_turn : Linked K (set next k c) (k + 1)
+  pub links_turn : Linked N K (set next k c) (k + 1)
   links_turn =
-      below_more (λ (a : ℕ). Last K (bucket (K a)) a (get_or (set next k c) a 0)) k
-      (λ a l. subst (Last K (bucket (K a)) a) (sym (get_or-set_other next k a c 0 (λ e. omega arith))) (s.links a l))
-      (subst (Last K (bucket (K k)) k) (sym (get_or-set_same next k c 0 (omega (arith, s.next_long)))) here)
+      below_more (λ (a : ℕ). Last N K (bucket N (K a)) a (get_or (set next k c) a 0)) k
+      (λ a l. subst (Last N K (bucket N (K a)) a) (sym (get_or-set_other next k a c 0 (λ e. omega arith)))
+      (links_so_far a l))
+      (subst (Last N K (bucket N (K k)) k) (sym (get_or-set_same next k c 0 (omega (arith, s.alike, hn)))) here)
 
   module _ (v : ℕ) (hv : v ≡ k + 1) where
-    heads_turn : Headed K (set heads h v) (k + 1)
+    heads_turn : Headed N K (set heads h v) (k + 1)
     heads_turn b l = go (eqb b h) refl
       where
-        go : (t : Bool) → eqb b h ≡ t → Last K b (k + 1) (get_or (set heads h v) b 0)
+        was : Last N K b k (get_or heads b 0)
+        was = subst (λ (n : ℕ). Headed n K heads k) hn s.ends b l
+
+        go : (t : Bool) → eqb b h ≡ t → Last N K b (k + 1) (get_or (set heads h v) b 0)
         go true t =
             let e : b ≡ h = eqb-true b h t in
             let head : get_or (set heads h v) b 0 ≡ k + 1
-            = ap (λ (x : ℕ). get_or (set heads h v) x 0) e ∙ get_or-set_same heads h v 0 (omega (arith, s.heads_long))
+            = ap (λ (x : ℕ). get_or (set heads h v) x 0) e ∙ get_or-set_same heads h v 0 (omega (arith, hn, at.1))
             ∙ hv in
             let one : k ≡ k + 1 - 1 = omega arith in
-            subst (Last K b (k + 1)) (sym head) (record {
+            subst (Last N K b (k + 1)) (sym head) (record {
               near = λ j m n q. omega arith;
-              kin = λ p. ap (λ (x : ℕ). bucket (K x)) (sym one) ∙ sym at.0 ∙ sym e;
+              kin = λ p. ap (λ (x : ℕ). bucket N (K x)) (sym one) ∙ sym at.0 ∙ sym e;
               within = omega arith;
             })
         go false t =
             let n : b ≡ h → ⊥ = eqb-false b h t in
-            subst (Last K b (k + 1)) (sym (get_or-set_other heads h b v 0 n)) (record {
+            subst (Last N K b (k + 1)) (sym (get_or-set_other heads h b v 0 n)) (record {
               near = λ j m l'.
-                  below_more (λ (x : ℕ). get_or heads b 0 ≤ x → bucket (K x) ≡ b → ⊥) k
-                  (λ x lx mx. (s.ends b l).near x mx lx) (λ mx q. n (sym q ∙ sym at.0)) j l' m;
-              kin = (s.ends b l).kin;
-              within = omega (arith, (s.ends b l).within);
+                  below_more (λ (x : ℕ). get_or heads b 0 ≤ x → bucket N (K x) ≡ b → ⊥) k
+                  (λ x lx mx. was.near x mx lx) (λ mx q. n (sym q ∙ sym at.0)) j l' m;
+              kin = was.kin;
+              within = omega (arith, was.within);
             })
+
+    heads_kept : length (set heads h v) ≡ N
+    heads_kept = length-set heads h v ∙ hn
 
     pub chained_turn : Chained K (set heads h v) (set next k c) (k + 1)
     chained_turn = record {
-      links = links_turn;
-      ends = heads_turn;
-      heads_long = length-set heads h v ∙ s.heads_long;
-      next_long = length-set next k c ∙ s.next_long;
+      links = subst (λ (n : ℕ). Linked n K (set next k c) (k + 1)) (sym heads_kept) links_turn;
+      ends = subst (λ (n : ℕ). Headed n K (set heads h v) (k + 1)) (sym heads_kept) heads_turn;
+      most = omega (arith, length-set heads h v, s.most);
+      alike = length-set next k c ∙ s.alike ∙ sym (length-set heads h v);
     }
 
 -- the first k are apart, and so is the next one

@@ -21,7 +21,7 @@ use Rattle.store.specs.Book.{room_for}
 use Rattle.store.specs.Decode.{decode}
 use Rattle.store.specs.Held.{Key, Held, file}
 use Rattle.store.specs.Inner.{Sized, sizes, behind}
-use Rattle.store.specs.Keys.{rows_max, Chained, Sought}
+use Rattle.store.specs.Keys.{Chained, Sought}
 use Rattle.store.specs.Layout.{record_bytes, texts}
 use Rattle.store.specs.Rows.{row_in, key_in, start_in, len_in, row_put}
 use Rattle.store.specs.Table.{living, source_of, line_at, Tabled, InRows, len_before, Begins, struck_before}
@@ -39,7 +39,7 @@ use Rattle.store.specs.declared.table.Full.{Full}
 
 module _ {g : List ℕ} {d : Dues} {i t s : List ℕ} {a : List Row} {heads next : List ℕ} {old : ℕ} {f : Fill}
     {u : Key} {start len : ℕ} {hs : List Held} (w : Files' g d i t s a heads next old f u start len hs)
-    (cl : f.count < rows_max)
+    (cl : f.count < length a)
   where
     abbrev a' : List Row
     a' = row_put a f.count u start len
@@ -166,8 +166,7 @@ module _ {g : List ℕ} {d : Dues} {i t s : List ℕ} {a : List Row} {heads next
                       (λ j p e. z j p (ap (λ (r : Row). r.len) (intact j (omega (arith, x.tabled.olds)) (z j p))
                       ∙ e)));
                   olds = omega (arith, x.tabled.olds);
-                  most = omega arith;
-                  long = y.long;
+                  most = omega (arith, y.long);
                   good = record {
                     index = omega (arith, end_is);
                     text = text_there g i t h hs d w.owed e _ end_is used_is all ev q;

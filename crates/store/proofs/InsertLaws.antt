@@ -194,8 +194,8 @@ module _ {g : List ℕ} {own : ℕ} {i₀ t₀ s i t : List ℕ} {at count : ℕ
             (record { answer = Err e; count = count + r.count })
             (ap (λ (m : StoreError). record { answer = Err m; count = count + r.count }) (sym z)) i' t' p
 
-    pub insert_turn_lem : r.answer ≡ Ok tt → Went s at 0 r → Inserting g own i₀ t₀ s i' t' r.at (count + r.count)
-    insert_turn_lem n b =
+    pub insert_turn_lem : r.answer ≡ Ok tt → {n : ℕ} → 0 < n → Went s at 0 n r → Inserting g own i₀ t₀ s i' t' r.at (count + r.count)
+    insert_turn_lem n l b =
         let q : (hs : List Held) × (decode i₀ t₀ ≡ some hs) = lines_of_lem (decode i₀ t₀) w.sound in
         let y : Inserts g own i₀ t₀ s i' t' r.at (count + r.count) q.0 = next q.0
         (w.inserts q.0 q.1) in

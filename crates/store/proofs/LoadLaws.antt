@@ -16,11 +16,11 @@ use Rattle.store.specs.declared.rows.Row.{Row}
 use Rattle.store.specs.declared.records.Head.{Head}
 use Rattle.store.specs.declared.table.Fill.{Fill}
 use Rattle.store.specs.Decode.{head_at}
-use Rattle.store.specs.Held.{Key, Held, distinct, index_max}
+use Rattle.store.specs.Held.{Key, Held, distinct}
 use Rattle.store.specs.Layout.{Bytes}
 use Rattle.store.specs.Inner.{Lies, size_of, sizes}
-use Rattle.store.specs.Keys.{rows_max, Chained}
-use Rattle.store.specs.Rows.{row_in, key_in, start_in, len_in, row_put, Long}
+use Rattle.store.specs.Keys.{Enough, Chained}
+use Rattle.store.specs.Rows.{row_in, key_in, start_in, len_in, row_put}
 use Rattle.store.specs.Layout.{Shapes, texts}
 use Rattle.store.specs.Table.{living, line_at, Extends, InRows, Loads}
 use Rattle.store.proofs.DecodeLaws.{Laid, laid, good}
@@ -48,25 +48,32 @@ pub record Loaded (i : List ℕ) (at : ℕ) (a : List Row) (n u : ℕ) (hs : Lis
       → length (texts (living (line_at t s a old) k)) ≤ start_in a k
 
 pub record Loading (i : List ℕ) (at : ℕ) (a : List Row) (heads next : List ℕ) (n used : ℕ) : Type 0 where
-  pub many : 16 * n ≤ at
-  pub small : length i ≤ index_max
-  pub long : Long a
+  pub many : 21 * n ≤ at
+  pub enough : Enough (length a) (length i)
   pub chained : Chained (key_in a) heads next n
   pub listing : Listing i at a n
   pub loaded : (hs : List Held) → Lies 0 hs i → Loaded i at a n used hs
+
+-- as many rows are enough for a part of an index
+pub enough_less : {N n m : ℕ} → m ≤ n → Enough N n → Enough N m
+enough_less l w = record {
+  some = w.some;
+  most = w.most;
+  records = omega (arith, w.records, l);
+  within = omega (arith, w.within, l);
+}
 
 pub loads_extend : (i t : List ℕ) (a : List Row) (heads next : List ℕ) (f : Fill)
     → Loads i a heads next f → Extends i t f
 loads_extend i t a heads next f w hs d = ((w t [] hs d).end, (w t [] hs d).used)
 
-pub load-first : (i : List ℕ) (a : List Row) (heads next : List ℕ) → length i ≤ index_max → Long a
+pub load-first : (i : List ℕ) (a : List Row) (heads next : List ℕ) → Enough (length a) (length i)
     → Chained (key_in a) heads next 0 → Loading i 0 a heads next 0 0
-load-first i a heads next m l c = record {
+load-first i a heads next m c = record {
   many = omega arith;
-  small = m;
-  long = l;
+  enough = m;
   chained = c;
-  listing = list_first i a l;
+  listing = list_first i a;
   loaded = λ hs q. record {
     rest = first i 0 hs q;
     front = [];
@@ -82,8 +89,8 @@ load-first i a heads next m l c = record {
 
 module _ (i : List ℕ) (at : ℕ) (a : List Row) (heads next : List ℕ) (n used : ℕ) (w : Loading i at a heads next n used)
   where
-    pub load_less : n < rows_max
-    load_less = omega (arith, w.many, w.small, w.listing.within)
+    pub load_less : n < length a
+    load_less = omega (arith, w.many, w.enough.some, w.enough.records, w.listing.within)
 
     module _ (head : Head) (e : head ≡ head_at (drop at i)) where
       pub load_end : head.size ≡ 0 → Bytes i → Loads i a heads next (record { count = n; end = at; used = used })
@@ -124,7 +131,6 @@ module _ (i : List ℕ) (at : ℕ) (a : List Row) (heads next : List ℕ) (n use
                       );
                   olds = omega arith;
                   most = omega (arith, load_less);
-                  long = w.long;
                   good = record { index = (good i t hs l).index; text = (good i t hs l).text };
                 };
                 older = apart;
@@ -201,7 +207,7 @@ module _ (i : List ℕ) (at : ℕ) (a : List Row) (heads next : List ℕ) (n use
 
             new : row_in (row_put a n head.key head.off head.len) n
                 ≡ record { key = head.key; start = head.off; len = head.len }
-            new = row_same a n head.key head.off head.len w.long load_less
+            new = row_same a n head.key head.off head.len load_less
 
             front' : List Held
             front' = x.front ++ (h ∷ [])
@@ -247,7 +253,7 @@ module _ (i : List ℕ) (at : ℕ) (a : List Row) (heads next : List ℕ) (n use
             here : (t s z : List ℕ) (old : ℕ) → n < old → t ≡ texts hs ++ z
                 → line_at t s (row_put a n head.key head.off head.len) old n ≡ h ∷ []
             here t s z old p et =
-                gives_new t s a old n head.key head.off head.len w.long load_less
+                gives_new t s a old n head.key head.off head.len load_less
                 (omega (arith, len_is, some))
                 ∙ ap (λ (c : Bool). record { key = head.key; line = take head.len (drop head.off (pick c t s)) }
                 ∷ [])
@@ -265,8 +271,7 @@ module _ (i : List ℕ) (at : ℕ) (a : List Row) (heads next : List ℕ) (n use
                 ap (λ (v : Head). v.size) e,
                 head_least (drop at i) (λ z. m (ap (λ (v : Head). v.size) e ∙ z)),
               );
-              small = w.small;
-              long = put_long a n head.key head.off head.len w.long;
+              enough = subst (λ (v : ℕ). Enough v (length i)) (sym (put_long a n head.key head.off head.len)) w.enough;
               chained = subst (λ (v : List Row). Chained (key_in v) heads' next' (n + 1)) eb ch;
               listing = list_turn i at a n w.listing head e m load_less;
               loaded = λ hs l. step hs (w.loaded hs l) (onward i at head e (w.loaded hs l).rest);

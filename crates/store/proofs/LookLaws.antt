@@ -23,7 +23,7 @@ use Rattle.store.specs.Shares.{Content}
 use Rattle.store.specs.Held.{Key, Held, same_key, find}
 use Rattle.store.specs.Inner.{known}
 use Rattle.store.specs.Keys.{Sought}
-use Rattle.store.specs.Rows.{row_in, key_in, start_in, len_in, row_put, Long}
+use Rattle.store.specs.Rows.{row_in, key_in, start_in, len_in, row_put}
 use Rattle.store.specs.Table.{living, held_at, line_at, InRows, Stocks, len_before}
 use Rattle.store.specs.Sights.{Ready, Agree, Spot, Spots, nowhere, there, Sees}
 use Rattle.store.specs.Store.{Looked, nothing, unsound, looked_in, looked_at, look_by}
@@ -190,14 +190,13 @@ module _ {a : List Row} {heads next : List ℕ} {n : ℕ} (k : Key) (p : Ready a
 
   pub put_ready : Ready b heads next n
   put_ready = record {
-    few = p.few;
-    long = subst Long (sym eb) (put_long a n k 0 0 p.long);
+    few = omega (arith, p.few, ap length eb, put_long a n k 0 0);
     chained = chained_agree (key_in a) (key_in b) n (λ j m. ap (λ (v : Row). v.key) (put_agree j m)) heads next
         p.chained;
   }
 
   pub put_new : key_in b n ≡ k
-  put_new = ap (λ (v : List Row). key_in v n) eb ∙ ap (λ (v : Row). v.key) (row_same a n k 0 0 p.long p.few)
+  put_new = ap (λ (v : List Row). key_in v n) eb ∙ ap (λ (v : Row). v.key) (row_same a n k 0 0 p.few)
 
 -- ---- what a look-up says
 
@@ -221,11 +220,11 @@ module _ (k : Key) (i t : List ℕ) where
           (record { how = refl; within = w; line = refl }))
 
 -- the lines of a sound store are in their chains, and the key's chain tells the line that is held
-module _ {i t : List ℕ} {l : Ledger} {s : Stock} (w : Stocks i t l s) where
+module _ {N : ℕ} {i t : List ℕ} {l : Ledger N} {s : Stock} (w : Stocks i t l s) where
   pub stock_ready : Ready l.table.rows l.table.heads l.table.next s.fill.count
   stock_ready =
       let x = stock_rows i t l s w in
-      record { few = w.loads.1; long = x.tabled.long; chained = x.chained }
+      record { few = w.loads.1; chained = x.chained }
 
   pub sees_stock : (k : Key) (r : Optional Part) → Spots l.table.rows l.table.heads l.table.next s.fill k r
       → Sees t (look_by k i t) (Ok r)

@@ -191,7 +191,7 @@ module _ (k : Key) (i t : List ℕ) where
   near_sound c e r s = subst (λ (o : Option Content). NearSees t (near_at k o) (Ok r)) (sym e) s
 
 -- both tries, in a sound store
-pub near_stock : {i t : List ℕ} {l : Ledger} {s : Stock} (w : Stocks i t l s) (k : Key)
+pub near_stock : {N : ℕ} {i t : List ℕ} {l : Ledger N} {s : Stock} (w : Stocks i t l s) (k : Key)
     (r : Optional (Nearness × Part)) → Tries l.table.rows l.table.heads l.table.next s.fill k r
     → NearSees t (near_by k i t) (Ok r)
 near_stock {i} {t} {l} {s} w k r p =

@@ -12,12 +12,12 @@ use Rattle.store.specs.declared.records.Head.{Head}
 use Rattle.store.specs.Decode.{head_at}
 use Rattle.store.specs.Held.{Key, Held, same_key, holds, distinct}
 use Rattle.store.specs.Inner.{Lies, Once}
-use Rattle.store.specs.Keys.{rows_max, key_of, Lists, AllApart, Twice, Tells}
-use Rattle.store.specs.Rows.{key_in, row_put, Long}
+use Rattle.store.specs.Keys.{key_of, Lists, AllApart, Twice, Tells}
+use Rattle.store.specs.Rows.{key_in, row_put}
 use Rattle.store.proofs.BoolLaws.{and_both, and_false_left, and_false_right, or_false}
 use Rattle.store.proofs.HeldLaws.{same_refl, same_eq}
 use Rattle.store.proofs.RowLaws.{Rest, first, Onward, ended, stands, onward, size_not, next_within}
-use Rattle.store.proofs.WriteLaws.{put_long, row_same, row_other}
+use Rattle.store.proofs.WriteLaws.{row_same, row_other}
 
 -- ---- distinct lines, by their numbers
 
@@ -88,13 +88,11 @@ pub record Lists' (i : List ℕ) (at : ℕ) (K : ℕ → Key) (n : ℕ) (hs : Li
 
 pub record Listing (i : List ℕ) (at : ℕ) (a : List Row) (n : ℕ) : Type 0 where
   pub within : at ≤ length i
-  pub long : Long a
   pub lists : (off : ℕ) (hs : List Held) → Lies off hs i → Lists' i at (key_in a) n hs
 
-pub list_first : (i : List ℕ) (a : List Row) → Long a → Listing i 0 a 0
-list_first i a p = record {
+pub list_first : (i : List ℕ) (a : List Row) → Listing i 0 a 0
+list_first i a = record {
   within = omega arith;
-  long = p;
   lists = λ off hs l. record {
     rest = first i off hs l;
     count = omega arith;
@@ -117,11 +115,10 @@ module _ (i : List ℕ) (at : ℕ) (a : List Row) (n : ℕ) (w : Listing i at a 
   abbrev K' : ℕ → Key
   K' k = key_in (row_put a n head.key head.off head.len) k
 
-  pub list_turn : (head.size ≡ 0 → ⊥) → n < rows_max
+  pub list_turn : (head.size ≡ 0 → ⊥) → n < length a
       → Listing i (at + head.size) (row_put a n head.key head.off head.len) (n + 1)
   list_turn z m = record {
     within = next_within i at head e w.within;
-    long = put_long a n head.key head.off head.len w.long;
     lists = λ off hs l. go hs (w.lists off hs l) (onward i at head e (w.lists off hs l).rest);
   }
     where
@@ -129,7 +126,7 @@ module _ (i : List ℕ) (at : ℕ) (a : List Row) (n : ℕ) (w : Listing i at a 
       old k l = ap (λ (r : Row). r.key) (row_other a n head.key head.off head.len k (λ q. omega arith))
 
       new : K' n ≡ head.key
-      new = ap (λ (r : Row). r.key) (row_same a n head.key head.off head.len w.long m)
+      new = ap (λ (r : Row). r.key) (row_same a n head.key head.off head.len m)
 
       go : (hs : List Held) (x : Lists' i at (key_in a) n hs) → Onward i at head e x.rest
           → Lists' i (at + head.size) (key_in (row_put a n head.key head.off head.len)) (n + 1) hs

@@ -79,7 +79,7 @@ module _ (i t g : List ℕ) (p : ℕ) (f : Fronts i g p) (b : Bytes i) where
 
 -- ---- what `take_stock` says of a sound store
 
-module _ {i t : List ℕ} {l : Ledger} {r : Stock} (w : Stocks i t l r) (b : Bytes i) where
+module _ {N : ℕ} {i t : List ℕ} {l : Ledger N} {r : Stock} (w : Stocks i t l r) (b : Bytes i) where
   pub stock_lines : known (decode (mid_of r.front (length i - r.front) i) t) ≡ true
   stock_lines = part_lines i t l.shares r.front w.front b w.is
 

@@ -143,7 +143,7 @@ module _ (i : List ℕ) where
       go (one s) = s
       go (empty e) = absurd (n (ap (λ (h : Head). h.size) e))
 
-  pub head_least : ((head_at i).size ≡ 0 → ⊥) → 16 ≤ (head_at i).size
+  pub head_least : ((head_at i).size ≡ 0 → ⊥) → 21 ≤ (head_at i).size
   head_least n = omega (arith, ap (λ (h : Head). h.size) (stands n).is, (size_least (stands n).owner).0)
 
   pub head_within : (head_at i).size ≤ length i

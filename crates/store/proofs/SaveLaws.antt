@@ -86,7 +86,7 @@ module _ (i t : List ℕ) (h : Held) where
       (λ hs e. owed hs (ap (λ (q : List ℕ). decode q t) (tail_part p i) ∙ e))
 
   -- in a store of which stock is taken
-  pub file_stocked : {l : Ledger} {s : Stock} (w : Stocks i t l s) (b : Bytes i) (d : Dues)
+  pub file_stocked : {N : ℕ} {l : Ledger N} {s : Stock} (w : Stocks i t l s) (b : Bytes i) (d : Dues)
       → DuesFrom l.table.rows s.fill l.shares h.key.owner d → (r : Result ⊤ Full) (part t' : List ℕ)
       → FilesLine d (mid_of s.front (length i - s.front) i) t h r part t' → (a : Result ⊤ SaveError)
       → a ≡ room_answer r

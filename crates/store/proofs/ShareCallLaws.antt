@@ -53,8 +53,8 @@ pub record Stocked (i t g : List ℕ) (a : List Row) (r : Stock) : Type 0 where
   pub index_most : length i ≤ index_max
   pub text_most : length t ≤ text_max
 
-pub stocked : {i t : List ℕ} {l : Ledger} {r : Stock} → Bytes i → Stocks i t l r → Stocked i t l.shares l.table.rows r
-stocked {i} {t} {l} {r} b s =
+pub stocked : {N : ℕ} {i t : List ℕ} {l : Ledger N} {r : Stock} → Bytes i → Stocks i t l r → Stocked i t l.shares l.table.rows r
+stocked {N} {i} {t} {l} {r} b s =
     let p = s.front in
     let h : Holds i t l.shares r.front = stock_holds i t l r s in
     let x = stock_rows i t l r s in
@@ -147,7 +147,7 @@ module _ (i t : List ℕ) (y : Bytes i) (c : Content) (e : content i t ≡ some 
           text_kept
 
 -- a share above the whole text
-module _ {i t : List ℕ} {l : Ledger} {r : Stock} (y : Bytes i) (s : Stocks i t l r) (o b : ℕ) (lo : o < owners) where
+module _ {N : ℕ} {i t : List ℕ} {l : Ledger N} {r : Stock} (y : Bytes i) (s : Stocks i t l r) (o b : ℕ) (lo : o < owners) where
   pub set_large : length t < b → unchanged i t (Err E.ShareTooLarge) ≡ store_share i t o b
   set_large m =
       let w : Stocked i t l.shares l.table.rows r = stocked y s in
@@ -170,13 +170,13 @@ module _ {i t : List ℕ} {l : Ledger} {r : Stock} (y : Bytes i) (s : Stocks i t
       (lt-ltb (length t) (claims later c.held) k)))
 
 -- a share within the text, in a store of which stock is taken
-pub record Setting (i t : List ℕ) (l : Ledger) (r : Stock) (o b : ℕ) : Type 0 where
+pub record Setting {N : ℕ} (i t : List ℕ) (l : Ledger N) (r : Stock) (o b : ℕ) : Type 0 where
   pub bytes : Bytes i
   pub stock : Stocks i t l r
   pub owner : o < owners
   pub fits : b ≤ length t
 
-module _ {i t : List ℕ} {l : Ledger} {r : Stock} {o b : ℕ} (s : Setting i t l r o b) where
+module _ {N : ℕ} {i t : List ℕ} {l : Ledger N} {r : Stock} {o b : ℕ} (s : Setting i t l r o b) where
   abbrev g : List ℕ
   g = l.shares
 

@@ -17,9 +17,9 @@ use Rattle.store.specs.declared.table.Fill.{Fill}
 use Rattle.store.specs.Decode.{decode}
 use Rattle.store.specs.Held.{Key, Held, same_key, strike}
 use Rattle.store.specs.Inner.{Sized, size_of, sizes}
-use Rattle.store.specs.Keys.{rows_max, Sought}
+use Rattle.store.specs.Keys.{Sought}
 use Rattle.store.specs.Layout.{record_bytes, texts}
-use Rattle.store.specs.Rows.{row_in, key_in, start_in, len_in, row_put, len_put, Long}
+use Rattle.store.specs.Rows.{row_in, key_in, start_in, len_in, row_put, len_put}
 use Rattle.store.specs.Table.{living, source_of, held_at, line_at, Tabled, InRows, len_before, Begins, struck_before}
 use Rattle.store.proofs.HeldLaws.{same_refl, same_eq}
 use Rattle.store.proofs.LivingLaws.{gives_none}
@@ -46,8 +46,15 @@ unfolding strike
 strike_gone u h true e = refl
 strike_gone u h false e = ap (λ (c : Bool). pick c [] (h ∷ [])) e
 
+pub struck_long : (a : List Row) (r : ℕ) → length (struck_before a r) ≡ length a
+struck_long a r = go (eqb r 0)
+  where
+    go : (b : Bool) → length (pick b a (len_put a (r - 1) 0)) ≡ length a
+    go true = refl
+    go false = len_long a (r - 1) 0
+
 module _ {i t s : List ℕ} {a : List Row} {heads next : List ℕ} {old : ℕ} {f : Fill} {hs : List Held}
-    (x : InRows i t s a heads next old f hs) (u : Key) (start len : ℕ) (cl : f.count < rows_max)
+    (x : InRows i t s a heads next old f hs) (u : Key) (start len : ℕ) (cl : f.count < length a)
   where
     abbrev a' : List Row
     a' = row_put a f.count u start len
@@ -65,7 +72,7 @@ module _ {i t s : List ℕ} {a : List Row} {heads next : List ℕ} {old : ℕ} {
     row_before k l = row_other a f.count u start len k (λ z. omega arith)
 
     pub row_new : row_in (row_put a f.count u start len) f.count ≡ record { key = u; start = start; len = len }
-    row_new = row_same a f.count u start len x.tabled.long cl
+    row_new = row_same a f.count u start len cl
 
     pub key_before : (k : ℕ) → k < f.count → key_in (row_put a f.count u start len) k ≡ key_in a k
     key_before k l = ap (λ (r : Row). r.key) (row_before k l)
@@ -101,8 +108,7 @@ module _ {i t s : List ℕ} {a : List Row} {heads next : List ℕ} {old : ℕ} {
           (x.tabled.stands k l
           (λ j p e. z j p (ap (λ (r : Row). r.len) (row_before j (omega (arith, x.tabled.olds))) ∙ e)));
       olds = x.tabled.olds;
-      most = x.tabled.most;
-      long = put_long a f.count u start len x.tabled.long;
+      most = omega (arith, x.tabled.most, put_long a f.count u start len);
       good = x.tabled.good;
     }
 
@@ -206,7 +212,7 @@ module _ {i t s : List ℕ} {a : List Row} {heads next : List ℕ} {old : ℕ} {
         pub starts : (k : ℕ) → k < f.count → start_in b k ≡ start_in a k
         pub either : (k : ℕ) → k < f.count → (len_in b k ≡ 0) ⊎ (row_in b k ≡ row_in a k)
         pub last : row_in b f.count ≡ record { key = u; start = start; len = len }
-        pub long : Long b
+        pub long : length b ≡ length a
         pub once : (j : ℕ) → j < f.count → key_in a j ≡ u → len_in b j ≡ 0
 
       pub struck : Before had b → Struck
@@ -225,7 +231,7 @@ module _ {i t s : List ℕ} {a : List Row} {heads next : List ℕ} {old : ℕ} {
             starts = λ k l. ap (λ (v : Row). v.start) (same k ∙ row_before k l);
             either = λ k l. inr (same k ∙ row_before k l);
             last = same f.count ∙ row_new;
-            long = subst Long (sym el) (put_long a f.count u start len x.tabled.long);
+            long = ap length el ∙ put_long a f.count u start len;
             once = λ j l e. absurd (g j l e);
           }
       struck (one j jl ej g eh el) = record {
@@ -250,7 +256,7 @@ module _ {i t s : List ℕ} {a : List Row} {heads next : List ℕ} {old : ℕ} {
             (λ e. inr (other k e ∙ row_before k l))
             (same_or k j);
         last = other f.count (λ e. omega arith) ∙ row_new;
-        long = subst Long (sym el) (len_long a' j 0 (put_long a f.count u start len x.tabled.long));
+        long = ap length el ∙ len_long a' j 0 ∙ put_long a f.count u start len;
         once = λ k l e. ⊎_elim (λ v. ap (λ (y : ℕ). len_in b y) v ∙ ap (λ (y : Row). y.len) gone)
             (λ v. ap (λ (y : Row). y.len) (other k v ∙ row_before k l) ∙ struck_before_lem k l v e) (same_or k j);
       }
@@ -260,7 +266,7 @@ module _ {i t s : List ℕ} {a : List Row} {heads next : List ℕ} {old : ℕ} {
 
           gone : row_in b j ≡ record { key = key_in a' j; start = start_in a' j; len = 0 }
           gone = ap (λ (v : List Row). row_in v j) el
-              ∙ len_same a' j 0 (put_long a f.count u start len x.tabled.long) (omega arith)
+              ∙ len_same a' j 0 (omega (arith, put_long a f.count u start len, cl, jl))
 
           nothing : S'' j ≡ []
           nothing = gives_none t s b old j (ap (λ (v : Row). v.len) gone)

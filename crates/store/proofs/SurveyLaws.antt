@@ -12,6 +12,7 @@ use Rattle.text.proofs.LentLaws.{tail_part}
 use lib.ListN.{length, drop, length-drop}
 use borrow.Author.Tests.{le-leb, lt-leb}
 use Rattle.text.specs.Bytes.{pick}
+use Rattle.store.specs.declared.rows.Area.{Area}
 use Rattle.store.specs.declared.rows.Row.{Row}
 use Rattle.store.specs.declared.chains.Verdict.{Verdict}
 use Rattle.store.specs.declared.chains.Verdict.TheVariants as Vd
@@ -25,8 +26,8 @@ use Rattle.store.specs.Layout.{Bytes}
 use Rattle.store.specs.Fronts.{Fronts}
 use Rattle.store.specs.Shares.{Content}
 use Rattle.store.specs.Inner.{HasRecord, known}
-use Rattle.store.specs.Keys.{rows_max, Says, Tells, told_of, Chained, Sought}
-use Rattle.store.specs.Rows.{key_in, row_put, Long}
+use Rattle.store.specs.Keys.{Enough, Suits, Says, Tells, told_of, Chained, Sought}
+use Rattle.store.specs.Rows.{key_in, row_put}
 use Rattle.store.specs.Table.{InRows, Loads, Surveys, OnceSurveyed, Stocks, OnceStocked}
 use Rattle.map.proofs.FilledLaws.{none_refused}
 use Rattle.store.proofs.BodyLaws.{bytes_part}
@@ -49,17 +50,17 @@ pub record Surveying (i t : List ℕ) (at : ℕ) (a : List Row) (heads next : Li
   pub loading : Loading i at a heads next n used
   pub says : Says (key_in a) n v
 
-pub survey_first : (i t : List ℕ) (a : List Row) (heads next : List ℕ) → length i ≤ index_max → Long a
+pub survey_first : (i t : List ℕ) (a : List Row) (heads next : List ℕ) → Enough (length a) (length i)
     → Chained (key_in a) heads next 0 → Surveying i t 0 a heads next 0 0 Vd.Apart
-survey_first i t a heads next m l c = record {
+survey_first i t a heads next m c = record {
   walks = walking i t;
-  loading = load-first i a heads next m l c;
+  loading = load-first i a heads next m c;
   says = λ x y p q e. omega arith;
 }
 
 module _ {i t : List ℕ} {at : ℕ} {a : List Row} {heads next : List ℕ} {n used : ℕ} {v : Verdict}
     (w : Surveying i t at a heads next n used v) where
-  pub survey_less : n < rows_max
+  pub survey_less : n < length a
   survey_less = load_less i at a heads next n used w.loading
 
   -- the rest of the index, as it is lent
@@ -139,6 +140,10 @@ module _ (i t : List ℕ) where
       ap (λ (b : Bool). known (pick b (with_lines (fronted i).shares (decode (fronted i).rest t)) none))
       (lt-leb _ index_max l)
 
+  -- no table is large enough
+  pub too_long : {o : Optional Area} → Suits (length i) o → o ≡ None → known (content i t) ≡ false
+  too_long w e = stock_index (subst (Suits (length i)) e w)
+
   -- the whole store is sound as the part behind the shares is
   known_rest : length i ≤ index_max → known (content i t) ≡ known (decode (fronted i).rest t)
   unfolding content
@@ -158,8 +163,11 @@ module _ {i g : List ℕ} {p : ℕ} (f : Fronts i g p) (l : length i ≤ index_m
   lent : part ≡ drop p i
   lent = tail_part p i
 
-  pub part_most : length part ≤ index_max
-  part_most = omega (arith, ap length lent, length-drop p i, l)
+  pub part_less : length part ≤ length i
+  part_less = omega (arith, ap length lent, length-drop p i)
+
+  part_most : length part ≤ index_max
+  part_most = omega (arith, part_less, l)
 
   stock_part : (t : List ℕ) → known (decode part t) ≡ known (content i t)
   stock_part t = ap (λ (r : List ℕ). known (decode r t)) (lent ∙ f.rest) ∙ sym (known_rest i t l)
@@ -176,7 +184,7 @@ module _ {i g : List ℕ} {p : ℕ} (f : Fronts i g p) (l : length i ≤ index_m
         sound_once part t part_most m (bytes_part i p part lent y) v.is b (tells_once part _ _ v.lists b x)
         ∙ stock_part t
 
-    pub stock_walked : Loads (drop p i) a heads next s.fill × (s.fill.count < rows_max)
+    pub stock_walked : Loads (drop p i) a heads next s.fill × (s.fill.count < length a)
     stock_walked = (subst (λ (r : List ℕ). Loads r a heads next s.fill) lent v.loads, v.most)
 
 -- what a sound store holds
@@ -212,7 +220,7 @@ pub survey_of : (i t : List ℕ) (a : List Row) (heads next : List ℕ) (o : Opt
     → (r : Surveyed) → o ≡ Some r → Surveys i t a heads next r
 survey_of i t a heads next o w r e = subst (OnceSurveyed i t a heads next) e w
 
-pub stock_refused : {A E : Type 0} (i t : List ℕ) (l : Ledger) (o : Optional Stock) → OnceStocked i t l o
+pub stock_refused : {N : ℕ} {A E : Type 0} (i t : List ℕ) (l : Ledger N) (o : Optional Stock) → OnceStocked i t l o
     → (x y : E) → Err y ≡ ok_or o x → (r : Result A E) → IsErrAnd r (λ e. e ≡ y)
     → (r ≡ Err x) × (known (content i t) ≡ false)
 stock_refused i t l o w x y e r f =
@@ -220,7 +228,7 @@ stock_refused i t l o w x y e r f =
     (p.0, subst (OnceStocked i t l) p.1 w)
 
 -- what a sound store holds is written down
-module _ (i t : List ℕ) (l : Ledger) (s : Stock) (w : Stocks i t l s) where
+module _ {N : ℕ} (i t : List ℕ) (l : Ledger N) (s : Stock) (w : Stocks i t l s) where
   pub stock_holds : Holds i t l.shares s.front
   stock_holds = sound_holds i t l.shares s.front w.front w.is
 

@@ -13,9 +13,9 @@ use borrow.Author.Tests.{ne_eqb}
 use Rattle.text.specs.Bytes.{pick}
 use Rattle.store.specs.declared.rows.Row.{Row}
 use Rattle.store.specs.Held.{Key, Held, same_key, strike}
-use Rattle.store.specs.Keys.{rows_max, bucket, Last, Chained}
+use Rattle.store.specs.Keys.{bucket, Last, Chained}
 use Rattle.store.specs.Layout.{texts}
-use Rattle.store.specs.Rows.{row_in, row_put, Long}
+use Rattle.store.specs.Rows.{row_in, row_put}
 use Rattle.store.specs.Table.{living, source_of, line_at}
 use Rattle.store.proofs.RowLaws.{texts_sum}
 use Rattle.store.proofs.WriteLaws.{row_same, row_other}
@@ -24,20 +24,20 @@ use Rattle.store.proofs.WriteLaws.{row_same, row_other}
 
 -- chains of the first n numbers know no other key
 module _ (K K' : ℕ → Key) (n : ℕ) (f : (k : ℕ) → k < n → K k ≡ K' k) where
-  last_agree : (b k c : ℕ) → k ≤ n → Last K b k c → Last K' b k c
-  last_agree b k c l s = record {
-    near = λ j p q e. s.near j p q (ap bucket (f j (omega arith)) ∙ e);
-    kin = λ p. ap bucket (sym (f (c - 1) (omega (arith, s.within)))) ∙ s.kin p;
+  last_agree : (N b k c : ℕ) → k ≤ n → Last N K b k c → Last N K' b k c
+  last_agree N b k c l s = record {
+    near = λ j p q e. s.near j p q (ap (bucket N) (f j (omega arith)) ∙ e);
+    kin = λ p. ap (bucket N) (sym (f (c - 1) (omega (arith, s.within)))) ∙ s.kin p;
     within = s.within;
   }
 
   pub chained_agree : (heads next : List ℕ) → Chained K heads next n → Chained K' heads next n
   chained_agree heads next s = record {
-    links = λ a l. subst (λ (b : ℕ). Last K' b a (get_or next a 0)) (ap bucket (f a l))
-        (last_agree (bucket (K a)) a (get_or next a 0) (omega arith) (s.links a l));
-    ends = λ b l. last_agree b n (get_or heads b 0) (omega arith) (s.ends b l);
-    heads_long = s.heads_long;
-    next_long = s.next_long;
+    links = λ a l. subst (λ (b : ℕ). Last (length heads) K' b a (get_or next a 0)) (ap (bucket (length heads)) (f a l))
+        (last_agree (length heads) (bucket (length heads) (K a)) a (get_or next a 0) (omega arith) (s.links a l));
+    ends = λ b l. last_agree (length heads) b n (get_or heads b 0) (omega arith) (s.ends b l);
+    most = s.most;
+    alike = s.alike;
   }
 
 -- ---- the lines of numbers
@@ -128,11 +128,11 @@ module _ (t s : List ℕ) (a : List Row) (old n : ℕ) (u : Key) (start len : �
   pub gives_other : (k : ℕ) → (k ≡ n → ⊥) → line_at t s (row_put a n u start len) old k ≡ line_at t s a old k
   gives_other k e = gives_same t s a (row_put a n u start len) old k (row_other a n u start len k e)
 
-  pub gives_new : Long a → n < rows_max → 1 ≤ len
+  pub gives_new : n < length a → 1 ≤ len
       → line_at t s (row_put a n u start len) old n
       ≡ record { key = u; line = take len (drop start (source_of t s old n)) } ∷ []
   unfolding line_at
-  gives_new l m p =
-      ap (λ (r : Row). given_by (source_of t s old n) r) (row_same a n u start len l m)
+  gives_new m p =
+      ap (λ (r : Row). given_by (source_of t s old n) r) (row_same a n u start len m)
       ∙ ap (λ (x : Bool). pick x [] (record { key = u; line = take len (drop start (source_of t s old n)) } ∷ []))
       (ne_eqb len 0 (λ z. omega arith))

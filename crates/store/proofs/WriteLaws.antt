@@ -1,38 +1,33 @@
 -- What a written row leaves of itself and of the others.
 -- Assumes nothing.
 use mathlib.Core.List.{List}
-use mathlib.Core.Path.{◌≡◌, ◌∙◌}
+use mathlib.Core.Path.{◌≡◌}
 use Prim.Native.Nat.{ℕ, ◌<◌}
-use native.Mathlib.Omega.{arith}
-use lib.ListN.{replicate, length-set, length-replicate}
+use lib.ListN.{length, length-set}
 use lib.Seq.{get_or-set_same, get_or-set_other}
 use Rattle.store.specs.declared.rows.Row.{Row}
 use Rattle.store.specs.Held.{Key}
-use Rattle.store.specs.Keys.{rows_max}
-use Rattle.store.specs.Rows.{unused, row_in, key_in, start_in, row_put, len_put, Long}
+use Rattle.store.specs.Rows.{unused, row_in, key_in, start_in, row_put, len_put}
 
 module _ (w : List Row) (k : ℕ) (u : Key) (start len : ℕ) where
-  pub put_long : Long w → Long (row_put w k u start len)
-  put_long l = length-set w k _ ∙ l
+  pub put_long : length (row_put w k u start len) ≡ length w
+  put_long = length-set w k _
 
   pub row_other : (j : ℕ) → (j ≡ k → ⊥) → row_in (row_put w k u start len) j ≡ row_in w j
   row_other j n = get_or-set_other w k j _ unused n
 
-  pub row_same : Long w → k < rows_max
+  pub row_same : k < length w
       → row_in (row_put w k u start len) k ≡ record { key = u; start = start; len = len }
-  row_same l m = get_or-set_same w k _ unused (omega (arith, l))
+  row_same m = get_or-set_same w k _ unused m
 
 -- its length alone
 module _ (w : List Row) (k len : ℕ) where
-  pub len_long : Long w → Long (len_put w k len)
-  len_long l = length-set w k _ ∙ l
+  pub len_long : length (len_put w k len) ≡ length w
+  len_long = length-set w k _
 
   pub len_other : (j : ℕ) → (j ≡ k → ⊥) → row_in (len_put w k len) j ≡ row_in w j
   len_other j n = get_or-set_other w k j _ unused n
 
-  pub len_same : Long w → k < rows_max
+  pub len_same : k < length w
       → row_in (len_put w k len) k ≡ record { key = key_in w k; start = start_in w k; len = len }
-  len_same l m = get_or-set_same w k _ unused (omega (arith, l))
-
-pub empty_long : Long (replicate rows_max unused)
-empty_long = length-replicate {A = Row} rows_max unused
+  len_same m = get_or-set_same w k _ unused m

@@ -8,7 +8,6 @@ use Rattle.store.specs.Held.{Held, text_max}
 use Rattle.store.specs.Shares.{owners, use_of, larger, claims}
 use Rattle.store.specs.declared.table.Fill.{Fill}
 use Rattle.store.specs.Inner.{lengths}
-use Rattle.store.specs.Keys.{rows_max}
 use Rattle.store.specs.Rows.{key_in, len_in}
 
 -- the lines of the others than owner o
@@ -46,7 +45,7 @@ row_use o a zero = 0
 row_use o a (suc n) = row_use o a n + pick (eqb (key_in a n).owner o) (len_in a n) 0
 
 pub record Addable (a : List Row) (n : ℕ) : Type 0 where
-  pub most : n ≤ rows_max
+  pub most : n ≤ length a
   pub fit : row_lengths a n ≤ text_max
 
 abbrev pub Adds : List Row → ℕ → List ℕ → Type 0

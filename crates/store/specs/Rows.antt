@@ -1,9 +1,8 @@
 -- Rows in one list, by number.
 -- No public contract rests on these: a reader may leave them out.
-use Rattle.std.specs.Prelude.{◌≡◌, List, ℕ, length, get_or, set}
+use Rattle.std.specs.Prelude.{List, ℕ, get_or, set}
 use Rattle.store.specs.declared.rows.Row.{Row}
 use Rattle.store.specs.Held.{Key}
-use Rattle.store.specs.Keys.{rows_max}
 
 -- where no line is written down
 abbrev pub unused : Row
@@ -28,7 +27,3 @@ row_put w k u start len = set w k (record { key = u; start = start; len = len })
 
 abbrev pub len_put : List Row → ℕ → ℕ → List Row
 len_put w k len = set w k (record { key = key_in w k; start = start_in w k; len = len })
-
--- as many as there are rows
-abbrev pub Long : List Row → Type 0
-Long w = length w ≡ rows_max

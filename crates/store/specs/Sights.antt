@@ -9,8 +9,8 @@ use Rattle.store.specs.declared.near.Nearness.{Nearness}
 use Rattle.store.specs.declared.calls.LookError.{LookError}
 use Rattle.store.specs.Store.{Looked, says_of, line_of}
 use Rattle.store.specs.Held.{Key, Held, find}
-use Rattle.store.specs.Keys.{rows_max, Chained}
-use Rattle.store.specs.Rows.{row_in, key_in, Long}
+use Rattle.store.specs.Keys.{Chained}
+use Rattle.store.specs.Rows.{row_in, key_in}
 use Rattle.store.specs.Table.{InRows}
 use Rattle.store.specs.Near.{Nearby, near_in, plain_key, near_says, near_line}
 
@@ -20,8 +20,7 @@ Agree a b n = (k : ℕ) → k < n → row_in a k ≡ row_in b k
 
 -- the first n numbers are in their chains, and there is room for one more
 pub record Ready (a : List Row) (heads next : List ℕ) (n : ℕ) : Type 0 where
-  pub few : n < rows_max
-  pub long : Long a
+  pub few : n < length a
   pub chained : Chained (key_in a) heads next n
 
 -- where a line lies in a text, if there is one

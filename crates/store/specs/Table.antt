@@ -21,8 +21,8 @@ use Rattle.store.specs.Shares.{no_shares}
 use Rattle.store.specs.Book.{Caller, room_for, by_room, after, stopped, reach, insert_turn, insert_lines}
 use Rattle.store.specs.Lines.{lines_of}
 use Rattle.store.specs.Layout.{record_bytes, records, texts, encode_records, encode_text}
-use Rattle.store.specs.Keys.{rows_max, Says, Lists, Chained}
-use Rattle.store.specs.Rows.{key_in, start_in, len_in, len_put, Long}
+use Rattle.store.specs.Keys.{Says, Lists, Chained}
+use Rattle.store.specs.Rows.{key_in, start_in, len_in, len_put}
 use Rattle.store.specs.Inner.{known, Fitted, behind, GoodFor, sizes}
 use Rattle.store.specs.declared.table.Full.{Full}
 use Rattle.store.specs.declared.calls.StoreError.{StoreError}
@@ -62,8 +62,7 @@ pub record Tabled (i t s : List ℕ) (a : List Row) (old c : ℕ) (hs : List Hel
   pub ahead : (k : ℕ) → k < old → length (texts (living (line_at t s a old) k)) ≤ start_in a k
   pub stands : (k : ℕ) → k ≤ old → Whole a k → Begins (decode i t) (living (line_at t s a old) k)
   pub olds : old ≤ c
-  pub most : c ≤ rows_max
-  pub long : Long a
+  pub most : c ≤ length a
   pub good : Fitted (length i) (length t) hs
 
 -- `kept_rows`: the numbers before the first one that is struck out, and how much the lines of those take
@@ -148,7 +147,7 @@ Loads i a heads next f =
 -- `survey`: the store is sound but for keys that stand twice; what is told of those
 pub record Surveys (i t : List ℕ) (a : List Row) (heads next : List ℕ) (r : Surveyed) : Type 0 where
   pub is : known (walk (suc (length i)) 0 i t) ≡ true
-  pub most : r.fill.count < rows_max
+  pub most : r.fill.count < length a
   pub says : Says (key_in a) r.fill.count r.verdict
   pub chained : Chained (key_in a) heads next r.fill.count
   pub lists : Lists i (key_in a) r.fill.count
@@ -159,19 +158,18 @@ OnceSurveyed i t a heads next r =
     MatchOption r (known (walk (suc (length i)) 0 i t) ≡ false) (Surveys i t a heads next)
 
 -- nothing is written down
-pub record Fresh (l : Ledger) : Type 0 where
+pub record Fresh {N : ℕ} (l : Ledger N) : Type 0 where
   pub shares : l.shares ≡ no_shares
   pub chained : Chained (key_in l.table.rows) l.table.heads l.table.next 0
-  pub long : Long l.table.rows
 
 -- `take_stock`: the store is sound
-pub record Stocks (i t : List ℕ) (l : Ledger) (r : Stock) : Type 0 where
+pub record Stocks {N : ℕ} (i t : List ℕ) (l : Ledger N) (r : Stock) : Type 0 where
   pub is : known (content i t) ≡ true
   pub front : Fronts i l.shares r.front
   pub most : length i ≤ index_max
-  pub loads : Loads (drop r.front i) l.table.rows l.table.heads l.table.next r.fill × (r.fill.count < rows_max)
+  pub loads : Loads (drop r.front i) l.table.rows l.table.heads l.table.next r.fill × (r.fill.count < length l.table.rows)
 
-abbrev pub OnceStocked : List ℕ → List ℕ → Ledger → Optional Stock → Type 0
+abbrev pub OnceStocked : {N : ℕ} → List ℕ → List ℕ → Ledger N → Optional Stock → Type 0
 OnceStocked i t l r = MatchOption r (known (content i t) ≡ false) (Stocks i t l)
 
 -- `len_before`, `strike_before`: of the number before r; none where r is 0
@@ -261,11 +259,11 @@ pub data Takes (by : Caller) (s : List ℕ) (from : ℕ) (hs : List Held) (r : W
       → ((c : ℕ) → insert_lines by hs c (lines_of (drop from s)) ≡ insert_turn ks (Err e) (c + r.count))
       → (GoodFor by hs → GoodFor by ks) → P ks → Takes by s from hs r P
 
--- how far it went; f numbers were taken before
-pub record Went (s : List ℕ) (from f : ℕ) (r : Walked) : Type 0 where
+-- how far it went; f numbers of n were taken before
+pub record Went (s : List ℕ) (from f n : ℕ) (r : Walked) : Type 0 where
   pub within : r.at ≤ length s + 1
   pub counted : from + r.count ≤ r.at
-  pub moved : f < rows_max → from < length s → r.answer ≡ Ok tt → from < r.at
+  pub moved : f < n → from < length s → r.answer ≡ Ok tt → from < r.at
 
 abbrev pub TakesLines : Dues → List ℕ → List ℕ → List ℕ → List Row → List ℕ → List ℕ → ℕ → ℕ → Fill → List Row → Walked
     → Type 0

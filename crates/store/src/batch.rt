@@ -2,14 +2,13 @@
 ghost use Rattle.std.specs.Prelude.{◌≡◌, true, false, ℕ, suc, ◌+◌, ◌-◌, ◌≤◌, ◌<◌, length, take, drop};
 ghost use Rattle.store.specs.Decode.{decode};
 ghost use Rattle.store.specs.Inner.{known};
-ghost use Rattle.store.specs.Keys.{rows_max};
+ghost use Rattle.store.specs.Keys.{Enough};
 ghost use Rattle.store.specs.Table.{SomeRows, ReachesRow, TakesLines, Went, Batches};
 
 use crate::calls::StoreError;
 use crate::chains::Table;
 use crate::claims::dues_of;
 use crate::lines::{line_length, wanted};
-use crate::rows::ROWS;
 use crate::search::find_far;
 use crate::settle::settle;
 use crate::shares::OWNERS;
@@ -28,23 +27,24 @@ pub struct Walked {
 
 impl Filing<'_> {
     // One line of an owner's insert: what is filled after it, or why it stops the insert.
-    fn reach_row(
+    fn reach_row<const N: usize>(
         &self,
-        table: &mut Table,
+        table: &mut Table<N>,
         fill: Fill,
         at: usize,
         len: usize,
     ) -> Result<Fill, StoreError>
-        requires count_lt_rows_max { (fill.count < rows_max) × (at + len ≤ length self.now.lines.now) }
+        requires count_lt_rows { (fill.count < length table.old.rows) × (at + len ≤ length self.now.lines.now) }
         requires some_rows { SomeRows self.now.dues self.now.owner self.now.index.now self.now.text.now
             self.now.lines.now
             table.old.rows table.old.heads table.old.next
             fill }
-        ensures { ReachesRow self.now.dues self.now.index.now self.now.text.now
+        ensures reaches { ReachesRow self.now.dues self.now.index.now self.now.text.now
             self.now.lines.now
             table.old.rows table.old.heads table.old.next fill self.now.owner
             (take len (drop at self.now.lines.now))
             table.new.rows table.new.heads table.new.next result }
+        ensures rows_kept { length table.new.rows ≡ length table.old.rows }
     {
         let Some(spelled) = wanted(&self.lines[at..at + len]) else {
             return Ok(fill);
@@ -58,7 +58,7 @@ impl Filing<'_> {
     }
 
     // Walks the lines from a place on, while there are numbers for them.
-    fn take_lines(&self, table: &mut Table, first: Fill, from: usize) -> Walked
+    fn take_lines<const N: usize>(&self, table: &mut Table<N>, first: Fill, from: usize) -> Walked
         requires from_in_bounds { from ≤ length self.now.lines.now + 1 }
         requires some_rows { SomeRows self.now.dues self.now.owner self.now.index.now self.now.text.now
             self.now.lines.now
@@ -68,13 +68,13 @@ impl Filing<'_> {
             self.now.lines.now
             table.old.rows table.old.heads table.old.next self.now.owner from first
             table.new.rows result }
-        ensures went { Went self.now.lines.now from first.count result }
+        ensures went { Went self.now.lines.now from first.count (length table.old.rows) result }
     {
         let mut at = from;
         let mut count = 0;
         let mut fill = first;
         // A `while`, since it may stop within the text and hands its place back, which no `split` tells.
-        while at < self.lines.len() && fill.count < ROWS {
+        while at < self.lines.len() && fill.count < table.rows.len() {
             let end = find_far(&self.lines[at..], b'\n');
             let len = line_length(&self.lines[at..], end);
             let start = at;
@@ -103,7 +103,8 @@ impl Filing<'_> {
 
 // Files the lines from a place on, into a sound store, as far as there are numbers for them. The index is the part
 // behind the shares.
-pub fn insert_batch(
+#[inline(never)]
+pub fn insert_batch<const N: usize>(
     index: &mut [u8],
     text: &mut [u8],
     shares: &[u16; OWNERS],
@@ -111,13 +112,14 @@ pub fn insert_batch(
     lines: &[u8],
     from: usize,
 ) -> Walked
+    requires enough { Enough N (length index.old) }
     requires text_value { known (decode index.old text.old) ≡ true }
     requires from_in_bounds { from ≤ length lines.now + 1 }
     ensures batches { Batches shares.now index.old text.old owner lines.now from result
         index.new text.new }
-    ensures went { Went lines.now from 0 result }
+    ensures went { Went lines.now from 0 N result }
 {
-    let mut table = Table::new();
+    let mut table = Table::<N>::new();
     let seen = survey(index, text, &mut table).unwrap();
     let fill = seen.fill;
     let dues = dues_of(&table.rows, fill, shares, owner);

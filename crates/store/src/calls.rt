@@ -1,8 +1,9 @@
 // The public calls of a store. Each takes any buffers and arguments; specs/Refusals gives document 01's numbers. The
 // index and the text are two parameters: C lends them as two buffers of its own.
-ghost use Rattle.std.specs.Prelude.{◌≡◌, true};
+ghost use Rattle.std.specs.Prelude.{◌≡◌, true, length};
 ghost use Rattle.store.specs.Decode.{decode};
 ghost use Rattle.store.specs.Inner.{known, insert_full, save_full};
+ghost use Rattle.store.specs.Keys.{Enough};
 ghost use Rattle.store.specs.Table.{InsertsAll};
 ghost use Rattle.store.specs.Saves.{save_args, store_save};
 ghost use Rattle.store.specs.Store.{store_clear, store_walk, store_insert, look_up, line_of, says_of};
@@ -11,9 +12,10 @@ use crate::batch::insert_batch;
 use crate::look::{line_at, look};
 use crate::owners::owner_of;
 use crate::parties::{Key, Party};
+use crate::rows::{Area, MANY_ROWS, ROWS, area_for};
 use crate::saving::{file_built, refused_save, saved_as, unsaved_name};
 use crate::shares::{OWNERS, read_shares};
-use crate::soundness::{INDEX_MAX, LINE_MAX, TEXT_MAX, sound};
+use crate::soundness::{INDEX_MAX, LINE_MAX, TEXT_MAX, sound_in};
 use crate::spellings::other_spellings;
 use crate::table::Full;
 use line::mapping::Mapping;
@@ -135,14 +137,15 @@ pub fn clear(index: &mut [u8], text: &mut [u8]) -> Result<(), StoreError>
 
 // Files the wanted lines of a text for an owner, in order, up to one that is too long or has no room: into a sound
 // store, of whose index the part behind the shares is lent.
-fn insert_all(
+fn insert_all<const N: usize>(
     part: &mut [u8],
     text: &mut [u8],
     shares: &[u16; OWNERS],
     owner: u8,
     lines: &[u8],
 ) -> Tally
-    requires { known (decode part.old text.old) ≡ true }
+    requires enough { Enough N (length part.old) }
+    requires text_value { known (decode part.old text.old) ≡ true }
     ensures { InsertsAll shares.now part.old text.old owner lines.now result
         part.new text.new }
 {
@@ -150,7 +153,7 @@ fn insert_all(
     let mut count = 0;
     // A `while`, since no index is counted: each batch says how far it came.
     while at < lines.len() {
-        let some = insert_batch(part, text, shares, owner, lines, at);
+        let some = insert_batch::<N>(part, text, shares, owner, lines, at);
         count += some.count;
         match some.answer {
             Ok(()) => at = some.at,
@@ -168,16 +171,20 @@ fn insert_all(
     }
 }
 
-// The same, for buffers that may not be a sound store and a text that may not be UTF-8.
-fn walk_insert(index: &mut [u8], text: &mut [u8], owner: u8, lines: &[u8]) -> Tally
+// An insert into a store that is not sound.
+const UNSOUND: Tally = Tally {
+    answer: Err(StoreError::Unsound),
+    count: 0,
+};
+
+// The same, for buffers that may not be a sound store and a text that may not be UTF-8, by tables of that size.
+fn walk_in<const N: usize>(index: &mut [u8], text: &mut [u8], owner: u8, lines: &[u8]) -> Tally
+    requires { Enough N (length index.old) }
     ensures { record { answer = result; index = index.new; text = text.new }
         ≡ store_walk index.old text.old owner lines.now }
 {
-    if !sound(index, text) {
-        return Tally {
-            answer: Err(StoreError::Unsound),
-            count: 0,
-        };
+    if !sound_in::<N>(index, text) {
+        return UNSOUND;
     }
     if !is_utf8(lines) {
         return Tally {
@@ -187,7 +194,19 @@ fn walk_insert(index: &mut [u8], text: &mut [u8], owner: u8, lines: &[u8]) -> Ta
     }
     let mut shares = [0u16; OWNERS];
     let front = read_shares(index, &mut shares);
-    insert_all(&mut index[front..], text, &shares, owner, lines)
+    insert_all::<N>(&mut index[front..], text, &shares, owner, lines)
+}
+
+// The same, by tables for that index.
+fn walk_insert(index: &mut [u8], text: &mut [u8], owner: u8, lines: &[u8]) -> Tally
+    ensures { record { answer = result; index = index.new; text = text.new }
+        ≡ store_walk index.old text.old owner lines.now }
+{
+    match area_for(index) {
+        None => UNSOUND,
+        Some(Area::Small) => walk_in::<ROWS>(index, text, owner, lines),
+        Some(Area::Large) => walk_in::<MANY_ROWS>(index, text, owner, lines),
+    }
 }
 
 // The same for a party, with the number of lines that were filed in another form of the UUID than 32 digits.

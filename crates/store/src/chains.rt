@@ -1,12 +1,12 @@
 // Keys by number, which is that of their row: chains of the numbers, one for each bucket, show whether a key stands
 // twice. Nothing here knows a record's bytes.
-ghost use Rattle.std.specs.Prelude.{◌≡◌, ◌+◌, ◌≤◌, ◌<◌};
-ghost use Rattle.store.specs.Keys.{rows_max, bucket, NotIn, Linked, Kin, Chained, Seeks, Sought};
+ghost use Rattle.std.specs.Prelude.{◌≡◌, ◌+◌, ◌≤◌, ◌<◌, length};
+ghost use Rattle.store.specs.Keys.{bucket, NotIn, Linked, Kin, Chained, Seeks, Sought};
 ghost use Rattle.store.specs.Keys.{seek_says, told_of, Tells};
-ghost use Rattle.store.specs.Rows.{key_in, Long};
+ghost use Rattle.store.specs.Rows.{key_in};
 
 use crate::parties::Key;
-use crate::rows::{ROWS, Row};
+use crate::rows::Row;
 
 // The most steps in a chain where an order can be had instead.
 const CHAIN_MAX: usize = 16;
@@ -20,22 +20,23 @@ pub enum Verdict {
     Unsure,
 }
 
-// A number below `ROWS` that the key gives.
-fn bucket_of(key: Key) -> usize
-    ensures { (result ≡ bucket key) × (result < rows_max) }
+// A number below `N` that the key gives.
+fn bucket_of<const N: usize>(key: Key) -> usize
+    requires { 0 < N }
+    ensures { (result ≡ bucket N key) × (result < N) }
 {
     let uuid = key.uuid;
     let owner = key.owner as u64;
-    ((31 * (uuid.high % 65521) + uuid.low % 65521 + 7919 * owner) % 4096) as usize
+    ((31 * (uuid.high % 65521) + uuid.low % 65521 + 7919 * owner) % N as u64) as usize
 }
 
 // Seeks the key of number k in the chain that starts before `from`: one more than the number that has it, 0 where none
 // has it, and k + 1 where the chain has more than `most` steps. So a found number is told as `heads` and `next` hold
 // it, in which 0 ends a chain.
-fn seek(rows: &[Row; ROWS], next: &[u16; ROWS], from: usize, k: usize, most: usize) -> usize
-    requires k_lt_rows_max { (k < rows_max) × (from ≤ k) }
-    requires linked { Linked (key_in rows.now) next.now k }
-    requires kin { Kin (key_in rows.now) k from }
+fn seek(rows: &[Row], next: &[u16], from: usize, k: usize, most: usize) -> usize
+    requires k_lt_rows { (k < length rows.now) × ((k < length next.now) × (from ≤ k)) }
+    requires linked { Linked (length next.now) (key_in rows.now) next.now k }
+    requires kin { Kin (length next.now) (key_in rows.now) k from }
     ensures seeks { Seeks (key_in rows.now) k from result }
     ensures upper_bound { from ≤ most → result ≤ k }
 {
@@ -59,12 +60,12 @@ fn seek(rows: &[Row; ROWS], next: &[u16; ROWS], from: usize, k: usize, most: usi
 // is found, else what comes behind it. Whether the chain is empty is not asked: number 0 is compared then, and nothing
 // comes behind it. The question would cost more than the step that it spares, since a processor cannot foresee its
 // answer.
-fn first_step(rows: &[Row; ROWS], next: &[u16; ROWS], from: usize, k: usize) -> usize
-    requires k_lt_rows_max { (k < rows_max) × (from ≤ k) }
-    requires linked { Linked (key_in rows.now) next.now (k + 1) }
-    requires kin { Kin (key_in rows.now) k from }
+fn first_step(rows: &[Row], next: &[u16], from: usize, k: usize) -> usize
+    requires k_lt_rows { (k < length rows.now) × ((k < length next.now) × (from ≤ k)) }
+    requires linked { Linked (length next.now) (key_in rows.now) next.now (k + 1) }
+    requires kin { Kin (length next.now) (key_in rows.now) k from }
     ensures not_in { NotIn (key_in rows.now) k result from × (result ≤ from) }
-    ensures kin_2 { Kin (key_in rows.now) k result }
+    ensures kin_2 { Kin (length next.now) (key_in rows.now) k result }
 {
     let at = from.saturating_sub(1);
     if rows[at].key == rows[k].key {
@@ -75,50 +76,51 @@ fn first_step(rows: &[Row; ROWS], next: &[u16; ROWS], from: usize, k: usize) -> 
 
 // The lines that are written down by number: a row for each; chains of the numbers by their keys, each by one more
 // than its last number; and what stands before each number in its chain. They are arrays, and no map of the library:
-// a map allocates memory, which no call does, and the chains are proved.
+// a map allocates memory, which no call does, and the chains are proved. There are as many buckets as rows, a constant:
+// a division by a number that varies would cost more than the rest of a step.
 #[derive(Drop)]
-pub struct Table {
-    pub rows: [Row; ROWS],
-    pub heads: [u16; ROWS],
-    pub next: [u16; ROWS],
+pub struct Table<const N: usize> {
+    pub rows: [Row; N],
+    pub heads: [u16; N],
+    pub next: [u16; N],
 }
 
-impl Table {
+impl<const N: usize> Table<N> {
     // Nothing is written down.
-    pub fn new() -> Table
-        ensures long { Long result.rows }
-        ensures chained { Chained (key_in result.rows) result.heads result.next 0 }
+    pub fn new() -> Table<N>
+        requires { N ≤ 65535 }
+        ensures { Chained (key_in result.rows) result.heads result.next 0 }
     {
         Table {
-            rows: [Row::UNUSED; ROWS],
-            heads: [0; ROWS],
-            next: [0; ROWS],
+            rows: [Row::UNUSED; N],
+            heads: [0; N],
+            next: [0; N],
         }
     }
 
     // Seeks the key of number k among the numbers before it, which are in their chains: one more than the last that
     // has it, or 0.
     pub fn seek_before(&self, k: usize) -> usize
-        requires k_lt_rows_max { k < rows_max }
+        requires k_lt_rows { k < length self.now.rows }
         requires chained { Chained (key_in self.now.rows) self.now.heads self.now.next k }
         ensures sought { Sought (key_in self.now.rows) k result }
         ensures upper_bound { result ≤ k }
     {
-        let h = bucket_of(self.rows[k].key);
+        let h = bucket_of::<N>(self.rows[k].key);
         let head = self.heads[h];
-        seek(&self.rows, &self.next, usize::from(head), k, ROWS)
+        seek(&self.rows, &self.next, usize::from(head), k, N)
     }
 
     // Puts number k in front of its chain, and answers as `seek` does.
     pub fn link(&mut self, k: usize, most: usize) -> usize
-        requires k_lt_rows_max { k < rows_max }
+        requires k_lt_rows { k < length self.old.rows }
         requires chained { Chained (key_in self.old.rows) self.old.heads self.old.next k }
         ensures rows_kept { self.new.rows ≡ self.old.rows }
         ensures sought { Sought (key_in self.new.rows) k result }
         ensures chained_2 { Chained (key_in self.new.rows) self.new.heads self.new.next (k + 1) }
-        ensures upper_bound { rows_max ≤ most → result ≤ k }
+        ensures upper_bound { length self.old.rows ≤ most → result ≤ k }
     {
-        let h = bucket_of(self.rows[k].key);
+        let h = bucket_of::<N>(self.rows[k].key);
         let head = self.heads[h];
         self.next[k] = head;
         let from = first_step(&self.rows, &self.next, usize::from(head), k);
@@ -166,11 +168,11 @@ pub fn steps(known: Verdict) -> usize {
 // The keys of the first `count` numbers, which are in their chains.
 #[derive(Clone, Copy)]
 pub struct Keyed<'a> {
-    pub rows: &'a [Row; ROWS],
-    pub next: &'a [u16; ROWS],
+    pub rows: &'a [Row],
+    pub next: &'a [u16],
     pub count: usize,
-    ghost few: { count ≤ rows_max },
-    ghost linked: { Linked (key_in rows.now) next.now count },
+    ghost few: { (count ≤ length rows.now) × ((count ≤ length next.now) × (length next.now ≤ 65535)) },
+    ghost linked: { Linked (length next.now) (key_in rows.now) next.now count },
 }
 
 // Whether no key stands twice, each sought in its chain to the end.
@@ -179,7 +181,7 @@ pub fn seek_all(keys: Keyed) -> bool
 {
     // By number: `seek` is asked for a number, whose row it reads itself.
     for k in 0..keys.count {
-        let r = seek(keys.rows, keys.next, usize::from(keys.next[k]), k, ROWS);
+        let r = seek(keys.rows, keys.next, usize::from(keys.next[k]), k, k);
         if 0 < r {
             return false;
         }

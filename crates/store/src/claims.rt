@@ -3,7 +3,7 @@ ghost use Rattle.std.specs.Prelude.{◌≡◌, ◌+◌, ◌-◌, ◌*◌, ◌≤
 ghost use Rattle.store.specs.Shares.{owners, no_shares, larger};
 ghost use Rattle.store.specs.Claims.{DuesFrom, Addable, Adds, Sums, Covers, row_lengths};
 
-use crate::rows::{ROWS, Row};
+use crate::rows::Row;
 use crate::shares::{OWNERS, any_share};
 use crate::table::Fill;
 
@@ -34,7 +34,7 @@ pub fn claimed(dues: Dues, used: usize) -> usize
 // The lines that are written down under the first `count` numbers. Their bytes are no more than those of a text.
 #[derive(Clone, Copy)]
 pub struct Listed<'a> {
-    pub rows: &'a [Row; ROWS],
+    pub rows: &'a [Row],
     pub count: usize,
     ghost addable: { Addable rows.now count },
 }
@@ -67,7 +67,7 @@ pub fn claims_of(uses: &[u16; OWNERS], shares: &[u16; OWNERS]) -> usize
 
 // What the others than an owner claim and use, and its share, by the lines that are written down. Without any share
 // all that is claimed is in use.
-pub fn dues_of(rows: &[Row; ROWS], fill: Fill, shares: &[u16; OWNERS], owner: u8) -> Dues
+pub fn dues_of(rows: &[Row], fill: Fill, shares: &[u16; OWNERS], owner: u8) -> Dues
     requires { Addable rows.now fill.count × (row_lengths rows.now fill.count ≤ fill.used) }
     ensures { DuesFrom rows.now fill shares.now owner result }
 {

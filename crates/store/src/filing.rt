@@ -3,7 +3,6 @@ ghost use Rattle.std.specs.Prelude.{◌≡◌, true, ℕ, suc, ◌+◌, ◌-◌,
 ghost use Rattle.store.specs.Held.{line_max};
 ghost use Rattle.store.specs.Decode.{decode};
 ghost use Rattle.store.specs.Inner.{known};
-ghost use Rattle.store.specs.Keys.{rows_max};
 ghost use Rattle.store.specs.Table.{Loads, SomeDues, FilesLine};
 
 use crate::chains::Table;
@@ -14,10 +13,10 @@ use crate::table::{Filing, Fill, Full};
 
 // Files a line under a key, if there is room: the one held under it is taken out, and the new one goes last. The lines
 // that are held are written down.
-pub fn file_line(
+pub fn file_line<const N: usize>(
     index: &mut [u8],
     text: &mut [u8],
-    table: &mut Table,
+    table: &mut Table<N>,
     fill: Fill,
     dues: Dues,
     key: Key,
@@ -27,7 +26,7 @@ pub fn file_line(
     requires in_bounds { (1 ≤ length line.now) × (length line.now ≤ line_max) }
     requires loads { Loads index.old
         table.old.rows table.old.heads table.old.next
-        fill × (fill.count < rows_max) }
+        fill × (fill.count < length table.old.rows) }
     requires some_dues { SomeDues dues key.owner index.old text.old }
     ensures { FilesLine dues index.old text.old (record { key = key; line = line.now }) result
         index.new text.new }

@@ -1,5 +1,6 @@
 // A look-up: the line of a key, by number.
-ghost use Rattle.std.specs.Prelude.{◌≡◌};
+ghost use Rattle.std.specs.Prelude.{◌≡◌, length};
+ghost use Rattle.store.specs.Keys.{Enough};
 ghost use Rattle.store.specs.Sights.{Ready, Agree, Spots, Inside, line_there, Sees};
 ghost use Rattle.store.specs.Store.{look_by, look_up};
 
@@ -7,7 +8,7 @@ use crate::calls::LookError;
 use crate::chains::Table;
 use crate::owners::owner_of;
 use crate::parties::{Key, Party};
-use crate::rows::Row;
+use crate::rows::{Area, MANY_ROWS, ROWS, Row, area_for};
 use crate::soundness::Ledger;
 use crate::table::{Fill, len_before};
 use text::uuid::Uuid;
@@ -21,7 +22,7 @@ pub struct Part {
 
 // Where the line of a key lies: the key is written down behind the lines that are held, and its chain tells the one
 // before.
-pub fn part_of(table: &mut Table, fill: Fill, key: Key) -> Option<Part>
+pub fn part_of<const N: usize>(table: &mut Table<N>, fill: Fill, key: Key) -> Option<Part>
     requires { Ready table.old.rows table.old.heads table.old.next fill.count }
     ensures ready { Ready table.new.rows table.new.heads table.new.next fill.count }
     ensures chains_kept { (table.new.heads ≡ table.old.heads) × (table.new.next ≡ table.old.next) }
@@ -43,15 +44,28 @@ pub fn part_of(table: &mut Table, fill: Fill, key: Key) -> Option<Part>
     Some(Part { start, len })
 }
 
-// Looks a key up in the lines of the store, which are written down. `near_by` is the same with another last step: one
-// function for both would take that step as a closure, whose contract would say again what `part_of` and `try_both`
-// ask.
+// Looks a key up in the lines of the store, which are written down in a table of that size. `near_in` is the same with
+// another last step: one function for both would take that step as a closure, whose contract would say again what
+// `part_of` and `try_both` ask.
+#[inline(never)]
+fn look_in<const N: usize>(index: &[u8], text: &[u8], key: Key) -> Result<Option<Part>, LookError>
+    requires { Enough N (length index.now) }
+    ensures { Sees text.now (look_by key index.now text.now) result }
+{
+    let mut ledger = Ledger::<N>::new();
+    let stock = ledger.take_stock(index, text).ok_or(LookError::Unsound)?;
+    Ok(part_of(&mut ledger.table, stock.fill, key))
+}
+
+// Looks a key up in the lines of the store.
 fn look_by(index: &[u8], text: &[u8], key: Key) -> Result<Option<Part>, LookError>
     ensures { Sees text.now (look_by key index.now text.now) result }
 {
-    let mut ledger = Ledger::new();
-    let stock = ledger.take_stock(index, text).ok_or(LookError::Unsound)?;
-    Ok(part_of(&mut ledger.table, stock.fill, key))
+    match area_for(index) {
+        None => Err(LookError::Unsound),
+        Some(Area::Small) => look_in::<ROWS>(index, text, key),
+        Some(Area::Large) => look_in::<MANY_ROWS>(index, text, key),
+    }
 }
 
 // Looks the line of a party's UUID up.

@@ -1,5 +1,6 @@
 // A look-up that also tries a UUID without its checksum (document 02, P5). Both tries go by one walk over the store.
-ghost use Rattle.std.specs.Prelude.{◌≡◌};
+ghost use Rattle.std.specs.Prelude.{◌≡◌, length};
+ghost use Rattle.store.specs.Keys.{Enough};
 ghost use Rattle.store.specs.Near.{near_by, near_up, near_says, near_line};
 ghost use Rattle.store.specs.Sights.{Ready, NearSees, Tries};
 
@@ -8,6 +9,7 @@ use crate::chains::Table;
 use crate::look::{Part, line_at, part_of};
 use crate::owners::owner_of;
 use crate::parties::{Key, Party};
+use crate::rows::{Area, MANY_ROWS, ROWS, area_for};
 use crate::soundness::Ledger;
 use crate::table::Fill;
 use text::uuid::Uuid;
@@ -20,7 +22,7 @@ pub enum Nearness {
 }
 
 // Tries the whole UUID, then the same without its checksum, among the lines that are written down.
-fn try_both(table: &mut Table, fill: Fill, key: Key) -> Option<(Nearness, Part)>
+fn try_both<const N: usize>(table: &mut Table<N>, fill: Fill, key: Key) -> Option<(Nearness, Part)>
     requires { Ready table.old.rows table.old.heads table.old.next fill.count }
     ensures { Tries table.old.rows table.old.heads table.old.next fill key result }
 {
@@ -38,13 +40,30 @@ fn try_both(table: &mut Table, fill: Fill, key: Key) -> Option<(Nearness, Part)>
     None
 }
 
-// Writes the lines of the store down, and tries both.
+// Writes the lines of the store down in a table of that size, and tries both.
+#[inline(never)]
+fn near_in<const N: usize>(
+    index: &[u8],
+    text: &[u8],
+    key: Key,
+) -> Result<Option<(Nearness, Part)>, LookError>
+    requires { Enough N (length index.now) }
+    ensures { NearSees text.now (near_by key index.now text.now) result }
+{
+    let mut ledger = Ledger::<N>::new();
+    let stock = ledger.take_stock(index, text).ok_or(LookError::Unsound)?;
+    Ok(try_both(&mut ledger.table, stock.fill, key))
+}
+
+// Tries both among the lines of the store.
 fn near_by(index: &[u8], text: &[u8], key: Key) -> Result<Option<(Nearness, Part)>, LookError>
     ensures { NearSees text.now (near_by key index.now text.now) result }
 {
-    let mut ledger = Ledger::new();
-    let stock = ledger.take_stock(index, text).ok_or(LookError::Unsound)?;
-    Ok(try_both(&mut ledger.table, stock.fill, key))
+    match area_for(index) {
+        None => Err(LookError::Unsound),
+        Some(Area::Small) => near_in::<ROWS>(index, text, key),
+        Some(Area::Large) => near_in::<MANY_ROWS>(index, text, key),
+    }
 }
 
 // Looks the line of a party's UUID up, or that of the same without its checksum.

@@ -1,6 +1,7 @@
 // The end of a save: a line that was built goes into the store.
 ghost use Rattle.std.specs.Prelude.{◌≡◌, ◌≤◌, length};
 ghost use Rattle.store.specs.Held.{line_max};
+ghost use Rattle.store.specs.Keys.{Enough};
 ghost use Rattle.store.specs.Inner.{store_file, said_by};
 ghost use Rattle.store.specs.Saves.{unsaved_name, refused_save};
 
@@ -8,18 +9,26 @@ use crate::calls::{SaveError, Saved};
 use crate::claims::dues_of;
 use crate::filing::file_line;
 use crate::parties::Key;
+use crate::rows::{Area, MANY_ROWS, ROWS, area_for};
 use crate::search::find_text;
 use crate::soundness::Ledger;
 use line::mapping::Mapping;
 use text::bytes::find_byte;
 
-// Files a line that was built under its key, unless the store is not sound or has no room.
-pub fn file_built(index: &mut [u8], text: &mut [u8], key: Key, line: &[u8]) -> Result<(), SaveError>
-    requires { (1 ≤ length line.now) × (length line.now ≤ line_max) }
+// Files a line that was built under its key, by a table of that size.
+#[inline(never)]
+fn file_in<const N: usize>(
+    index: &mut [u8],
+    text: &mut [u8],
+    key: Key,
+    line: &[u8],
+) -> Result<(), SaveError>
+    requires enough { Enough N (length index.old) }
+    requires in_bounds { (1 ≤ length line.now) × (length line.now ≤ line_max) }
     ensures { record { answer = result; index = index.new; text = text.new }
         ≡ store_file index.old text.old (record { key = key; line = line.now }) }
 {
-    let mut ledger = Ledger::new();
+    let mut ledger = Ledger::<N>::new();
     let stock = ledger.take_stock(index, text).ok_or(SaveError::Unsound)?;
     let fill = stock.fill;
     let front = stock.front;
@@ -34,6 +43,19 @@ pub fn file_built(index: &mut [u8], text: &mut [u8], key: Key, line: &[u8]) -> R
         line,
     )?;
     Ok(())
+}
+
+// Files a line that was built under its key, unless the store is not sound or has no room.
+pub fn file_built(index: &mut [u8], text: &mut [u8], key: Key, line: &[u8]) -> Result<(), SaveError>
+    requires { (1 ≤ length line.now) × (length line.now ≤ line_max) }
+    ensures { record { answer = result; index = index.new; text = text.new }
+        ≡ store_file index.old text.old (record { key = key; line = line.now }) }
+{
+    match area_for(index) {
+        None => Err(SaveError::Unsound),
+        Some(Area::Small) => file_in::<ROWS>(index, text, key, line),
+        Some(Area::Large) => file_in::<MANY_ROWS>(index, text, key, line),
+    }
 }
 
 // Whether a name has LF or `platform:`.

@@ -6,7 +6,7 @@ ghost use Rattle.store.specs.Table.{Keepable, Keeps, Closes, Closed, Extends, Se
 
 use crate::bytes::{move_down, zero_between};
 use crate::records::{put_record, record_size};
-use crate::rows::{ROWS, Row};
+use crate::rows::Row;
 use crate::table::Fill;
 use text::bytes::write_bytes;
 
@@ -35,7 +35,7 @@ fn put_text(text: &mut [u8], lines: &[u8], off: usize, start: usize, len: usize,
 }
 
 // Counts the first of `old` numbers, up to one that is struck out.
-fn kept_rows(rows: &[Row; ROWS], old: usize) -> Kept
+fn kept_rows(rows: &[Row], old: usize) -> Kept
     requires { Keepable rows.now old }
     ensures { Keeps rows.now old result }
 {
@@ -58,7 +58,7 @@ fn close_up(
     part: &mut [u8],
     text: &mut [u8],
     lines: &[u8],
-    rows: &[Row; ROWS],
+    rows: &[Row],
     kept: Kept,
     was: Fill,
     count: usize,
@@ -91,7 +91,7 @@ pub fn settle(
     index: &mut [u8],
     text: &mut [u8],
     lines: &[u8],
-    rows: &[Row; ROWS],
+    rows: &[Row],
     was: Fill,
     count: usize,
 )

@@ -1,10 +1,12 @@
 // The public calls of the parties' shares of the text (document 02, P10). Each takes any buffers and arguments.
-ghost use Rattle.std.specs.Prelude.{◌≡◌};
+ghost use Rattle.std.specs.Prelude.{◌≡◌, length};
+ghost use Rattle.store.specs.Keys.{Enough};
 ghost use Rattle.store.specs.Settings.{ClaimsWith, Weighed, Writable, Written};
 ghost use Rattle.store.specs.Store.{store_share, store_told};
 
 use crate::calls::StoreError;
 use crate::claims::{Listed, claims_of};
+use crate::rows::{Area, MANY_ROWS, ROWS, area_for};
 use crate::shares::{OWNERS, change_share, share_place, share_size};
 use crate::soundness::Ledger;
 
@@ -19,11 +21,13 @@ pub struct ShareUse {
 #[derive(Clone, Copy, PartialEq, Eq)]
 pub struct Unsound;
 
-// The share and the use of the party with that owner byte; 0 is the hall.
-pub fn share_of(index: &[u8], text: &[u8], owner: u8) -> Result<ShareUse, Unsound>
+// The share and the use of the party with that owner byte, by a table of that size.
+#[inline(never)]
+fn share_in<const N: usize>(index: &[u8], text: &[u8], owner: u8) -> Result<ShareUse, Unsound>
+    requires { Enough N (length index.now) }
     ensures { result ≡ store_told index.now text.now owner }
 {
-    let mut ledger = Ledger::new();
+    let mut ledger = Ledger::<N>::new();
     let stock = ledger.take_stock(index, text).ok_or(Unsound)?;
     let mut uses = [0u16; OWNERS];
     let listed = Listed {
@@ -35,6 +39,17 @@ pub fn share_of(index: &[u8], text: &[u8], owner: u8) -> Result<ShareUse, Unsoun
     let share = ledger.shares[o] as usize;
     let used = uses[o] as usize;
     Ok(ShareUse { share, used })
+}
+
+// The share and the use of the party with that owner byte; 0 is the hall.
+pub fn share_of(index: &[u8], text: &[u8], owner: u8) -> Result<ShareUse, Unsound>
+    ensures { result ≡ store_told index.now text.now owner }
+{
+    match area_for(index) {
+        None => Err(Unsound),
+        Some(Area::Small) => share_in::<ROWS>(index, text, owner),
+        Some(Area::Large) => share_in::<MANY_ROWS>(index, text, owner),
+    }
 }
 
 impl Listed<'_> {
@@ -76,12 +91,19 @@ fn write_share(index: &mut [u8], shares: &[u16; OWNERS], owner: u8, had: usize, 
     change_share(&mut index[at..], owner, had, bytes);
 }
 
-// Sets the share of the party with that owner byte, 0 being the hall; share 0 takes it away.
-pub fn set_share(index: &mut [u8], text: &[u8], owner: u8, bytes: usize) -> Result<(), StoreError>
+// Sets the share of the party with that owner byte, by a table of that size.
+#[inline(never)]
+fn set_in<const N: usize>(
+    index: &mut [u8],
+    text: &[u8],
+    owner: u8,
+    bytes: usize,
+) -> Result<(), StoreError>
+    requires { Enough N (length index.old) }
     ensures { record { answer = result; index = index.new; text = text.now }
         ≡ store_share index.old text.now owner bytes }
 {
-    let mut ledger = Ledger::new();
+    let mut ledger = Ledger::<N>::new();
     let stock = ledger.take_stock(index, text).ok_or(StoreError::Unsound)?;
     let room = text.len();
     // Told before the share is put among the others, whose numbers have two bytes.
@@ -100,4 +122,16 @@ pub fn set_share(index: &mut [u8], text: &[u8], owner: u8, bytes: usize) -> Resu
     listed.share_room(&ledger.shares, room, index.len(), end)?;
     write_share(index, &ledger.shares, owner, had, bytes);
     Ok(())
+}
+
+// Sets the share of the party with that owner byte, 0 being the hall; share 0 takes it away.
+pub fn set_share(index: &mut [u8], text: &[u8], owner: u8, bytes: usize) -> Result<(), StoreError>
+    ensures { record { answer = result; index = index.new; text = text.now }
+        ≡ store_share index.old text.now owner bytes }
+{
+    match area_for(index) {
+        None => Err(StoreError::Unsound),
+        Some(Area::Small) => set_in::<ROWS>(index, text, owner, bytes),
+        Some(Area::Large) => set_in::<MANY_ROWS>(index, text, owner, bytes),
+    }
 }

@@ -3,14 +3,15 @@ ghost use Rattle.std.specs.Prelude.{◌≡◌, ◌&&◌, ◌≤◌, length, drop
 ghost use Rattle.store.specs.Decode.{head_fits, zeroes, content};
 ghost use Rattle.store.specs.Held.{index_max, text_max};
 ghost use Rattle.store.specs.Inner.{known};
-ghost use Rattle.store.specs.Keys.{Chained};
-ghost use Rattle.store.specs.Rows.{key_in, Long};
+ghost use Rattle.store.specs.Keys.{Chained, Enough};
+ghost use Rattle.store.specs.Rows.{key_in};
 ghost use Rattle.store.specs.Table.{OnceSurveyed, Fresh, OnceStocked};
 
 use crate::bytes::all_zero;
 use crate::chains::{Keyed, Table, Verdict, steps, told};
 use crate::order::each_once;
 use crate::records::{Head, stands, whole_head};
+use crate::rows::{Area, MANY_ROWS, ROWS, area_for};
 use crate::shares::{OWNERS, read_shares};
 use crate::table::Fill;
 
@@ -62,12 +63,13 @@ fn zero_behind(index: &[u8], text: &[u8], at: usize, off: usize) -> bool
 
 // Walks over the records, checks them, and writes each line down in its chain; none where they are not those of a
 // list.
-pub fn survey(index: &[u8], text: &[u8], table: &mut Table) -> Option<Surveyed>
-    requires index_len_bound { (length index.now ≤ index_max) × (length text.now ≤ text_max) }
+pub fn survey<const N: usize>(index: &[u8], text: &[u8], table: &mut Table<N>) -> Option<Surveyed>
+    requires enough { Enough (length table.old.rows) (length index.now) }
+    requires text_len_bound { length text.now ≤ text_max }
     requires chained { Chained (key_in table.old.rows) table.old.heads table.old.next 0 }
-    requires long { Long table.old.rows }
-    ensures { OnceSurveyed index.now text.now
+    ensures once { OnceSurveyed index.now text.now
         table.new.rows table.new.heads table.new.next result }
+    ensures rows_kept { length table.new.rows ≡ length table.old.rows }
 {
     let mut at = 0;
     let mut used = 0;
@@ -100,14 +102,15 @@ pub fn survey(index: &[u8], text: &[u8], table: &mut Table) -> Option<Surveyed>
 
 // What is written down of a store: each party's share, and the lines.
 #[derive(Drop)]
-pub struct Ledger {
+pub struct Ledger<const N: usize> {
     pub shares: [u16; OWNERS],
-    pub table: Table,
+    pub table: Table<N>,
 }
 
-impl Ledger {
+impl<const N: usize> Ledger<N> {
     // Nothing is written down.
-    pub fn new() -> Ledger
+    pub fn new() -> Ledger<N>
+        requires { N ≤ 65535 }
         ensures { Fresh result }
     {
         Ledger {
@@ -118,12 +121,10 @@ impl Ledger {
 
     // Takes stock of a sound store, which is written down; none where the store is not sound.
     pub fn take_stock(&mut self, index: &[u8], text: &[u8]) -> Option<Stock>
-        requires { Fresh self.old }
+        requires fresh { Fresh self.old }
+        requires enough { Enough (length self.old.table.rows) (length index.now) }
         ensures { OnceStocked index.now text.now self.new result }
     {
-        if INDEX_MAX < index.len() {
-            return None;
-        }
         if TEXT_MAX < text.len() {
             return None;
         }
@@ -135,17 +136,30 @@ impl Ledger {
             next: &self.table.next,
             count: fill.count,
         };
-        if !each_once(keys, seen.verdict) {
+        if !each_once::<N>(keys, seen.verdict) {
             return None;
         }
         Some(Stock { front, fill })
     }
 }
 
+// Whether the store is sound, by a table of that size.
+#[inline(never)]
+pub fn sound_in<const N: usize>(index: &[u8], text: &[u8]) -> bool
+    requires { Enough N (length index.now) }
+    ensures { result ≡ known (content index.now text.now) }
+{
+    let mut ledger = Ledger::<N>::new();
+    ledger.take_stock(index, text).is_some()
+}
+
 // Whether the store is sound.
 pub fn sound(index: &[u8], text: &[u8]) -> bool
     ensures { result ≡ known (content index.now text.now) }
 {
-    let mut ledger = Ledger::new();
-    ledger.take_stock(index, text).is_some()
+    match area_for(index) {
+        None => false,
+        Some(Area::Small) => sound_in::<ROWS>(index, text),
+        Some(Area::Large) => sound_in::<MANY_ROWS>(index, text),
+    }
 }

@@ -1,7 +1,7 @@
 // Lines by number: a row for each, and chains by the keys. A line that is struck out keeps its row, with length 0.
 ghost use Rattle.std.specs.Prelude.{◌≡◌, List, ℕ, suc, ◌+◌, ◌-◌, ◌≤◌, ◌<◌, length, take, drop};
 ghost use Rattle.store.specs.Held.{index_max};
-ghost use Rattle.store.specs.Keys.{rows_max, Chained, Sought};
+ghost use Rattle.store.specs.Keys.{Chained, Sought};
 ghost use Rattle.store.specs.Rows.{key_in, row_put};
 ghost use Rattle.store.specs.Table.{len_before, struck_before, Ends, Fileable, FilesRow};
 
@@ -9,7 +9,7 @@ use crate::chains::Table;
 use crate::claims::{Dues, claimed};
 use crate::parties::Key;
 use crate::records::record_size;
-use crate::rows::{ROWS, Row};
+use crate::rows::Row;
 use text::uuid::Uuid;
 
 // Why a line has no room: the index has none for its record, or the text none for the line.
@@ -20,8 +20,8 @@ pub enum Full {
 }
 
 // How many numbers are taken, and how many bytes of the index and of the text the lines that are held take. That
-// `count` is below `ROWS` is asked where a number is to be taken, and is no fact of the type: `count` may be `ROWS`. It
-// stands apart from the rows, and they are no vector: a line's row is written before it is known to have room, and is
+// `count` is below the number of rows is asked where a number is to be taken, and is no fact of the type: all may be
+// taken. It stands apart from the rows, and they are no vector: a line's row is written before it is known to have room, and is
 // counted only where it has.
 #[derive(Clone, Copy)]
 pub struct Fill {
@@ -30,14 +30,14 @@ pub struct Fill {
     pub used: usize,
 }
 
-impl Table {
+impl<const N: usize> Table<N> {
     // Writes a line down under number n, and answers as `seek` does: one more than the last number before it with the same
     // key, 0 where none has it, or n + 1 where the chain has more than `most` steps.
     pub fn add_row(&mut self, n: usize, key: Key, start: usize, len: usize, most: usize) -> usize
-        requires n_lt_rows_max { n < rows_max }
+        requires n_lt_rows { n < length self.old.rows }
         requires chained { Chained (key_in self.old.rows) self.old.heads self.old.next n }
         ensures rows_after { self.new.rows ≡ row_put self.old.rows n key start len }
-        ensures sought { Sought (key_in self.new.rows) n result × (rows_max ≤ most → result ≤ n) }
+        ensures sought { Sought (key_in self.new.rows) n result × (length self.old.rows ≤ most → result ≤ n) }
         ensures chained_2 { Chained (key_in self.new.rows) self.new.heads self.new.next (n + 1) }
     {
         self.rows[n] = Row { key, start, len };
@@ -46,8 +46,8 @@ impl Table {
 }
 
 // The length of the line of the number before r, and 0 where r is 0.
-pub fn len_before(rows: &[Row; ROWS], r: usize) -> usize
-    requires { r ≤ rows_max }
+pub fn len_before(rows: &[Row], r: usize) -> usize
+    requires { r ≤ length rows.now }
     ensures { result ≡ len_before rows.now r }
 {
     if r == 0 {
@@ -57,8 +57,8 @@ pub fn len_before(rows: &[Row; ROWS], r: usize) -> usize
 }
 
 // Strikes out the number before r; r is 0 where there is none.
-fn strike_before(rows: &mut [Row; ROWS], r: usize)
-    requires { r ≤ rows_max }
+fn strike_before(rows: &mut [Row], r: usize)
+    requires { r ≤ length rows.old }
     ensures { rows.new ≡ struck_before rows.old r }
 {
     if r == 0 {
@@ -92,27 +92,28 @@ pub struct Filing<'a> {
 impl Filing<'_> {
     // Files a line of the inserted text under a UUID, if there is room, and answers what is filled then: the one held under
     // it is struck out.
-    pub fn file_row(
+    pub fn file_row<const N: usize>(
         &self,
-        table: &mut Table,
+        table: &mut Table<N>,
         fill: Fill,
         uuid: Uuid,
         start: usize,
         len: usize,
     ) -> Result<Fill, Full>
-        requires count_lt_rows_max { fill.count < rows_max }
+        requires count_lt_rows { fill.count < length table.old.rows }
         requires fileable { Fileable self.now.dues self.now.index.now self.now.text.now
             table.old.rows table.old.heads table.old.next
             fill (record { owner = self.now.owner; uuid = uuid }) start len }
-        ensures { FilesRow self.now.dues self.now.index.now self.now.text.now
+        ensures files { FilesRow self.now.dues self.now.index.now self.now.text.now
             table.old.rows table.old.heads table.old.next
             fill (record { owner = self.now.owner; uuid = uuid }) start len
             table.new.rows table.new.heads table.new.next result }
+        ensures rows_kept { length table.new.rows ≡ length table.old.rows }
     {
         let n = fill.count;
         let owner = self.owner;
         let key = Key { owner, uuid };
-        let r = table.add_row(n, key, start, len, ROWS);
+        let r = table.add_row(n, key, start, len, N);
         let had = len_before(&table.rows, r);
         let used = fill.used - had + len;
         let end = end_with(fill.end, had, key);

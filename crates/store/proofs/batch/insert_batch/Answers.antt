@@ -1,7 +1,9 @@
 -- The walk writes the lines of a sound store down, `take_lines` files by number, and `settle` writes out.
 use mathlib.Core.List.{List}
 use mathlib.Core.Option.{some}
-use mathlib.Core.Path.{◌≡◌}
+use mathlib.Core.Path.{◌≡◌, ◌∙◌}
+use Prim.Native.Nat.{◌≤◌}
+use lib.ListN.{length}
 use borrow.Author.Rules.{rules}
 use Rattle.store.specs.Claims.{Owed}
 use Rattle.store.specs.Decode.{decode}
@@ -15,55 +17,66 @@ use Rattle.store.proofs.batch.insert_batch.Goals.{After-dues_of-dues}
 use Rattle.store.proofs.batch.insert_batch.Goals as goal
 
 pub survey-requires : goal.survey-requires
-survey-requires c = record {
-  index_len_bound = both_most c.args.index.now c.args.text.now (λ k. search rules) c.requires.text_value;
-  chained = c.new-table.ensures.chained;
-  long = c.new-table.ensures.long;
-}
+survey-requires g c =
+    let most : g.row.N ≤ 65535 = c.requires.enough.most in
+    let long : length c.new-table.result.rows ≡ g.row.N = search rules in (
+      search rules,
+      (
+        rw long c.requires.enough,
+        (
+          (both_most c.args.index.now c.args.text.now (λ k. search rules) c.requires.text_value).1,
+          c.new-table.ensures,
+        ),
+      ),
+    )
 
 pub unwrap-seen-requires : goal.unwrap-seen-requires
-unwrap-seen-requires c =
-    survey_some c.args.index.now c.args.text.now _ _ _ _ c.survey.ensures
+unwrap-seen-requires g c =
+    survey_some c.args.index.now c.args.text.now _ _ _ _ c.survey.ensures.once
     (walk_of c.args.index.now c.args.text.now (λ k. search rules) c.requires.text_value)
 
 pub dues_of-dues-requires : goal.dues_of-dues-requires
-dues_of-dues-requires c =
-    let walked = survey_of c.args.index.now c.args.text.now _ _ _ _ c.survey.ensures _ c.unwrap-seen.ensures in
+dues_of-dues-requires g c =
+    let walked = survey_of c.args.index.now c.args.text.now _ _ _ _ c.survey.ensures.once _ c.unwrap-seen.ensures in
     loads_addable c.args.index.now c.args.text.now _ _ _ c.unwrap-seen.result.fill walked.loads c.requires.text_value
 
 -- the lines are walked, and what is owed is told by them
-walked : (c : After-dues_of-dues)
+walked : (g : _) (c : After-dues_of-dues g)
     → Surveys c.args.index.now c.args.text.now c.survey.new.table.rows c.survey.new.table.heads
     c.survey.new.table.next c.unwrap-seen.result
-walked c = survey_of _ _ _ _ _ _ c.survey.ensures _ c.unwrap-seen.ensures
+walked g c = survey_of _ _ _ _ _ _ c.survey.ensures.once _ c.unwrap-seen.ensures
 
-owed : (c : After-dues_of-dues) (hs : List Held) → decode c.args.index.now c.args.text.now ≡ some hs
+owed : (g : _) (c : After-dues_of-dues g) (hs : List Held) → decode c.args.index.now c.args.text.now ≡ some hs
     → Owed c.args.shares.now c.args.owner hs c.dues_of-dues.result
-owed c = loads_owed c.args.index.now c.args.text.now _ _ _ _ (walked c).loads _ _ _ c.dues_of-dues.ensures
+owed g c = loads_owed c.args.index.now c.args.text.now _ _ _ _ (walked g c).loads _ _ _ c.dues_of-dues.ensures
     (λ k. search rules)
 
 pub take_lines-part-requires : goal.take_lines-part-requires
-take_lines-part-requires c =
-    let from = (goal.at.take_lines-part-requires c).After-dues_of-dues in
-    record {
-      from_in_bounds = c.requires.from_in_bounds;
-      some_rows = loads_held _ _ _ _ _ _ _ _ _ _ (walked from).loads (owed from) c.requires.text_value;
-    }
+take_lines-part-requires g c =
+    let from = (goal.at.take_lines-part-requires g c).After-dues_of-dues in
+    let most : g.row.N ≤ 65535 = c.requires.enough.most in (
+      search rules,
+      (
+        c.requires.from_in_bounds,
+        loads_held _ _ _ _ _ _ _ _ _ _ (walked g from).loads (owed g from) c.requires.text_value,
+      ),
+    )
 
 pub settle-requires : goal.settle-requires
-settle-requires c =
-    let from = (goal.at.settle-requires c).After-dues_of-dues in
+settle-requires g c =
+    let from = (goal.at.settle-requires g c).After-dues_of-dues in
     record {
-      extends = loads_extend _ _ _ _ _ _ (walked from).loads;
-      settles = batch_settles _ _ _ _ _ _ _ _ _ _ (walked from).loads (owed from) c.args.from _ _
+      extends = loads_extend _ _ _ _ _ _ (walked g from).loads;
+      settles = batch_settles _ _ _ _ _ _ _ _ _ _ (walked g from).loads (owed g from) c.args.from _ _
           c.take_lines-part.ensures.takes_lines c.requires.text_value;
     }
 
 pub returns : goal.returns
-returns c =
-    let from = (goal.at.returns c).After-dues_of-dues in
+returns g c =
+    let from = (goal.at.returns g c).After-dues_of-dues in
+    let long : length c.new-table.result.rows ≡ g.row.N = search rules in
     record {
-      batches = batch_end _ _ _ _ _ _ _ _ _ _ (walked from).loads (owed from) c.args.from _ _
+      batches = batch_end _ _ _ _ _ _ _ _ _ _ (walked g from).loads (owed g from) c.args.from _ _
           c.take_lines-part.ensures.takes_lines _ _ c.settle.ensures;
-      went = went_from c.args.lines.now c.args.from _ _ (walked from).most c.take_lines-part.ensures.went;
+      went = rw (c.survey.ensures.rows_kept ∙ long) at (went_from c.args.lines.now c.args.from _ _ _ (walked g from).most c.take_lines-part.ensures.went);
     }

@@ -6,4 +6,4 @@ use Rattle.store.proofs.chains.bucket_of.Goals as goal
 
 pub returns : goal.returns
 unfolding bucket
-returns c = (refl, search rules)
+returns g c = (refl, search rules)

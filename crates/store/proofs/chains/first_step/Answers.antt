@@ -1,7 +1,7 @@
 -- Where the key is not found, what comes behind the place before is linked to it.
 use mathlib.Core.Path.{sym, ap, ◌∙◌}
 use Prim.Native.Nat.{ℕ}
-use lib.ListN.{get_or}
+use lib.ListN.{length, get_or}
 use Rattle.store.specs.Held.{same_key}
 use Rattle.store.specs.Rows.{key_in}
 use Rattle.store.proofs.ChainLaws.{step_on}
@@ -14,7 +14,7 @@ returns c =
     let same = c.eq in
     let rows = c.args.rows.now in
     let next = c.args.next.now in
-    let r = step_on (key_in rows) next c.args.k c.args.from c.requires.linked c.requires.kin c.requires.k_lt_rows_max.1
+    let r = step_on (length next) (key_in rows) next c.args.k c.args.from c.requires.linked c.requires.kin c.requires.k_lt_rows.1.1
     c.from.result
     (ap (λ (i : ℕ). same_key (key_in rows i) (key_in rows c.args.k)) (sym place.ensures) ∙ sym same.ensures
     ∙ c.if-eq.false)

@@ -1,6 +1,7 @@
 use mathlib.Core.Path.{sym, ◌∙◌}
 use native.Mathlib.Omega.{arith}
 use Prim.Native.Nat.{◌-◌, ◌≤◌, ◌<◌}
+use lib.ListN.{length}
 use Rattle.store.specs.Held.{same_key}
 use Rattle.store.specs.Rows.{key_in}
 use Rattle.store.proofs.ChainLaws.{Seeking, seek_turn}
@@ -23,10 +24,10 @@ returns-then-eq c =
 
 -- the next number of the chain, where the key is not that of number c
 next : (c : After-from-c)
-    → Seeking (key_in c.args.rows.now) c.args.k c.args.from c.from-c.result × (c.from-c.result < c.loop-c.c)
+    → Seeking (length c.args.next.now) (key_in c.args.rows.now) c.args.k c.args.from c.from-c.result × (c.from-c.result < c.loop-c.c)
 unfolding same_key
 next c =
-    seek_turn (key_in c.args.rows.now) c.args.next.now c.args.k c.args.from c.loop-c.c c.from-c.result c.requires.linked
+    seek_turn (length c.args.next.now) (key_in c.args.rows.now) c.args.next.now c.args.k c.args.from c.loop-c.c c.from-c.result c.requires.linked
     c.loop-c.invariant.0 (omega arith) (sym c.eq.ensures ∙ c.if-eq.false) c.from-c.ensures
 
 pub loop-c-smaller : goal.loop-c-smaller

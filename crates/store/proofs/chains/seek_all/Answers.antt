@@ -1,6 +1,7 @@
 use native.Mathlib.Omega.{arith}
 use borrow.Author.Rules.{rules}
 use Prim.Native.Nat.{ℕ}
+use lib.ListN.{length}
 use Rattle.store.specs.Held.{Key}
 use Rattle.store.specs.Keys.{bucket, Last, Seeks, Sought}
 use Rattle.store.specs.Rows.{key_in}
@@ -13,11 +14,14 @@ module _ (c : After-from) where
   abbrev K : ℕ → Key
   K = key_in c.args.keys.rows.now
 
-  chain : Last K (bucket (K c.loop-k.k)) c.loop-k.k c.from.result
-  chain = chain_from K c.args.keys.next.now _ _ _ c.args.keys.linked (omega arith) c.from.ensures
+  abbrev N : ℕ
+  N = length c.args.keys.next.now
+
+  chain : Last N K (bucket N (K c.loop-k.k)) c.loop-k.k c.from.result
+  chain = chain_from N K c.args.keys.next.now _ _ _ c.args.keys.linked (omega arith) c.from.ensures
 
   whole : {r : ℕ} → Seeks K c.loop-k.k c.from.result r → Sought K c.loop-k.k r
-  whole x = chain_sought K _ _ chain _ x
+  whole x = chain_sought N K _ _ chain _ x
 
 pub loop-k-init : goal.loop-k-init
 loop-k-init c = (search rules, λ a b l m e. omega arith)
@@ -26,7 +30,7 @@ pub seek-r-requires : goal.seek-r-requires
 seek-r-requires c =
     let last = chain (goal.at.seek-r-requires c).After-from in
     record {
-      k_lt_rows_max = (omega arith, last.within);
+      k_lt_rows = (omega (arith, c.args.keys.few.0), (omega (arith, c.args.keys.few.1.0), last.within));
       linked = λ a l. c.args.keys.linked a (omega arith);
       kin = last.kin;
     }

@@ -1,16 +1,10 @@
--- 19 where the store is not sound; else the key's chain tells the line that is held: `sees_stock`.
-use Rattle.store.proofs.LookLaws.{sees_unsound, stock_ready, sees_stock}
-use Rattle.store.proofs.SurveyLaws.{stock_refused}
+-- 19 where the index is too long; else as the function for its table says.
+use Rattle.store.proofs.LookLaws.{sees_unsound}
+use Rattle.store.proofs.SurveyLaws.{too_long}
 use Rattle.store.proofs.look.look_by.Goals as goal
 
-pub returns-in_err-stock : goal.returns-in_err-stock
-returns-in_err-stock c =
+pub returns-in-None : goal.returns-in-None
+returns-in-None c =
     let args = c.args in
-    let w = stock_refused _ _ _ _ c.take_stock.ensures _ _ c.in_err-stock.ensures.value _ c.from_residual.ensures.1 in
-    rw w.0 (sees_unsound args.key args.index.now args.text.now w.1)
-
-pub part_of-requires : goal.part_of-requires
-part_of-requires c = stock_ready (rw c.in_ok-stock.ensures.ok_part at c.take_stock.ensures)
-
-pub returns : goal.returns
-returns c = sees_stock (rw c.in_ok-stock.ensures.ok_part at c.take_stock.ensures) c.args.key _ c.part_of.ensures.spots
+    sees_unsound args.key args.index.now args.text.now
+    (too_long args.index.now args.text.now c.area_for.ensures c.in-None.is)

@@ -1,14 +1,21 @@
 -- The key is the last of the numbers, and its chain tells the one before: `spot_line`.
-use mathlib.Core.Path.{refl, ◌∙◌}
+use Prim.Native.Nat.{◌≤◌}
+use native.Mathlib.Omega.{arith}
+use borrow.Author.Rules.{rules}
+use lib.ListN.{length}
+use mathlib.Core.Path.{◌≡◌, refl, ◌∙◌}
 use Rattle.store.proofs.LookLaws.{spot_none, spot_line, put_agree, put_ready, put_new}
 use Rattle.store.proofs.look.part_of.Goals as goal
 
 pub seek_before-r-requires : goal.seek_before-r-requires
-seek_before-r-requires c =
-    record { k_lt_rows_max = c.requires.few; chained = (put_ready c.args.key c.requires refl).chained }
+seek_before-r-requires g c =
+    let ready = put_ready c.args.key c.requires refl in
+    let long : length c.args.table.now.heads ≡ g.row.N = search rules in
+    let most : g.row.N ≤ 65535 = omega (arith, c.requires.chained.most, long) in
+    (search rules, (ready.few, ready.chained))
 
 pub returns-then-len-eq0 : goal.returns-then-len-eq0
-returns-then-len-eq0 c = record {
+returns-then-len-eq0 g c = record {
   ready = put_ready c.args.key c.requires refl;
   chains_kept = (refl, refl);
   agree = put_agree c.args.key c.requires refl;
@@ -18,7 +25,7 @@ returns-then-len-eq0 c = record {
 }
 
 pub returns : goal.returns
-returns c = record {
+returns g c = record {
   ready = put_ready c.args.key c.requires refl;
   chains_kept = (refl, refl);
   agree = put_agree c.args.key c.requires refl;

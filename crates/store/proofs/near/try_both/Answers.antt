@@ -17,7 +17,7 @@ use Rattle.store.proofs.NearLaws.{sees_exact, sees_near, sees_neither}
 use Rattle.store.proofs.near.try_both.Goals as goal
 
 pub returns-in-Some : goal.returns-in-Some
-returns-in-Some c =
+returns-in-Some g c =
     let args = c.args in
     let whole = c.part_of in
     λ i t hs x.
@@ -37,7 +37,7 @@ plain : (t : List ℕ) (k : Key) (hs : List Held) (r : Optional Part) {u : Uuid}
 plain t k hs r e s = subst (λ (u : Uuid). Spot t (find (key_by k.owner u) hs) r) e s
 
 pub returns-in-Some-part_of : goal.returns-in-Some-part_of
-returns-in-Some-part_of c = λ i t hs x.
+returns-in-Some-part_of g c = λ i t hs x.
     let whole = c.part_of.ensures in
     sees_near t (find c.args.key hs) (find (plain_key c.args.key) hs) c.part_of.result
     (whole.spots i t _ hs (λ j m. refl) x) c.part_of-2.result
@@ -46,7 +46,7 @@ returns-in-Some-part_of c = λ i t hs x.
     c.in_default.is _ c.in-Some-part_of.is
 
 pub returns : goal.returns
-returns c = λ i t hs x.
+returns g c = λ i t hs x.
     let whole = c.part_of.ensures in
     sees_neither t (find c.args.key hs) (find (plain_key c.args.key) hs) c.part_of.result
     (whole.spots i t _ hs (λ j m. refl) x) c.part_of-2.result

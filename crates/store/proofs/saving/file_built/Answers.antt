@@ -1,40 +1,10 @@
--- 19 where the store is not sound; else `file_line` says whether there was room, in the part behind the shares.
-use mathlib.Core.Path.{refl}
-use borrow.Author.Rules.{rules}
-use Rattle.std.proofs.lemmas.Result.{err_from_is_err_and}
-use Rattle.store.proofs.PartLaws.{stock_lines, stock_loads, stock_adds, stock_owed}
-use Rattle.store.proofs.SaveLaws.{file_unsound, file_stocked}
-use Rattle.store.proofs.SurveyLaws.{stock_refused}
+-- 19 where the index is too long; else as the function for its table says.
+use Rattle.store.proofs.SaveLaws.{file_unsound}
+use Rattle.store.proofs.SurveyLaws.{too_long}
 use Rattle.store.proofs.saving.file_built.Goals as goal
 
-pub returns-in_err-stock : goal.returns-in_err-stock
-returns-in_err-stock c =
+pub returns-in-None : goal.returns-in-None
+returns-in-None c =
     let args = c.args in
-    let w = stock_refused _ _ _ _ c.take_stock.ensures _ _ c.in_err-stock.ensures.value _ c.from_residual.ensures.1 in
-    rw w.0 (file_unsound args.index.now args.text.now (record { key = args.key; line = args.line.now }) w.1)
-
-pub dues_of-dues-requires : goal.dues_of-dues-requires
-dues_of-dues-requires c = stock_adds (rw c.in_ok-stock.ensures.ok_part at c.take_stock.ensures) (λ k. search rules)
-
-pub file_line-requires : goal.file_line-requires
-file_line-requires c =
-    let w = rw c.in_ok-stock.ensures.ok_part at c.take_stock.ensures in
-    record {
-      text_value = stock_lines w (λ k. search rules);
-      in_bounds = c.requires;
-      loads = (stock_loads w (λ k. search rules), w.loads.1);
-      some_dues = (_, stock_owed w (λ k. search rules) c.args.key.owner _ c.dues_of-dues.ensures);
-    }
-
-pub returns-in_err-file_line : goal.returns-in_err-file_line
-returns-in_err-file_line c =
-    let w = rw c.in_ok-stock.ensures.ok_part at c.take_stock.ensures in
-    let p = err_from_is_err_and c.from_residual-in_err-file_line.result c.from_residual-in_err-file_line.ensures.1 in
-    file_stocked _ _ (record { key = c.args.key; line = c.args.line.now }) w (λ k. search rules)
-    _ c.dues_of-dues.ensures _ _ _ c.in_err-file_line.ensures _ (rw (p.1, p.2) refl)
-
-pub returns : goal.returns
-returns c =
-    let w = rw c.in_ok-stock.ensures.ok_part at c.take_stock.ensures in
-    file_stocked _ _ (record { key = c.args.key; line = c.args.line.now }) w (λ k. search rules)
-    _ c.dues_of-dues.ensures _ _ _ c.in_ok-file_line.ensures _ refl
+    file_unsound args.index.now args.text.now (record { key = args.key; line = args.line.now })
+    (too_long args.index.now args.text.now c.area_for.ensures c.in-None.is)

@@ -33,6 +33,6 @@ returns c =
     let loop = c.loop-k in
     let g = c.requires.tabled in
     let e : loop.k ≡ args.old =
-    omega (arith, length-take args.old args.rows.now, loop.invariant.rows, g.olds, g.most, g.long) in
+    omega (arith, length-take args.old args.rows.now, loop.invariant.rows, g.olds, g.most) in
     subst (λ (n : ℕ). Keeps args.rows.now args.old (record { rows = n; at = loop.at; off = loop.off })) e
     (keep_end _ _ _ _ _ loop.invariant)

@@ -1,41 +1,72 @@
 -- The chain's head is the last number of its bucket; number k takes its place.
-use mathlib.Core.Path.{refl}
+use mathlib.Core.List.{List}
+use mathlib.Core.Path.{◌≡◌, refl, sym, subst, ◌∙◌}
+use Prim.Native.Nat.{ℕ, ◌+◌, ◌<◌}
 use native.Mathlib.Omega.{arith}
+use lib.ListN.{length, get_or, set, length-set}
+use borrow.Author.Rules.{rules}
+use Rattle.store.specs.Held.{Key}
+use Rattle.store.specs.Keys.{Last, Linked, Kin, bucket}
 use Rattle.store.specs.Rows.{key_in}
 use Rattle.store.proofs.ChainLaws.{here, sought, seeks_from, links_turn, chained_turn}
+use Rattle.store.proofs.chains.Table.link.Goals.{After-from}
 use Rattle.store.proofs.chains.Table.link.Goals as goal
 
+module _ (g : _) (c : After-from g) where
+  abbrev K : ℕ → Key
+  K = key_in c.args.self.now.rows
+
+  -- the links with that of number k
+  abbrev links : List ℕ
+  links = set c.args.self.now.next c.args.k (get_or c.args.self.now.heads c.bucket_of-h.result 0)
+
+  long : length c.args.self.now.heads ≡ g.row.N
+  long = search rules
+
+  less : c.args.k < g.row.N
+  less = search rules
+
+  all : length links ≡ g.row.N
+  all = length-set c.args.self.now.next c.args.k _ ∙ search rules
+
+  last : Last g.row.N K (bucket g.row.N (K c.args.k)) c.args.k c.from.result
+  last = here c.requires.chained long c.bucket_of-h.ensures c.from.ensures less
+
+  linked : Linked (length links) K links (c.args.k + 1)
+  linked = subst (λ (n : ℕ). Linked n K links (c.args.k + 1)) (sym all)
+      (links_turn c.requires.chained long c.bucket_of-h.ensures refl less)
+
 pub first_step-from-requires : goal.first_step-from-requires
-first_step-from-requires c =
-    let pre = c.requires in
-    let last = here pre.chained c.bucket_of-h.ensures c.from.ensures pre.k_lt_rows_max in
-    record {
-      k_lt_rows_max = (pre.k_lt_rows_max, last.within);
-      linked = links_turn pre.chained c.bucket_of-h.ensures refl pre.k_lt_rows_max;
-      kin = last.kin;
-    }
+first_step-from-requires g c = record {
+  k_lt_rows = (c.requires.k_lt_rows, (omega (arith, less g c, all g c), (last g c).within));
+  linked = linked g c;
+  kin = subst (λ (n : ℕ). Kin n (K g c) c.args.k c.from.result) (sym (all g c)) (last g c).kin;
+}
 
 pub seek-r-requires : goal.seek-r-requires
-seek-r-requires c =
-    let pre = c.requires in
+seek-r-requires g c =
+    let from = (goal.at.seek-r-requires g c).After-from in
     let first = c.first_step-from.ensures in
-    let last = here pre.chained c.bucket_of-h.ensures c.from.ensures pre.k_lt_rows_max in
     record {
-      k_lt_rows_max = (pre.k_lt_rows_max, omega (arith, first.not_in.1, last.within));
-      linked = λ a l. links_turn pre.chained c.bucket_of-h.ensures refl pre.k_lt_rows_max a (omega (arith, l));
+      k_lt_rows = (
+        c.requires.k_lt_rows,
+        (omega (arith, less g from, all g from), omega (arith, first.not_in.1, (last g from).within)),
+      );
+      linked = λ a l. linked g from a (omega (arith, l));
       kin = first.kin_2;
     }
 
 pub returns : goal.returns
-returns c =
+returns g c =
+    let from = (goal.at.returns g c).After-from in
     let pre = c.requires in
     let first = c.first_step-from.ensures in
-    let last = here pre.chained c.bucket_of-h.ensures c.from.ensures pre.k_lt_rows_max in
     record {
       rows_kept = refl;
-      sought = sought pre.chained c.bucket_of-h.ensures c.from.ensures pre.k_lt_rows_max
+      sought = sought pre.chained (long g from) c.bucket_of-h.ensures c.from.ensures (less g from)
           (seeks_from (key_in c.args.self.now.rows) c.args.k _ _ _ first.not_in.0 c.seek-r.ensures.seeks);
-      chained_2 = chained_turn pre.chained c.bucket_of-h.ensures refl pre.k_lt_rows_max _ (omega arith);
+      chained_2 = chained_turn pre.chained (long g from) c.bucket_of-h.ensures refl (less g from) _ (omega arith);
       upper_bound = λ l.
-          c.seek-r.ensures.upper_bound (omega (arith, first.not_in.1, last.within, pre.k_lt_rows_max, l));
+          c.seek-r.ensures.upper_bound
+          (omega (arith, first.not_in.1, (last g from).within, pre.k_lt_rows, l));
     }

@@ -1,23 +1,42 @@
 -- The head of the chain is the last number of its bucket.
+use mathlib.Core.Path.{◌≡◌, sym, subst}
+use Prim.Native.Nat.{ℕ, ◌<◌}
 use native.Mathlib.Omega.{arith}
+use lib.ListN.{length}
+use borrow.Author.Rules.{rules}
+use Rattle.store.specs.Keys.{Kin, Last, bucket}
+use Rattle.store.specs.Rows.{key_in}
 use Rattle.store.proofs.ChainLaws.{here, sought}
+use Rattle.store.proofs.chains.Table.seek_before.Goals.{After-from}
 use Rattle.store.proofs.chains.Table.seek_before.Goals as goal
 
+module _ (g : _) (c : After-from g) where
+  long : length c.args.self.now.heads ≡ g.row.N
+  long = search rules
+
+  less : c.args.k < g.row.N
+  less = search rules
+
+  links_long : length c.args.self.now.next ≡ g.row.N
+  links_long = search rules
+
+  last : Last g.row.N (key_in c.args.self.now.rows) (bucket g.row.N (key_in c.args.self.now.rows c.args.k)) c.args.k
+      c.from.result
+  last = here c.requires.chained long c.bucket_of-h.ensures c.from.ensures less
+
 pub seek-requires : goal.seek-requires
-seek-requires c =
-    let pre = c.requires in
-    let last = here pre.chained c.bucket_of-h.ensures c.from.ensures pre.k_lt_rows_max in
-    record {
-      k_lt_rows_max = (pre.k_lt_rows_max, last.within);
-      linked = pre.chained.links;
-      kin = last.kin;
-    }
+seek-requires g c = record {
+  k_lt_rows = (c.requires.k_lt_rows, (omega (arith, less g c, links_long g c), (last g c).within));
+  linked = rw c.requires.chained.alike c.requires.chained.links;
+  kin = subst (λ (n : ℕ). Kin n (key_in c.args.self.now.rows) c.args.k c.from.result) (sym (links_long g c))
+      (last g c).kin;
+}
 
 pub returns : goal.returns
-returns c =
-    let pre = c.requires in
-    let last = here pre.chained c.bucket_of-h.ensures c.from.ensures pre.k_lt_rows_max in
+returns g c =
+    let from = (goal.at.returns g c).After-from in
     record {
-      sought = sought pre.chained c.bucket_of-h.ensures c.from.ensures pre.k_lt_rows_max c.seek.ensures.seeks;
-      upper_bound = c.seek.ensures.upper_bound (omega (arith, last.within));
+      sought = sought c.requires.chained (long g from) c.bucket_of-h.ensures c.from.ensures (less g from)
+          c.seek.ensures.seeks;
+      upper_bound = c.seek.ensures.upper_bound (omega (arith, (last g from).within, less g from));
     }
