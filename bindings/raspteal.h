@@ -272,7 +272,7 @@ typedef struct {
     raspteal_refusal last;
 } raspteal_tokens;
 
-/* A slot: a code, if it is filled. */
+/* A slot: a code, if it is filled; where it is not, its code is not read. */
 typedef struct {
     bool filled;
     uint32_t code;
@@ -330,12 +330,6 @@ typedef struct {
 
 /* Whether two byte strings are the same. */
 bool raspteal_same_bytes(const uint8_t *a, size_t a_len, const uint8_t *b, size_t b_len);
-
-/* The place of the first byte b, or s_len. */
-size_t raspteal_find_byte(const uint8_t *s, size_t s_len, uint8_t b);
-
-/* Whether len bytes fit from place `at` on into a buffer of room bytes; the sum of at and len may be any number. */
-bool raspteal_fits(size_t room, size_t at, size_t len);
 
 /* Writes v at place `at` of out. Where it does not fit, out is left as it is. */
 raspteal_written raspteal_write_bytes(uint8_t *out, size_t out_len, size_t at, const uint8_t *v, size_t v_len);
@@ -440,10 +434,7 @@ uint8_t raspteal_parser_start(const uint8_t *line, size_t line_len);
  * the kind is RASPTEAL_END. After refusals 1, 2 and 10 no end comes: the next steps say 9, or 10 again. */
 raspteal_step raspteal_parser_step(const uint8_t *line, size_t line_len, size_t pos, uint8_t state);
 
-/* The first answer over a line: the token of the step at position 0 in the state that raspteal_parser_start gives. */
-raspteal_token raspteal_first_token(const uint8_t *line, size_t line_len);
-
-/* How the UUID of that token is spelled, RASPTEAL_XINPUT for `xinput`; 0 where the token is no UUID. */
+/* How the UUID of a line's first token is spelled, RASPTEAL_XINPUT for `xinput`; 0 where that token is no UUID. */
 uint8_t raspteal_first_form(const uint8_t *line, size_t line_len);
 
 /* How many tokens a walker gives over a line, up to its end or to a refusal after which it doesn't go on (1, 2, 10);
@@ -456,15 +447,6 @@ raspteal_answer raspteal_parse_sdl_mapping(const uint8_t *line, size_t line_len,
                                            size_t buttons_len, const uint32_t *axes, size_t axes_len);
 
 /* ---- Slots, build and default ---------------------------------------------------------------------------------- */
-
-/* A slot filled with a code. */
-raspteal_slot raspteal_slot_new(uint32_t code);
-
-/* The code of a slot; where it is not filled there is none, whatever its code says. */
-raspteal_code raspteal_slot_code(raspteal_slot slot);
-
-/* Whether there is a code: the flag found. */
-bool raspteal_slot_code_is_some(raspteal_code c);
 
 /* No slot is filled. */
 raspteal_data raspteal_data_new(void);

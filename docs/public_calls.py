@@ -42,6 +42,9 @@ CROSSES_AS = {
     "pad_outcome": "raspteal_pad_raw_event",
 }
 
+# Small functions that the crates above call, and no program: they have no C function.
+WITHIN = {"find_byte", "fits", "first_token"}
+
 # Calls whose C function has another name.
 NAMED = {"event": "raspteal_mapping_event", "share_of": "raspteal_store_share"}
 
@@ -62,7 +65,7 @@ How to read an entry:
 - The first line is the call: its name, its arguments with their types, and after `->` what it hands back. `&[u8]` is a lent text or buffer of bytes that is only read, `&mut [u8]` a lent buffer that may be written, `&[u32]` a list of codes, `usize` a place, a length or a count, `self` the value that the call is made on.
 - **Promise** is the contract, as the checker has proved it for every input; no call asks anything of its arguments. `result` is what the call hands back. An argument's name stands for its value at the call, and with a prime (`out'`) for what a lent buffer holds when the call returns. `f x y` is the definition `f`, given x and y; `x.part` is a part of x.
 - Below it stand the definitions that the promise cites, each with the words above it and the file that has it. A word in quotation marks is document 01's, document 02's or the RFC's.
-- **In C** is the function of `bindings/raspteal.h` that makes the call.
+- **In C** is the function of `bindings/raspteal.h` that makes the call. Small functions that only the crates above call have none.
 - A type that is no number, flag or slice stands in the list at the end of the page, under [Types](#types). What a refusal's number means, and which answer says it, stands before that, under [Refusals](#refusals).
 """
 
@@ -247,7 +250,8 @@ def entry(call, imports):
     for crate, file, name in seen:
         path, text = definition(crate, file, name)
         out.append(f"- `{name}`: {text} (`{path}`)")
-    out += ["", f"**In C:** `{call.c_name()}`", ""]
+    c_name = "no function of its own" if call.title in WITHIN else f"`{call.c_name()}`"
+    out += ["", f"**In C:** {c_name}", ""]
     return out
 
 
@@ -334,7 +338,10 @@ def faults(call, imports, exports):
     if not call.comment:
         yield "has no words above it"
     body = exports.get(call.c_name())
-    if body is None:
+    if call.title in WITHIN:
+        if body is not None:
+            yield f"has the C function {call.c_name()}, and WITHIN says that it has none"
+    elif body is None:
         yield f"has no C function {call.c_name()} in crates/exports"
     elif call.title not in CROSSES_AS:
         contract, code = body.split("\n{\n")

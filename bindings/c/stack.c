@@ -32,8 +32,6 @@ static raspteal_element element;
 /* Clear comes last: the others need the full store. */
 #define CALLS                                                                                                          \
     X(same_bytes, (LINE, LINE))                                                                                        \
-    X(find_byte, (LINE, ','))                                                                                          \
-    X(fits, (1, 2, 3))                                                                                                 \
     X(write_bytes, (OUT, 0, LINE))                                                                                     \
     X(valid_up_to, (LINE))                                                                                             \
     X(is_utf8, (LINE))                                                                                                 \
@@ -65,12 +63,8 @@ static raspteal_element element;
     X(parser_start, (LINE))                                                                                            \
     X(parser_step, (LINE, 0, raspteal_parser_start(LINE)))                                                             \
     X(first_form, (LINE))                                                                                              \
-    X(first_token, (LINE))                                                                                             \
     X(count_tokens, (LINE))                                                                                            \
     X(parse_sdl_mapping, (LINE, CODES, CODES))                                                                         \
-    X(slot_new, (5))                                                                                                   \
-    X(slot_code, (raspteal_slot_new(5)))                                                                               \
-    X(slot_code_is_some, (raspteal_slot_code(raspteal_slot_new(5))))                                                   \
     X(data_new, ())                                                                                                    \
     X(data_button, (data, 1))                                                                                          \
     X(data_axis, (data, 1))                                                                                            \

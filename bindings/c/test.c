@@ -59,11 +59,8 @@ static void text(void) {
     memset(out, '.', sizeof out);
     CHECK(raspteal_valid_up_to(TEXT("T\xc3\xa9\xff")) == 3);
     CHECK(raspteal_is_utf8(TEXT("")));
-    CHECK(raspteal_find_byte(TEXT("a,b"), ',') == 1);
     CHECK(raspteal_same_bytes(TEXT("ab"), TEXT("ab")));
     CHECK(!raspteal_same_bytes(TEXT("ab"), TEXT("abc")));
-    CHECK(raspteal_fits(40, 8, 32) && !raspteal_fits(40, 9, 32));
-    CHECK(!raspteal_fits(40, 41, 0) && !raspteal_fits(40, SIZE_MAX, SIZE_MAX));
     raspteal_uuid_parse u = raspteal_uuid_parse_str(TEXT("urn:uuid:F81D4FAE-7DEC-11D0-A765-00A0C91E6BF6"));
     CHECK(u.valid && u.id.high == 0xf81d4fae7dec11d0 && u.id.low == 0xa76500a0c91e6bf6);
     CHECK(!raspteal_uuid_parse_str(TEXT("{" U "}")).valid);
@@ -104,11 +101,11 @@ static void lines(void) {
     CHECK(s.token.kind == RASPTEAL_HAT && s.token.pair.direction == 1 && s.token.pair.to.number == 16);
     s = raspteal_parser_step(TEXT(line), s.pos, s.state);
     CHECK(s.token.kind == RASPTEAL_END);
-    raspteal_token t = raspteal_first_token(TEXT("xinput,T"));
+    raspteal_token t = raspteal_parser_step(TEXT("xinput,T"), 0, raspteal_parser_start(TEXT("xinput,T"))).token;
     CHECK(t.kind == RASPTEAL_UUID && t.id.high == 0 && t.id.low == 0);
-    t = raspteal_first_token(TEXT("T\xff"));
+    t = raspteal_parser_step(TEXT("T\xff"), 0, raspteal_parser_start(TEXT("T\xff"))).token;
     CHECK(t.kind == RASPTEAL_REFUSED && t.refusal.number == 10 && t.refusal.place == 1);
-    CHECK(raspteal_first_token(TEXT("")).kind == RASPTEAL_END);
+    CHECK(raspteal_parser_step(TEXT(""), 0, raspteal_parser_start(TEXT(""))).token.kind == RASPTEAL_END);
     raspteal_tokens n = raspteal_count_tokens(TEXT(line));
     CHECK(n.count == 3 && n.last.number == 0);
     n = raspteal_count_tokens(TEXT(U ",T,a:,b:b1,"));
@@ -165,12 +162,11 @@ static void lines(void) {
 static void builds(void) {
     uint8_t out[64];
     memset(out, '.', sizeof out);
-    raspteal_slot slot = raspteal_slot_new(0x10131);
-    CHECK(slot.filled && slot.code == 0x10131);
-    CHECK(raspteal_slot_code(slot).code == 0x10131 && raspteal_slot_code_is_some(raspteal_slot_code(slot)));
-    slot.filled = false;
-    CHECK(!raspteal_slot_code(slot).found && raspteal_slot_code(slot).code == 0);
-    CHECK(!raspteal_slot_code_is_some((raspteal_code){false, 5}));
+    raspteal_data slots = raspteal_data_new();
+    slots.buttons[1] = (raspteal_slot){true, 0x10131};
+    CHECK(raspteal_data_button(slots, 1).code == 0x10131);
+    slots.buttons[1].filled = false;
+    CHECK(!raspteal_data_button(slots, 1).found && raspteal_data_button(slots, 1).code == 0);
     raspteal_changed c = raspteal_data_insert_btn(raspteal_data_new(), 0x10131, 1);
     CHECK(!c.former.found && raspteal_data_button(c.slots, 1).code == 0x10131);
     raspteal_uuid nil = {0, 0};

@@ -305,8 +305,6 @@ pub struct Share {
 
 extern "C" {
     pub fn raspteal_same_bytes(a: *const u8, a_len: usize, b: *const u8, b_len: usize) -> bool;
-    pub fn raspteal_find_byte(s: *const u8, s_len: usize, b: u8) -> usize;
-    pub fn raspteal_fits(room: usize, at: usize, len: usize) -> bool;
     pub fn raspteal_write_bytes(out: *mut u8, out_len: usize, at: usize, v: *const u8, v_len: usize) -> Written;
     pub fn raspteal_valid_up_to(s: *const u8, s_len: usize) -> usize;
     pub fn raspteal_is_utf8(s: *const u8, s_len: usize) -> bool;
@@ -346,7 +344,6 @@ extern "C" {
     pub fn raspteal_parser_start(line: *const u8, line_len: usize) -> u8;
     pub fn raspteal_parser_step(line: *const u8, line_len: usize, pos: usize, state: u8) -> Step;
     pub fn raspteal_first_form(line: *const u8, line_len: usize) -> u8;
-    pub fn raspteal_first_token(line: *const u8, line_len: usize) -> Token;
     pub fn raspteal_count_tokens(line: *const u8, line_len: usize) -> Tokens;
     pub fn raspteal_parse_sdl_mapping(
         line: *const u8,
@@ -357,9 +354,6 @@ extern "C" {
         axes_len: usize,
     ) -> Answer;
 
-    pub fn raspteal_slot_new(code: u32) -> Slot;
-    pub fn raspteal_slot_code(slot: Slot) -> Code;
-    pub fn raspteal_slot_code_is_some(c: Code) -> bool;
     pub fn raspteal_data_new() -> MappingData;
     pub fn raspteal_data_button(data: MappingData, button: u16) -> Code;
     pub fn raspteal_data_axis(data: MappingData, axis: u16) -> Code;

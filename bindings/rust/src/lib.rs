@@ -47,7 +47,7 @@ pub use element::{Axis, AxisOrBtn, Button, Code};
 pub use error::{Error, InsertError, ParseUuidError};
 pub use mapping::{Entry, Iter, Lookup, Mapping};
 pub use pad::{Event, Events, Pad, Pads, Raw, Which};
-pub use parser::{count_tokens, first_form, first_token, AxisRange, Parser, Token};
+pub use parser::{count_tokens, first_form, AxisRange, Parser, Token};
 pub use party::{By, Party};
 pub use store::{Inserted, Match, Share, Store};
 pub use uuid::{Form, Uuid};

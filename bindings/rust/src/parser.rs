@@ -141,19 +141,6 @@ pub fn first_form(line: impl AsRef<[u8]>) -> Option<Form> {
     }
 }
 
-/// The first answer over a line: its UUID, a refusal, or `None` for an empty line.
-///
-/// ```
-/// use raspteal::{first_token, Token, Uuid};
-///
-/// assert_eq!(first_token("xinput,T"), Ok(Some(Token::Uuid(Uuid::NIL))));
-/// assert_eq!(first_token(""), Ok(None));
-/// ```
-pub fn first_token<'a>(line: &'a (impl AsRef<[u8]> + ?Sized)) -> Result<Option<Token<'a>>, Error> {
-    let line = line.as_ref();
-    token(line, safe::first_token(line))
-}
-
 /// How many tokens a line has, up to its end or to a refusal after which the walker doesn't go on (1, 2, 10); and the
 /// last refusal on the way.
 ///

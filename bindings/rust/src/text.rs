@@ -10,26 +10,6 @@ pub fn same_bytes(a: &[u8], b: &[u8]) -> bool {
     safe::same_bytes(a, b)
 }
 
-/// The place of the first byte `b`.
-///
-/// ```
-/// assert_eq!(raspteal::text::find_byte(b"a,b,c", b','), Some(1));
-/// assert_eq!(raspteal::text::find_byte(b"abc", b','), None);
-/// ```
-pub fn find_byte(s: &[u8], b: u8) -> Option<usize> {
-    let place = safe::find_byte(s, b);
-    (place < s.len()).then_some(place)
-}
-
-/// Whether `len` bytes fit from place `at` on into a buffer of `room` bytes.
-///
-/// ```
-/// assert!(raspteal::text::fits(40, 8, 32) && !raspteal::text::fits(40, usize::MAX, 1));
-/// ```
-pub fn fits(room: usize, at: usize, len: usize) -> bool {
-    safe::fits(room, at, len)
-}
-
 /// Writes `v` at place `at`, and hands back the place after its last byte; where it does not fit, nothing is written.
 ///
 /// ```

@@ -65,8 +65,6 @@ fn all_elements() {
 #[test]
 fn texts() {
     assert!(text::same_bytes(b"", b"") && !text::same_bytes(b"ab", b"ac"));
-    assert_eq!((text::find_byte(b"", b','), text::find_byte(b",,", b',')), (None, Some(0)));
-    assert!(text::fits(0, 0, 0) && text::fits(usize::MAX, 0, usize::MAX) && !text::fits(0, usize::MAX, usize::MAX));
     assert_eq!(text::valid_up_to(b"A\xc3"), 1);
     assert!(text::is_utf8(b"") && !text::is_utf8(b"\xed\xa0\x80"));
     let spelt = [("0", Some(0)), ("+65535", Some(65535)), ("65536", None), ("", None), ("+", None), ("-1", None)];
@@ -177,11 +175,11 @@ fn slots() {
     }
     assert_eq!(data, MappingData::new());
 
-    let filled = safe::slot_new(5);
-    assert!(filled.filled && safe::slot_code(filled) == ffi::Code { found: true, code: 5 });
-    let empty = ffi::Slot { filled: false, code: 5 };
-    assert_eq!(safe::slot_code(empty), ffi::Code { found: false, code: 0 });
-    assert!(safe::slot_code_is_some(safe::slot_code(filled)) && !safe::slot_code_is_some(safe::slot_code(empty)));
+    let mut slots = safe::data_new();
+    slots.buttons[1] = ffi::Slot { filled: true, code: 5 };
+    assert_eq!(safe::data_button(slots, 1), ffi::Code { found: true, code: 5 });
+    slots.buttons[1] = ffi::Slot { filled: false, code: 5 };
+    assert_eq!(safe::data_button(slots, 1), ffi::Code { found: false, code: 0 });
     let over = safe::data_insert_btn(safe::data_new(), 5, 20);
     assert!(!over.former.found && over.slots == safe::data_new());
     assert_eq!(safe::data_insert_axis(safe::data_new(), 5, 9).slots, safe::data_new());

@@ -1,5 +1,5 @@
 //! The walker, its tokens, and where it stops as an iterator.
-use raspteal::{first_token, Axis, AxisRange, Button, Error, Parser, Token, Uuid};
+use raspteal::{Axis, AxisRange, Button, Error, Parser, Token, Uuid};
 
 const U: &str = "00000000000000000000000000000000";
 
@@ -81,13 +81,13 @@ fn stops_after_1_2_and_10() {
         assert_eq!(parser.next_token(), Err(first));
         assert_eq!(parser.next(), Some(Err(later)));
         assert_eq!(parser.next(), None);
-        assert_eq!(first_token(line), Err(first));
     }
 }
 
 #[test]
 fn first_tokens() {
-    assert_eq!(first_token("xinput,T"), Ok(Some(Token::Uuid(Uuid::NIL))));
-    assert_eq!(first_token(&format!("{U},")), Ok(Some(Token::Uuid(Uuid::NIL))));
-    assert_eq!(first_token(""), Ok(None));
+    let first = |line: &str| Parser::new(line).next().map(|told| told.map(|token| token == Token::Uuid(Uuid::NIL)));
+    assert_eq!(first("xinput,T"), Some(Ok(true)));
+    assert_eq!(first(&format!("{U},")), Some(Ok(true)));
+    assert_eq!(first(""), None);
 }

@@ -8,7 +8,6 @@ use Rattle.line.specs.declared.ev.Button.{Button}
 use Rattle.line.specs.declared.ev.Axis.{Axis}
 use Rattle.line.specs.declared.ev.AxisOrBtn.{AxisOrBtn}
 use Rattle.line.specs.declared.ev.AxisOrBtn.TheVariants as El
-use Rattle.line.specs.Elements.{code_of}
 use Rattle.line.specs.declared.ev.Code.{Code}
 use Rattle.line.specs.declared.refusal.Refusal.{Refusal}
 use Rattle.text.specs.declared.uuid.Spelled.{Spelled}
@@ -63,9 +62,6 @@ element_of e = pick e.is_axis (El.Axis (axis_in e.number)) (El.Btn (button_in e.
 abbrev pub flat_code : Option Code → FlatCode
 flat_code (Some c) = record { found = true; code = c.0 }
 flat_code None = record { found = false; code = 0 }
-
-abbrev pub flat_code_in : FlatCode → Option Code
-flat_code_in f = pick f.found (Some (code_of f.code)) None
 
 abbrev pub flat_axis : Option Axis → FlatAxis
 flat_axis (Some a) = record { found = true; number = a.0 }

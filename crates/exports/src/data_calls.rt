@@ -1,9 +1,9 @@
 // The calls of the map layer on slots.
 ghost use Rattle.std.specs.Prelude.{◌≡◌, length};
 ghost use Rattle.line.specs.Elements.{code_of};
-ghost use Rattle.map.specs.Slots.{filled_with, has_code_in, no_slots, button_of, axis_of, insert_btn_of, insert_axis_of, remove_button_of, remove_axis_of};
-ghost use Rattle.exports.specs.Flat.{button_in, axis_in, flat_code, flat_code_in};
-ghost use Rattle.exports.specs.FlatSlots.{flat_slot, slot_in, flat_data, data_in, flat_slots_with};
+ghost use Rattle.map.specs.Slots.{no_slots, button_of, axis_of, insert_btn_of, insert_axis_of, remove_button_of, remove_axis_of};
+ghost use Rattle.exports.specs.Flat.{button_in, axis_in, flat_code};
+ghost use Rattle.exports.specs.FlatSlots.{flat_data, data_in, flat_slots_with};
 ghost use Rattle.exports.specs.FlatSlots.{flat_with_element, flat_element_changed, flat_button_changed, flat_axis_changed};
 
 use crate::flat_data::{FlatData, FlatSlot};
@@ -17,15 +17,6 @@ use map::mapping_data::MappingData;
 pub struct FlatChanged {
     pub former: FlatCode,
     pub slots: FlatData,
-}
-
-impl From<FlatCode> for Option<Code> {
-    ghost from_gives = { λ f c. c ≡ flat_code_in f };
-
-    // The number of an answer that has none is not read.
-    fn from(f: FlatCode) -> Option<Code> {
-        if f.found { Some(Code(f.code)) } else { None }
-    }
 }
 
 // A slot put into those that are lent. A number past the last changes nothing. By a test: `get_mut` was tried, whose
@@ -60,27 +51,6 @@ fn changed(lent: FlatData, of: AxisOrBtn, former: Option<Code>, after: MappingDa
         former: former.into(),
         slots: with_slot(lent, of, after),
     }
-}
-
-#[unsafe(no_mangle)]
-pub extern "C" fn raspteal_slot_new(code: u32) -> FlatSlot
-    ensures { result ≡ flat_slot (filled_with (code_of code)) }
-{
-    Some(Code(code)).into()
-}
-
-#[unsafe(no_mangle)]
-pub extern "C" fn raspteal_slot_code(slot: FlatSlot) -> FlatCode
-    ensures { result ≡ flat_code (slot_in slot) }
-{
-    Option::<Code>::from(slot).into()
-}
-
-#[unsafe(no_mangle)]
-pub extern "C" fn raspteal_slot_code_is_some(c: FlatCode) -> bool
-    ensures { result ≡ has_code_in (flat_code_in c) }
-{
-    Option::<Code>::from(c).is_some()
 }
 
 #[unsafe(no_mangle)]

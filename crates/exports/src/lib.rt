@@ -1,7 +1,7 @@
-// The C boundary: one thin call for each public call of the layers. What crosses is numbers, slices and #[repr(C)]
-// structs of them; an enum is laid out as numbers. bindings/raspteal.h says what each function does. C hands over each
-// argument by itself: what several calls take together (index and text, buttons and axes, a raw value's two numbers) is
-// no struct there.
+// The C boundary: one thin call for each public call of the layers, but for small ones that they alone make. What crosses
+// is numbers, slices and #[repr(C)] structs of them; an enum is laid out as numbers. bindings/raspteal.h says what each
+// function does. C hands over each argument by itself: what several calls take together (index and text, buttons and
+// axes, a raw value's two numbers) is no struct there.
 #![tactic(auto)]
 
 mod build_calls;

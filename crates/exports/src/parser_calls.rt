@@ -86,13 +86,6 @@ pub extern "C" fn raspteal_parser_step(line: &[u8], pos: usize, state: u8) -> Fl
 }
 
 #[unsafe(no_mangle)]
-pub extern "C" fn raspteal_first_token(line: &[u8]) -> FlatToken
-    ensures { result ≡ flat_answer (step_from (parser_of line.entry)).answer }
-{
-    line::parser::first_token(line).into()
-}
-
-#[unsafe(no_mangle)]
 pub extern "C" fn raspteal_count_tokens(line: &[u8]) -> FlatTokens
     ensures { result ≡ flat_tokens (tokens_of line.now) }
 {

@@ -33,20 +33,6 @@ pub extern "C" fn raspteal_same_bytes(a: &[u8], b: &[u8]) -> bool
 }
 
 #[unsafe(no_mangle)]
-pub extern "C" fn raspteal_find_byte(s: &[u8], b: u8) -> usize
-    ensures { result ≡ first_of b s.now }
-{
-    text::bytes::find_byte(s, b)
-}
-
-#[unsafe(no_mangle)]
-pub extern "C" fn raspteal_fits(room: usize, at: usize, len: usize) -> bool
-    ensures { result ≡ fits_at room at len }
-{
-    text::bytes::fits(room, at, len)
-}
-
-#[unsafe(no_mangle)]
 pub extern "C" fn raspteal_write_bytes(out: &mut [u8], at: usize, v: &[u8]) -> FlatWritten
     ensures value { result ≡ flat_written (write_answer out.old at v.now) }
     ensures out_after { out.new ≡ write_buffer out.old at v.now }

@@ -125,10 +125,6 @@ pub fn write_bytes(v: &[u8], out: &mut [u8], at: usize) -> Option<usize> {
     written(unsafe { ffi::raspteal_write_bytes(out.as_mut_ptr(), out.len(), at, v.as_ptr(), v.len()) })
 }
 
-pub fn find_byte(s: &[u8], b: u8) -> usize {
-    unsafe { ffi::raspteal_find_byte(s.as_ptr(), s.len(), b) }
-}
-
 pub fn same_bytes(a: &[u8], b: &[u8]) -> bool {
     unsafe { ffi::raspteal_same_bytes(a.as_ptr(), a.len(), b.as_ptr(), b.len()) }
 }

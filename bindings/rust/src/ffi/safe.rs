@@ -7,14 +7,6 @@ pub fn same_bytes(a: &[u8], b: &[u8]) -> bool {
     unsafe { raspteal_same_bytes(a.as_ptr(), a.len(), b.as_ptr(), b.len()) }
 }
 
-pub fn find_byte(s: &[u8], b: u8) -> usize {
-    unsafe { raspteal_find_byte(s.as_ptr(), s.len(), b) }
-}
-
-pub fn fits(room: usize, at: usize, len: usize) -> bool {
-    unsafe { raspteal_fits(room, at, len) }
-}
-
 pub fn write_bytes(out: &mut [u8], at: usize, v: &[u8]) -> Written {
     unsafe { raspteal_write_bytes(out.as_mut_ptr(), out.len(), at, v.as_ptr(), v.len()) }
 }
@@ -135,10 +127,6 @@ pub fn parser_step(line: &[u8], pos: usize, state: u8) -> Step {
     unsafe { raspteal_parser_step(line.as_ptr(), line.len(), pos, state) }
 }
 
-pub fn first_token(line: &[u8]) -> Token {
-    unsafe { raspteal_first_token(line.as_ptr(), line.len()) }
-}
-
 pub fn first_form(line: &[u8]) -> u8 {
     unsafe { raspteal_first_form(line.as_ptr(), line.len()) }
 }
@@ -155,18 +143,6 @@ fn list(codes: &[EventCode]) -> (*const u32, usize) {
 pub fn parse_sdl_mapping(line: &[u8], buttons: &[EventCode], axes: &[EventCode]) -> Answer {
     let ((b, b_len), (a, a_len)) = (list(buttons), list(axes));
     unsafe { raspteal_parse_sdl_mapping(line.as_ptr(), line.len(), b, b_len, a, a_len) }
-}
-
-pub fn slot_new(code: u32) -> Slot {
-    unsafe { raspteal_slot_new(code) }
-}
-
-pub fn slot_code(slot: Slot) -> Code {
-    unsafe { raspteal_slot_code(slot) }
-}
-
-pub fn slot_code_is_some(c: Code) -> bool {
-    unsafe { raspteal_slot_code_is_some(c) }
 }
 
 pub fn data_new() -> MappingData {
