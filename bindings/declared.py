@@ -8,6 +8,9 @@ NUMBERS = {"u8": "uint8_t", "u16": "uint16_t", "u32": "uint32_t", "u64": "uint64
 LIMITS = ["CODES_MAX", "LIST_MAX", "NAME_MAX", "LINE_MAX", "INDEX_MAX", "TEXT_MAX", "BUTTONS", "AXES", "IDENT_MAX",
           "KEYS", "HELD_MAX", "ELEMENTS"]
 
+# Of the boundary alone: the crates know no stack.
+STACKS = ["SMALL_MAX", "STACK", "STACK_LARGE"]
+
 # Numbers of ctypes; size_t and uint64_t are the same one.
 PLAIN = {ctypes.c_uint8: "uint8_t", ctypes.c_uint16: "uint16_t", ctypes.c_uint32: "uint32_t", ctypes.c_int16: "int16_t"}
 
@@ -118,7 +121,7 @@ def python():
     structs = {"raspteal_" + c.__name__: [(name, kind(t)) for name, t in c._fields_] for c in shapes}
     calls = {"raspteal_" + name: ([kind(a) for a in arguments], kind(result))
              for name, (result, arguments) in names["CALLS"].items()}
-    limits = {name: {str(names[name])} for name in LIMITS if name in names}
+    limits = {name: {str(names[name])} for name in LIMITS + STACKS if name in names}
     return structs, calls, limits, {str(number): told for number, told in names["MEANINGS"].items()}
 
 
@@ -129,16 +132,16 @@ def wide(kind, sizes):
 
 
 def limits():
-    """Each limit as the crates, the header and the Rust crate have it."""
+    """Each limit as the crates, the header and the Rust crate have it; what is of the boundary alone twice as the header
+    has it."""
     sources = [p for layer in ("line", "map", "store", "pad") for p in Path(f"crates/{layer}/src").rglob("*.rt")]
     crates = "\n".join(p.read_text() for p in sources)
     header, ffi = Path("bindings/raspteal.h").read_text(), Path("bindings/rust/src/ffi.rs").read_text()
-    for name in LIMITS:
-        yield name, [
-            set(re.findall(rf"^pub const {name}: usize = (\d+);", crates, re.M)),
-            set(re.findall(rf"^#define RASPTEAL_{name} (\d+)", header, re.M)),
-            set(re.findall(rf"^pub const {name}: usize = (\d+);", ffi, re.M)),
-        ]
+    for name in LIMITS + STACKS:
+        told = set(re.findall(rf"^#define RASPTEAL_{name} (\d+)", header, re.M))
+        ours = set(re.findall(rf"^pub const {name}: usize = (\d+);", crates, re.M))
+        yield name, [told if name in STACKS else ours, told,
+                     set(re.findall(rf"^pub const {name}: usize = (\d+);", ffi, re.M))]
 
 
 def named_numbers():

@@ -13,8 +13,13 @@
  * Threads
  *   A call touches only what it is lent, and keeps nothing when it returns: calls on unlike buffers may run at the same
  *   time, and so may calls that only read the same ones (`const`). While a call writes to a buffer, no other call and
- *   nobody else may read or write it. A call takes up to RASPTEAL_STACK bytes of the caller's stack; bindings/c/stack.c
- *   runs every call on a thread that has no more.
+ *   nobody else may read or write it.
+ *
+ * Stack
+ *   A call takes up to RASPTEAL_STACK bytes of the caller's stack, 384 KB; a call of the store on an index of more than
+ *   65535 bytes takes up to RASPTEAL_STACK_LARGE. bindings/c/stack.c runs every call on a thread that has no more, on
+ *   the dearest stores there are. A program's first thread has 8 MB as a rule, which hold either; others may have less,
+ *   and pthread_attr_setstacksize gives them more.
  *
  * What numbers mean
  *   A code is an event code of the pad, 32 bits (10130 hexadecimal is the first gamepad button of Linux).
@@ -40,16 +45,21 @@ extern "C" {
 #define RASPTEAL_LIST_MAX 1024    /* codes in a list of buttons or axes */
 #define RASPTEAL_NAME_MAX 8192    /* bytes of a name */
 #define RASPTEAL_LINE_MAX 16384   /* bytes of a stored line */
-#define RASPTEAL_INDEX_MAX 65535  /* bytes of an index */
-#define RASPTEAL_TEXT_MAX 65535   /* bytes of a text */
+#define RASPTEAL_INDEX_MAX 1048576 /* bytes of an index */
+#define RASPTEAL_TEXT_MAX 16777216 /* bytes of a text */
 #define RASPTEAL_BUTTONS 20       /* slots for buttons */
 #define RASPTEAL_AXES 9           /* slots for axes */
 #define RASPTEAL_IDENT_MAX 13     /* bytes of a key name */
 #define RASPTEAL_KEYS 512         /* key codes in the table of buttons */
 #define RASPTEAL_KEY_FIRST 0x10100 /* the first of them */
-#define RASPTEAL_STACK 294912     /* bytes of stack that a call takes at most */
 #define RASPTEAL_HELD_MAX 256     /* codes that a pad holds */
 #define RASPTEAL_ELEMENTS 27      /* elements that have events: buttons 1 to 19, axes 1 to 8 */
+
+/* The bytes of stack that a call takes at most: the first on an index of up to RASPTEAL_SMALL_MAX bytes, the second on a
+ * longer one. The smaller of a hub's store files has RASPTEAL_SMALL_MAX bytes of index and as many of text. */
+#define RASPTEAL_SMALL_MAX 65535
+#define RASPTEAL_STACK 393216
+#define RASPTEAL_STACK_LARGE 4718592
 
 /* ---- What crosses ---------------------------------------------------------------------------------------------- */
 
@@ -478,9 +488,16 @@ raspteal_keys raspteal_key_table(void);
  * buttons and an axis's among the axes. Refusal: 12. */
 raspteal_answer raspteal_default(const uint32_t *buttons, size_t buttons_len, const uint32_t *axes, size_t axes_len);
 
-/* ---- The store: an index and a text, at most 65535 bytes each, all 0 when fresh -----------------------------------
- * Each line takes 21 bytes of the index, an organiser's 22, and its own length of the text; a party's share takes 4
- * bytes of the index. Lend the same two buffers, of the same lengths, to each call, and let nothing else write there.
+/* ---- The store: an index of at most 1048576 bytes and a text of at most 16777216, all 0 when fresh ----------------
+ * Lend the same two buffers, of the same lengths, to each call, and let nothing else write there. A hub's store file is
+ * index and text, one behind the other: 65535 bytes each, or, of the large one, as many as can be. Zeros may be put behind
+ * the bytes of both buffers where a store becomes too small: the longer store holds the same lines and shares.
+ * A line takes its own length of the text, where the lines lie end to end in the order of their filing, and a record of
+ * the index: 21 bytes, an organiser's 22, and 2 more where it lies beyond the first 65535 bytes of the text. When lines
+ * before it close up, its record becomes short again. A share takes 4 bytes of the index, one over 65535 takes 6. Where
+ * there is no room the records are counted as they would then stand.
+ * Records start with their kind: 1 the hall's line, 2 with a long offset, 3 an organiser's, 5 with a long offset, 4 a
+ * share, 6 a share over 65535.
  * The hall and the organisers share the two. A call names its party (RASPTEAL_HALL, or {true, 7}), and files and finds
  * lines of that party alone; each may hold a line under the same UUID. Refusal of each such call, before any other and
  * with nothing changed: 24. */
@@ -502,9 +519,8 @@ raspteal_answer raspteal_store_save(uint8_t *index, size_t index_len, uint8_t *t
                                     size_t name_len, raspteal_uuid id);
 
 /* Gives a party a share of the text, in bytes; 0 takes it away. The owner byte names it, 0 is the hall. A line that
- * leaves its party within its share is never refused for text (25), whatever the others file. A share takes 4 bytes of
- * the index. Refusals, with nothing changed: 19; 26, where the sum over all parties of the larger of use and share
- * would exceed the text; 21. */
+ * leaves its party within its share is never refused for text (25), whatever the others file. Refusals, with nothing
+ * changed: 19; 26, where the sum over all parties of the larger of use and share would exceed the text; 21. */
 raspteal_refusal raspteal_store_set_share(uint8_t *index, size_t index_len, const uint8_t *text, size_t text_len,
                                           uint8_t owner, size_t bytes);
 
@@ -576,8 +592,8 @@ raspteal_pads_told raspteal_pads_change_map(raspteal_pads pads, bool second, ras
 int16_t raspteal_pads_value(raspteal_pads pads, raspteal_element e);
 
 /* ---- Refusals by number: raspteal_meaning in raspteal_numbers.h has their words ------------------------------------
- * Only the walker says 8 and 9, only clear 23; 19 is also said where a buffer has more than 65535 bytes; 15 carries its
- * code.
+ * Only the walker says 8 and 9, only clear 23: an index of more than 1048576 bytes or a text of more than 16777216; all
+ * other calls of the store say 19 of those. 15 carries its code.
  * Places: 1, 2, 7 and 9 at 0; 3, 5, 6, 8 and 11 at the pair's start; 4 there or, for a hat, further on; 10 at the end
  * of the longest run of whole characters. The others have none. */
 

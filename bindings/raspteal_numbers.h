@@ -108,7 +108,7 @@ static inline const char *raspteal_meaning(uint8_t number) {
     case 20: return "a wanted line of more than 16384 bytes";
     case 21: return "no room in the index";
     case 22: return "the name has a line end or platform:";
-    case 23: return "a buffer of more than 65535 bytes";
+    case 23: return "an index of more than 1048576 bytes, or a text of more than 16777216";
     case 24: return "an organiser's owner is 1 to 255, not 0";
     case 25: return "no room in the text, the parties' shares counted";
     case 26: return "the text is too small for that share";

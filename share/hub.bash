@@ -2,9 +2,10 @@
 _hub() {
     local word=${COMP_WORDS[COMP_CWORD]} words=
     if [ "$COMP_CWORD" -eq 1 ]; then
-        words="new insert save edit remove find show test list export check share shares clear undo lint tidy pad default demo help"
+        words="new grow insert save edit remove find show test list export check share shares clear undo lint tidy pad default demo help"
     else
         case ${COMP_WORDS[1]} in
+        new) words="large" ;;
         insert) words="only= party=" ;;
         save) words="anyway axes= buttons= party=" ;;
         edit) words="party=" ;;
@@ -16,7 +17,7 @@ _hub() {
         export) words="digits party=" ;;
         pad) words="from=" ;;
         default) words="--csv axes= buttons= layout" ;;
-        help) words="new insert save edit remove find show test list export check share shares clear undo lint tidy pad default demo help elements" ;;
+        help) words="new grow insert save edit remove find show test list export check share shares clear undo lint tidy pad default demo help elements" ;;
         esac
     fi
     mapfile -t COMPREPLY < <(compgen -W "$words" -- "$word")

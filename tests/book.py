@@ -1,14 +1,15 @@
 """Works the answers of samples_store's cases out from document 01, apart from the library, and compares them with
 those that data/ expects. A store is its two buffers; a call takes the shares and the list that they encode, goes by the
 book, and writes the encoding of what results. A line is held under its owner, 0 being the hall, and its UUID (document
-02, P9); shares are a table by owner, without those of 0 bytes (P10). The last line is 'N passed, M failed'."""
+02, P9); shares are a table by owner, without those of 0 bytes (P10); an offset or a share over 65535 has four bytes
+(P12). The last line is 'N passed, M failed'."""
 import re
 import sys
 
 BUTTONS = [None, "a", "b", "c", "y", "x", "z", "leftshoulder", "rightshoulder", "lefttrigger", "righttrigger", "back",
            "start", "guide", "leftstick", "rightstick", "dpup", "dpdown", "dpleft", "dpright"]
 AXES = [None, "leftx", "lefty", "leftz", "rightx", "righty", "rightz"]
-INDEX_MAX, TEXT_MAX, LINE_MAX, NAME_MAX, LIST_MAX = 65535, 65535, 16384, 8192, 1024
+INDEX_MAX, TEXT_MAX, LINE_MAX, NAME_MAX, LIST_MAX = 1048576, 16777216, 16384, 8192, 1024
 
 
 # ---- text
@@ -37,18 +38,34 @@ def uuid_of(field):
 
 
 # ---- the shares and the list of lines that two buffers encode
+def width(number):
+    """The bytes of an offset, or of a share."""
+    return 4 if number > 65535 else 2
+
+
+def share_record(owner, share):
+    return bytes([4 if width(share) == 2 else 6, owner]) + share.to_bytes(width(share), "big")
+
+
+def line_record(key, offset, length):
+    owner, uuid = key
+    kind = {(False, 2): 1, (False, 4): 2, (True, 2): 3, (True, 4): 5}[owner > 0, width(offset)]
+    front = bytes([kind, owner]) if owner else bytes([kind])
+    return front + uuid.to_bytes(16, "big") + offset.to_bytes(width(offset), "big") + length.to_bytes(2, "big")
+
+
 def encode(shares, held):
-    index = b"".join(b"\4" + bytes([o]) + shares[o].to_bytes(2, "big") for o in sorted(shares) if shares[o])
-    text = b""
-    for (owner, uuid), line in held:
-        index += b"\3" + bytes([owner]) if owner else b"\1"
-        index += uuid.to_bytes(16, "big") + len(text).to_bytes(2, "big") + len(line).to_bytes(2, "big")
-        text += line
-    return index, text
+    index = [share_record(o, shares[o]) for o in sorted(shares) if shares[o]]
+    text, used = [], 0
+    for key, line in held:
+        index.append(line_record(key, used, len(line)))
+        text.append(line)
+        used += len(line)
+    return b"".join(index), b"".join(text)
 
 
-def record_size(key):
-    return 22 if key[0] else 21
+def record_size(key, offset):
+    return (22 if key[0] else 21) + (2 if offset > 65535 else 0)
 
 
 def padded(s, n):
@@ -56,19 +73,21 @@ def padded(s, n):
 
 
 def decode(index, text):
-    """The shares and the list, or None where the store is not sound."""
+    """The shares and the list, or None where the store is not sound: where the encoding of what was read is other
+    bytes."""
     if len(index) > INDEX_MAX or len(text) > TEXT_MAX:
         return None
     shares, held, at, used = {}, [], 0, 0
-    while index[at:at + 1] == b"\4":
-        record = padded(index[at:at + 4], 4)
-        shares[record[1]] = int.from_bytes(record[2:], "big")
-        at += 4
-    while index[at:at + 1] in (b"\1", b"\3"):
-        size = 22 if index[at] == 3 else 21
+    while index[at:at + 1] in (b"\4", b"\6"):
+        size = {4: 4, 6: 6}[index[at]]
         record = padded(index[at:at + size], size)
-        owner, body = (record[1] if size == 22 else 0), record[size - 20:]
-        n = int.from_bytes(body[18:20], "big")
+        shares[record[1]] = int.from_bytes(record[2:], "big")
+        at += size
+    while index[at:at + 1] in (b"\1", b"\2", b"\3", b"\5"):
+        size = {1: 21, 2: 23, 3: 22, 5: 24}[index[at]]
+        record = padded(index[at:at + size], size)
+        owner, body = (record[1], record[2:]) if record[0] in (3, 5) else (0, record[1:])
+        n = int.from_bytes(body[-2:], "big")
         held.append(((owner, int.from_bytes(body[:16], "big")), text[used:used + n]))
         at, used = at + size, used + n
     i, t = encode(shares, held) if used <= len(text) else (b"", b"\1")
@@ -102,7 +121,11 @@ def claims(shares, held):
 
 
 def index_sum(shares, held):
-    return sum(4 for b in shares.values() if b) + sum(record_size(key) for key, _ in held)
+    total, offset = sum(4 if b < 65536 else 6 for b in shares.values() if b), 0
+    for key, line in held:
+        total += record_size(key, offset)
+        offset += len(line)
+    return total
 
 
 def no_room(shares, after, index_len, text_len):
@@ -113,6 +136,7 @@ def no_room(shares, after, index_len, text_len):
 
 
 def filed(held, key, line):
+    """The list as it would then stand."""
     return [h for h in held if h[0] != key] + [(key, line)]
 
 

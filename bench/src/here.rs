@@ -6,6 +6,7 @@ use harness::lent::{self, Store};
 use harness::plain::{Uuid, HALL};
 use harness::port::Reading;
 use std::hint::black_box;
+use std::rc::Rc;
 
 /// Pads by their lists of codes.
 #[derive(Clone)]
@@ -151,7 +152,7 @@ pub enum Call {
 /// Look-ups of a key that is held and of one that is not, each by its party, in several stores by turns. In stores that
 /// aren't sound, none is found.
 pub struct Look {
-    pub stores: Vec<Store>,
+    pub stores: Rc<Vec<Store>>,
     pub lists: Vec<Vec<Key>>,
     pub sound: bool,
     pub call: Call,

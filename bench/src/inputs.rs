@@ -6,6 +6,9 @@ use harness::plain::{Uuid, HALL};
 pub const BUFFER: usize = 65535;
 pub const RECORD: usize = 21;
 
+/// The least index that has the buckets and the work area of a large store.
+pub const LARGE: usize = 65536;
+
 /// A mapping list: the file's name and its text.
 pub struct List {
     pub name: String,
@@ -45,25 +48,31 @@ pub fn axes(n: u32) -> Vec<u32> {
     (0..n).map(|k| 0x30000 + k).collect()
 }
 
+/// The index that the records of lines of that length take under these keys.
+pub fn index_of(keys: &[Key], line: usize) -> usize {
+    keys.iter().enumerate().map(|(k, key)| book::record(*key, line * k)).sum()
+}
+
 /// A store with a line of that length under each key, an owner and a UUID, in buffers of those lengths.
 pub fn store(keys: &[Key], line: usize, index: usize, text: usize) -> Store {
-    let mut s = Store::fresh(index, text);
-    let mut at = 0;
+    let mut s = Store { index: Vec::with_capacity(index), text: vec![0; text] };
     for (k, key) in keys.iter().enumerate() {
-        let (off, body) = (line * k, at + book::record(*key) - 20);
-        s.index[at] = if key.0 == 0 { 1 } else { 3 };
-        if key.0 != 0 {
-            s.index[at + 1] = key.0;
-        }
-        s.index[body..body + 16].copy_from_slice(&key.1);
-        s.index[body + 16..body + 18].copy_from_slice(&(off as u16).to_be_bytes());
-        s.index[body + 18..body + 20].copy_from_slice(&(line as u16).to_be_bytes());
-        at = body + 20;
-        for (i, b) in s.text[off..off + line].iter_mut().enumerate() {
+        book::put_record(&mut s.index, *key, line * k, line);
+        for (i, b) in s.text[line * k..line * (k + 1)].iter_mut().enumerate() {
             *b = b"dpleft:h0.8,lefttrigger:b8,"[(i + k) % 27];
         }
     }
+    s.index.resize(index, 0);
     s
+}
+
+/// So many lines that a store files, of the lists in turn, each under another UUID.
+pub fn copies(lists: &[List], uuids: &[Uuid]) -> String {
+    let wanted: Vec<&str> =
+        lists.iter().flat_map(|l| l.text.lines()).filter(|l| book::wanted(l.as_bytes()).is_some()).collect();
+    let rest = |l: &str| l.find(',').map_or(String::new(), |at| l[at..].to_string());
+    let copy = |(u, l): (&Uuid, &&str)| format!("{}{}\n", oracle::simple(*u), rest(l));
+    uuids.iter().zip(wanted.iter().cycle()).map(copy).collect()
 }
 
 /// A short line that a store files under the UUID.

@@ -5,6 +5,7 @@ mod here;
 mod hold;
 mod inputs;
 mod json;
+mod large;
 mod measure;
 mod pads;
 mod passes;
@@ -14,9 +15,10 @@ mod rust;
 mod table;
 mod uuids;
 
+use harness::lent::with_room;
 use measure::{measure, How};
 use report::Report;
-use rows::{Row, ROWS};
+use rows::Row;
 use std::time::Duration;
 
 #[derive(Default)]
@@ -54,8 +56,9 @@ fn options() -> Result<Options, String> {
             _ => o.files.push(a),
         }
     }
-    match o.rows.iter().find(|name| !ROWS.iter().any(|r| r.name == *name)) {
-        Some(name) => Err(format!("no row {name}; the rows are {}", ROWS.map(|r| r.name).join(", "))),
+    let names: Vec<&str> = rows::all().iter().map(|r| r.name).collect();
+    match o.rows.iter().find(|name| !names.contains(&name.as_str())) {
+        Some(name) => Err(format!("no row {name}; the rows are {}", names.join(", "))),
         None => Ok(o),
     }
 }
@@ -81,7 +84,8 @@ fn report(o: &Options) -> Box<dyn Report> {
 /// Whether all is well.
 fn run(o: Options) -> Result<bool, String> {
     let lists = inputs::lists(&o.files)?;
-    let rows: Vec<&Row> = ROWS.iter().filter(|r| o.rows.is_empty() || o.rows.iter().any(|n| n == r.name)).collect();
+    let asked = |r: &Row| o.rows.is_empty() || o.rows.iter().any(|n| n == r.name);
+    let rows: Vec<Row> = rows::all().into_iter().filter(asked).collect();
     let mut how = match &o.callgrind {
         Some(file) => How::Instructions(callgrind::Counter { file: file.into(), dumps: 0 }),
         None => How::Time { rounds: o.rounds.max(1), budget: Duration::from_secs_f64(o.seconds / rows.len() as f64) },
@@ -95,7 +99,7 @@ fn run(o: Options) -> Result<bool, String> {
 }
 
 fn main() {
-    match options().and_then(run) {
+    match with_room(|| options().and_then(run)) {
         Ok(well) => std::process::exit(!well as i32),
         Err(message) => {
             eprintln!("{message}");

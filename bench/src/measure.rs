@@ -18,10 +18,12 @@ pub enum Side {
     Sum,
     /// A copy of both buffers.
     Copy,
+    /// The port's own call, on the same number of random UUIDs.
+    Random,
 }
 
 impl Side {
-    pub const ALL: [Side; 4] = [Side::Port, Side::Gilrs, Side::Sum, Side::Copy];
+    pub const ALL: [Side; 5] = [Side::Port, Side::Gilrs, Side::Sum, Side::Copy, Side::Random];
 
     pub fn name(self) -> &'static str {
         match self {
@@ -29,6 +31,7 @@ impl Side {
             Side::Gilrs => "gilrs",
             Side::Sum => "sum",
             Side::Copy => "memcpy",
+            Side::Random => "random",
         }
     }
 }

@@ -2,6 +2,7 @@
 use crate::measure::Work;
 use harness::lent::Store;
 use std::hint::black_box;
+use std::rc::Rc;
 
 /// The sum of the bytes in 64 bits, as the compiler makes it: rustc 1.95 adds one byte at a time, eight in a turn of
 /// the loop, and uses no vector instructions.
@@ -14,7 +15,7 @@ fn sum(bytes: &[u8]) -> u64 {
 const PASSES: usize = 8;
 
 /// Summing passes over both buffers, one store after the other.
-pub struct SumPass(pub Vec<Store>);
+pub struct SumPass(pub Rc<Vec<Store>>);
 
 impl Work for SumPass {
     fn calls(&self) -> usize {
@@ -30,12 +31,12 @@ impl Work for SumPass {
 
 /// Copies of both buffers, one store after the other.
 pub struct CopyPass {
-    from: Vec<Store>,
+    from: Rc<Vec<Store>>,
     to: Store,
 }
 
 impl CopyPass {
-    pub fn of(from: Vec<Store>) -> Self {
+    pub fn of(from: Rc<Vec<Store>>) -> Self {
         CopyPass { to: from[0].clone(), from }
     }
 }

@@ -13,6 +13,21 @@ pub fn to(c: &Costs, side: Side) -> Option<Spread> {
     Some(ratio(c.of(Side::Port)?, c.of(side)?))
 }
 
+/// The ratio that a goal is about; of several that which is the largest.
+pub fn compared(goal: Goal, c: &Costs) -> Option<Spread> {
+    match goal {
+        Goal::AtMost(_, side) => to(c, side),
+        Goal::AtMostEach(_, sides) => {
+            sides.iter().filter_map(|s| to(c, *s)).max_by(|a, b| a.median.total_cmp(&b.median))
+        }
+        Goal::Beyond(_, [side, once]) => {
+            let rest: Vec<f64> = c.of(Side::Port)?.iter().zip(c.of(once)?).map(|(x, y)| x - y).collect();
+            Some(ratio(&rest, c.of(side)?))
+        }
+        _ => None,
+    }
+}
+
 /// Families of cases, each in order of size.
 pub fn families(costs: &[Costs]) -> Vec<&[Costs]> {
     costs.chunk_by(|a, b| a.family == b.family).collect()
@@ -36,10 +51,21 @@ fn time(rounds: &[f64]) -> Option<f64> {
     (rounds.len() > 1).then(|| spread(rounds).median)
 }
 
+/// The most that a goal allows.
+fn allowed(goal: Goal) -> Option<f64> {
+    match goal {
+        Goal::AtMost(most, _) | Goal::AtMostEach(most, _) | Goal::Beyond(most, _) => Some(most),
+        Goal::Growth(most) | Goal::Nanoseconds(most) => Some(most),
+        Goal::Stated => None,
+    }
+}
+
 /// The largest ratio or time that a goal is about.
 pub fn worst(goal: Goal, costs: &[Costs]) -> Option<f64> {
     let all: Vec<f64> = match goal {
-        Goal::AtMost(_, side) => costs.iter().filter_map(|c| to(c, side)).map(|s| s.median).collect(),
+        Goal::AtMost(..) | Goal::AtMostEach(..) | Goal::Beyond(..) => {
+            costs.iter().filter_map(|c| compared(goal, c)).map(|s| s.median).collect()
+        }
         Goal::Growth(_) => families(costs).into_iter().flat_map(growths).map(|s| s.median).collect(),
         Goal::Nanoseconds(_) => costs.iter().filter_map(|c| c.of(Side::Port)).filter_map(time).collect(),
         Goal::Stated => return None,
@@ -48,8 +74,8 @@ pub fn worst(goal: Goal, costs: &[Costs]) -> Option<f64> {
 }
 
 pub fn verdict(goal: Goal, costs: &[Costs]) -> &'static str {
-    match (goal, worst(goal, costs)) {
-        (Goal::AtMost(most, _) | Goal::Growth(most) | Goal::Nanoseconds(most), Some(w)) if w > most => "missed",
+    match (allowed(goal), worst(goal, costs)) {
+        (Some(most), Some(w)) if w > most => "missed",
         (_, Some(_)) => "met",
         _ => "stated",
     }
@@ -58,6 +84,8 @@ pub fn verdict(goal: Goal, costs: &[Costs]) -> &'static str {
 pub fn goal_text(goal: Goal) -> String {
     match goal {
         Goal::AtMost(most, side) => format!("at most {most} × {}", side.name()),
+        Goal::AtMostEach(most, [a, b]) => format!("at most {most} × {} and {}", a.name(), b.name()),
+        Goal::Beyond(most, [side, once]) => format!("at most {most} × {} and once {}", side.name(), once.name()),
         Goal::Growth(most) => format!("at most {most} per doubling"),
         Goal::Nanoseconds(most) => format!("at most {most} ns"),
         Goal::Stated => "none".to_string(),

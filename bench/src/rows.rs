@@ -1,6 +1,7 @@
 //! The rows of the benchmark: what is measured against what, and the goal.
 use crate::here::{self, Call, Form, Pad};
 use crate::inputs::{self, List, BUFFER, RECORD};
+use crate::large;
 use crate::measure::{Case, Side, Work};
 use crate::pads;
 use crate::passes::{CopyPass, SumPass};
@@ -12,11 +13,16 @@ use harness::lent::Store;
 use harness::plain::{Uuid, AXIS, HALL};
 use harness::port::Reading;
 use std::collections::HashSet;
+use std::rc::Rc;
 
 #[derive(Clone, Copy)]
 pub enum Goal {
     /// At most so many times the cost of that side, in the worst case.
     AtMost(f64, Side),
+    /// At most so many times the cost of each of these sides, in the worst case.
+    AtMostEach(f64, [Side; 2]),
+    /// At most so many times the cost of the first side, and once that of the second.
+    Beyond(f64, [Side; 2]),
     /// The cases of a family stand in order of size, each twice the one before: at most so many times its cost.
     Growth(f64),
     /// At most so many nanoseconds a call, in the worst case; of counted instructions nothing is said.
@@ -33,16 +39,16 @@ pub struct Row {
     pub cases: fn(&[List]) -> Vec<Case>,
 }
 
-const fn row(name: &'static str, title: &'static str, goal: Goal, cases: fn(&[List]) -> Vec<Case>) -> Row {
+pub const fn row(name: &'static str, title: &'static str, goal: Goal, cases: fn(&[List]) -> Vec<Case>) -> Row {
     Row { name, title, goal, cases }
 }
 
 const HALF: Goal = Goal::AtMost(0.5, Side::Gilrs);
-const ORDINARY: Goal = Goal::AtMost(1.5, Side::Sum);
+pub const ORDINARY: Goal = Goal::AtMost(1.5, Side::Sum);
 const WORST: Goal = Goal::AtMost(15.0, Side::Sum);
-const LINEAR: Goal = Goal::Growth(2.2);
+pub const LINEAR: Goal = Goal::Growth(2.2);
 
-pub const ROWS: [Row; 28] = [
+const ROWS: [Row; 28] = [
     row("read", "`parse_sdl_mapping`, 32 buttons and 16 axes", HALF, read),
     row("build", "`from_data`, 25 slots", HALF, build),
     row("default", "`default`", Goal::Stated, default),
@@ -77,6 +83,12 @@ pub const ROWS: [Row; 28] = [
     row("pads-event", "`Pads::raw_event`", Goal::Nanoseconds(1200.0), |_| pads::two_events(20)),
 ];
 
+/// Every row: those on the largest stores stand beside those of the same kind of call.
+pub fn all() -> Vec<Row> {
+    let at = ROWS.iter().position(|r| r.name == "map").unwrap_or(0);
+    [&ROWS[..at], &large::ROWS, &ROWS[at..]].concat()
+}
+
 /// Records that fill an index of 65535 bytes, the hall's and organisers', and sizes for a growth.
 const FULL: usize = 3120;
 const FULL_SHARED: usize = 2978;
@@ -86,18 +98,23 @@ const AGAIN: [usize; 4] = [230, 460, 920, 1840];
 /// UUIDs that are looked up, of each kind.
 const LOOKS: usize = 512;
 
-fn case(label: String, port: impl Work + 'static, gilrs: impl Work + 'static) -> Case {
+pub fn case(label: String, port: impl Work + 'static, gilrs: impl Work + 'static) -> Case {
     Case { family: String::new(), label, works: vec![(Side::Port, Box::new(port)), (Side::Gilrs, Box::new(gilrs))] }
 }
 
 /// The case with passes over the stores beside it.
-fn with_passes(mut c: Case, stores: Vec<Store>) -> Case {
+pub fn with_passes(mut c: Case, stores: Rc<Vec<Store>>) -> Case {
     c.works.push((Side::Sum, Box::new(SumPass(stores.clone()))));
     c.works.push((Side::Copy, Box::new(CopyPass::of(stores))));
     c
 }
 
-fn pad() -> Pad {
+/// The port's side alone, of a family whose cases differ in size.
+pub fn of_size(family: &str, n: usize, port: impl Work + 'static) -> Case {
+    Case { family: family.to_string(), label: n.to_string(), works: vec![(Side::Port, Box::new(port))] }
+}
+
+pub fn pad() -> Pad {
     Pad { buttons: inputs::buttons(32), axes: inputs::axes(16) }
 }
 
@@ -112,7 +129,7 @@ fn read(lists: &[List]) -> Vec<Case> {
 }
 
 /// Every slot that has a name in a line: 19 buttons and 6 axes, at places that vary, with real names.
-fn forms(lists: &[List]) -> Vec<Form> {
+pub fn forms(lists: &[List]) -> Vec<Form> {
     let mut r = Rng::new(7);
     let (buttons, axes) = (inputs::buttons(32), inputs::axes(16));
     let lines: Vec<&str> = lists.iter().flat_map(|l| inputs::mappings(&l.text)).collect();
@@ -161,21 +178,22 @@ fn insert(lists: &[List]) -> Vec<Case> {
         let label = format!("{}, {} lines, {} bytes", l.name, text.lines().count(), text.len());
         let gilrs = rust::Insert::of("", &text);
         let port = here::Insert { before: fresh.clone(), store: fresh.clone(), text };
-        with_passes(case(label, port, gilrs), vec![fresh.clone()])
+        with_passes(case(label, port, gilrs), Rc::new(vec![fresh]))
     };
     lists.iter().map(one).collect()
 }
 
-fn text_of(uuids: &[Uuid]) -> String {
+pub fn text_of(uuids: &[Uuid]) -> String {
     uuids.iter().map(inputs::short_line).collect()
 }
 
-/// A store that holds `held` lines, with room for `more`, and an insert of `list`.
-fn filled(held: &[Uuid], list: &[Uuid], more: usize) -> Case {
+/// A store that holds `held` lines, with room for `more` and at least so much index, and an insert of `list`.
+fn filled(held: &[Uuid], list: &[Uuid], more: usize, least: usize) -> Case {
     let (before, text) = (text_of(held), text_of(list));
     let line = before.lines().next().map_or(0, str::len);
     let lines = held.len() + more;
-    let mut store = Store::fresh(RECORD * lines, line * lines);
+    let index = inputs::index_of(&uuids::hall(vec![[0; 16]; lines]), line);
+    let mut store = Store::fresh(index.max(least), line * lines);
     let (refusal, _, _) = store.insert(HALL, before.as_bytes());
     assert!(refusal.is_none(), "the store takes the lines that it holds");
     let gilrs = rust::Insert::of(&before, &text);
@@ -189,75 +207,103 @@ fn insert_held(_: &[List]) -> Vec<Case> {
         let mut r = Rng::new(8);
         let list: Vec<Uuid> =
             (0..64).map(|k| if k % 8 == 7 { new[k / 8] } else { held[(k * n / 64 + r.below(n / 64)) % n] }).collect();
-        filled(&held, &list, 8)
+        filled(&held, &list, 8, 0)
     };
     HELD.iter().map(one).collect()
 }
 
 /// The list grows with the store: the lines held in their order, and after each fifteen a new one.
-fn insert_again(_: &[List]) -> Vec<Case> {
-    let one = |n: &usize| {
-        let (held, new) = (uuids::pads(*n, 0), uuids::random(n / 16, 0));
-        let (mut list, mut next) = (Vec::new(), new.iter());
-        for (k, u) in held.iter().enumerate().take(n - n / 16) {
-            list.push(*u);
-            if k % 15 == 14 {
-                list.extend(next.next());
-            }
+pub fn held_again(n: usize, least: usize) -> Case {
+    let (held, new) = (uuids::pads(n, 0), uuids::random(n / 16, 0));
+    let (mut list, mut next) = (Vec::new(), new.iter());
+    for (k, u) in held.iter().enumerate().take(n - n / 16) {
+        list.push(*u);
+        if k % 15 == 14 {
+            list.extend(next.next());
         }
-        filled(&held, &list, n / 16)
-    };
-    AGAIN.iter().map(one).collect()
+    }
+    filled(&held, &list, n / 16, least)
+}
+
+fn insert_again(_: &[List]) -> Vec<Case> {
+    AGAIN.iter().map(|n| held_again(*n, 0)).collect()
+}
+
+/// Stores of one size: their records, the length of each line, and the lengths of the buffers.
+#[derive(Clone, Copy)]
+pub struct Size {
+    pub records: usize,
+    pub line: usize,
+    pub index: usize,
+    pub text: usize,
 }
 
 /// Look-ups in several stores in turn, as many as have the records of four full ones: in a single small store, the
 /// processor would learn the branches of a sort by heart.
-fn look(call: Call, family: &Family, n: usize, buffers: [usize; 2], label: String) -> Case {
-    let lists: Vec<Vec<Key>> = (0..4 * FULL / n).map(|seed| (family.list)(n, seed as u64)).collect();
-    let stores: Vec<Store> = lists.iter().map(|l| inputs::store(l, 21, buffers[0], buffers[1])).collect();
-    let mut r = Rng::new(10);
-    let held: Vec<Uuid> = (0..LOOKS).map(|_| r.pick(&lists[0]).1).collect();
-    let absent = uuids::random(LOOKS, 99);
-    // gilrs has one database for each party: here one with the UUIDs of all
-    let listed: Vec<Uuid> = lists[0].iter().map(|key| key.1).collect();
-    let gilrs = rust::Look::of(&text_of(&listed), &held, &absent);
-    let absent = absent.into_iter().zip(lists[0].iter().cycle()).map(|(u, key)| (key.0, u)).collect();
+pub fn looks(call: Call, family: &Family, size: Size) -> here::Look {
+    let n = size.records;
+    let lists: Vec<Vec<Key>> = (0..(4 * FULL / n).max(1)).map(|seed| (family.list)(n, seed as u64)).collect();
+    let stores: Vec<Store> = lists.iter().map(|l| inputs::store(l, size.line, size.index, size.text)).collect();
+    let absent = uuids::random(LOOKS, 99).into_iter().zip(lists[0].iter().cycle()).map(|(u, key)| (key.0, u)).collect();
     let sound = lists[0].iter().collect::<HashSet<_>>().len() == n;
-    let port = here::Look { stores: stores.clone(), lists, sound, call, absent, turn: 0, out: vec![0; 4096] };
+    here::Look { stores: Rc::new(stores), lists, sound, call, absent, turn: 0, out: vec![0; 4096] }
+}
+
+/// The same beside gilrs and plain passes.
+pub fn look(call: Call, family: &Family, size: Size, label: String) -> Case {
+    let port = looks(call, family, size);
+    let (list, stores) = (&port.lists[0], port.stores.clone());
+    let mut r = Rng::new(10);
+    let held: Vec<Uuid> = (0..LOOKS).map(|_| r.pick(list).1).collect();
+    // gilrs has one database for each party: here one with the UUIDs of all
+    let listed: Vec<Uuid> = list.iter().map(|key| key.1).collect();
+    let gilrs = rust::Look::of(&text_of(&listed), &held, &uuids::random(LOOKS, 99));
     with_passes(case(label, port, gilrs), stores)
 }
 
 /// Full stores: 3120 records, buffers of 65535 bytes.
 fn full(call: Call, families: &[Family]) -> Vec<Case> {
-    families.iter().map(|f| look(call, f, FULL, [BUFFER; 2], f.name.to_string())).collect()
+    let size = Size { records: FULL, line: 21, index: BUFFER, text: BUFFER };
+    families.iter().map(|f| look(call, f, size, f.name.to_string())).collect()
 }
 
 /// Full stores of organisers' lines: 2978 records.
 fn shared(call: Call, families: &[Family]) -> Vec<Case> {
-    families.iter().map(|f| look(call, f, FULL_SHARED, [BUFFER; 2], f.name.to_string())).collect()
+    let size = Size { records: FULL_SHARED, line: 21, index: BUFFER, text: BUFFER };
+    families.iter().map(|f| look(call, f, size, f.name.to_string())).collect()
 }
 
 /// Stores of doubling size; each one's buffers are full.
 fn growing(call: Call, families: &[Family]) -> Vec<Case> {
-    let sized = |f: &Family, n: usize| {
-        let mut c = look(call, f, n, [RECORD * n, 21 * n], n.to_string());
-        c.family = f.name.to_string();
-        c.works.truncate(1);
-        c
-    };
+    let size = |n: usize| Size { records: n, line: 21, index: RECORD * n, text: 21 * n };
+    let sized = |f: &Family, n: usize| of_size(f.name, n, looks(call, f, size(n)));
     families.iter().flat_map(|f| SIZES.iter().map(move |n| sized(f, *n))).collect()
 }
 
-fn save(lists: &[List]) -> Vec<Case> {
-    let held: Vec<Vec<Uuid>> = (0..4).map(|seed| uuids::pads(FULL, seed)).collect();
-    let stores: Vec<Store> =
-        held.iter().map(|l| inputs::store(&uuids::hall(l.clone()), 20, BUFFER, BUFFER)).collect();
+/// Saves under the UUID of the first record, in several stores in turn.
+pub fn saves(lists: &[List], family: &Family, size: Size) -> (here::Save, Rc<Vec<Store>>) {
+    let held: Vec<Vec<Key>> = (0..(4 * FULL / size.records).clamp(1, 4))
+        .map(|seed| (family.list)(size.records, seed as u64))
+        .collect();
+    let stores: Vec<Store> = held.iter().map(|l| inputs::store(l, size.line, size.index, size.text)).collect();
     let mut form = forms(lists).swap_remove(0);
-    form.uuid = held[0][0];
-    let gilrs = rust::Save::of(&text_of(&held[0]), &form, &pad());
-    let before = stores.iter().cloned().zip(held.iter().map(|l| l[0])).collect();
-    let c = case("25 slots".to_string(), here::Save::of(before, &form, &pad()), gilrs);
-    vec![with_passes(c, stores)]
+    form.uuid = held[0][0].1;
+    let before = stores.iter().cloned().zip(held.iter().map(|l| l[0].1)).collect();
+    (here::Save::of(before, &form, &pad()), Rc::new(stores))
+}
+
+/// The same beside gilrs and plain passes.
+pub fn save_beside(lists: &[List], family: &Family, size: Size, label: String) -> Case {
+    let (port, stores) = saves(lists, family, size);
+    let held: Vec<Uuid> = (family.list)(size.records, 0).into_iter().map(|key| key.1).collect();
+    let mut form = forms(lists).swap_remove(0);
+    form.uuid = held[0];
+    with_passes(case(label, port, rust::Save::of(&text_of(&held), &form, &pad())), stores)
+}
+
+fn save(lists: &[List]) -> Vec<Case> {
+    let size = Size { records: FULL, line: 20, index: BUFFER, text: BUFFER };
+    vec![save_beside(lists, &uuids::ORDINARY[0], size, "25 slots".to_string())]
 }
 
 /// A map of n codes, asked for each in mixed order and, once in eight, for a code that it lacks.

@@ -1,6 +1,6 @@
 //! The report as a table in Markdown, printed row by row.
 use crate::measure::{spread, Costs, Side, Spread};
-use crate::report::{goal_text, growths, judged, short, to, verdict, worst, Report, Tally};
+use crate::report::{compared, goal_text, growths, judged, short, to, verdict, worst, Report, Tally};
 use crate::rows::{Goal, Row};
 
 pub struct Table {
@@ -41,12 +41,15 @@ impl Table {
 
     /// A case against its yardsticks: the goal's first.
     fn compared(&self, row: &Row, c: &Costs) -> [String; 3] {
-        let yardstick = match row.goal {
-            Goal::AtMost(_, side) => side,
-            _ => Side::Gilrs,
+        let (yardstick, said) = match row.goal {
+            Goal::AtMost(_, side) => (Some(side), side.name().to_string()),
+            Goal::AtMostEach(_, [a, b]) => (None, format!("the larger of {} and {}", a.name(), b.name())),
+            Goal::Beyond(_, [side, once]) => (None, format!("{}, {} taken off", side.name(), once.name())),
+            _ => (Some(Side::Gilrs), Side::Gilrs.name().to_string()),
         };
-        let own = to(c, yardstick).map(|s| format!("{} × {}", with_quartiles(s), yardstick.name()));
-        let others = Side::ALL[1..].iter().filter(|s| **s != yardstick);
+        let ratio = compared(row.goal, c).or_else(|| to(c, Side::Gilrs));
+        let own = ratio.map(|s| format!("{} × {said}", with_quartiles(s)));
+        let others = Side::ALL[1..].iter().filter(|s| Some(**s) != yardstick);
         let others = others.filter_map(|s| Some(format!("{} × {}", short(to(c, *s)?.median), s.name())));
         [c.label.clone(), own.unwrap_or_default(), others.collect::<Vec<_>>().join(", ")]
     }

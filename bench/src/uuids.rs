@@ -30,6 +30,23 @@ pub const CONSTRUCTED: [Family; 6] = [
     Family { name: "one bucket, the last UUID twice", list: |n, seed| hall(twice(n, seed)) },
 ];
 
+/// Besides, against the buckets of an index of more than 65535 bytes.
+pub const LARGE: [Family; 4] = [
+    Family { name: "one of 65535 buckets", list: |n, seed| hall(one_of_many(n, seed)) },
+    Family { name: "long chains, far apart", list: |n, seed| hall(far_chains(n, seed)) },
+    Family { name: "long chains, far apart, one too long", list: |n, seed| hall(far_too_long(n, seed)) },
+    Family { name: "one sum, many halves", list: |n, seed| hall(one_sum(n, seed)) },
+];
+
+/// Against a search tree by the bits of a key, from the last one on.
+pub const PATHS: [Family; 1] = [Family { name: "one bucket, then ends alike", list: |n, seed| hall(ends_alike(n, seed)) }];
+
+/// Lists that name a UUID more than once, for inserts.
+pub const REPEATED: [Family; 2] = [
+    Family { name: "one bucket, each UUID twice", list: |n, seed| hall(again(&one_bucket(n / 2, seed, multiple), n)) },
+    Family { name: "one UUID over and over", list: |n, seed| hall(again(&random(1, seed), n)) },
+];
+
 /// Organisers' lines, whose records have 22 bytes.
 pub const SHARED: [Family; 2] = [
     Family { name: "each pad of 255 organisers", list: |n, seed| shared(n, &pads(n / OWNERS + 1, seed)) },
@@ -37,6 +54,9 @@ pub const SHARED: [Family; 2] = [
 ];
 
 pub const SHARED_CONSTRUCTED: [Family; 1] = [Family { name: "one bucket, 255 organisers", list: one_bucket_shared }];
+
+/// The same whatever the number of buckets.
+pub const SHARED_LARGE: [Family; 1] = [Family { name: "one sum, 255 organisers", list: one_sum_shared }];
 
 const OWNERS: usize = 255;
 
@@ -81,8 +101,12 @@ fn halves(high: u64, low: u64) -> Uuid {
 }
 
 // What the lists aim at: the store puts a key into one of 4096 buckets, (31 high + low + 7919 owner) mod 4096 with the
-// halves taken mod 65521, compares it with at most 16 of its bucket, and sorts all where a bucket has more.
+// halves taken mod 65521, compares it with at most 16 of its bucket, and sorts all where a bucket has more. Where the
+// index has more than 65535 bytes there are 65535 buckets, by the same sum. An insert compares a key with all of its
+// bucket.
 const PRIME: u64 = 65521;
+const BUCKETS: u64 = 65535;
+const OWNER: u64 = 7919;
 const CHAIN: usize = 17;
 
 /// A multiple of 65521, of any size.
@@ -99,7 +123,7 @@ fn one_bucket(n: usize, seed: u64, first: fn(&mut Rng) -> u64) -> Vec<Uuid> {
 /// All in bucket 0, whatever their owners.
 fn one_bucket_shared(n: usize, seed: u64) -> Vec<Key> {
     let mut r = Rng::new(5000 + seed);
-    let rest = |o: u8| 4095 - (7919 * o as u64 + 4095) % 4096;
+    let rest = |o: u8| 4095 - (OWNER * o as u64 + 4095) % 4096;
     (0..n).map(|k| (owner(k), halves(multiple(&mut r), multiple(&mut r) + rest(owner(k))))).collect()
 }
 
@@ -112,17 +136,76 @@ fn twice(n: usize, seed: u64) -> Vec<Uuid> {
 
 /// As many as can be in each bucket: each UUID is compared with all before it there, and nothing is sorted.
 fn long_chains(n: usize, seed: u64) -> Vec<Uuid> {
-    chains(n, n.div_ceil(CHAIN), seed, multiple)
+    chains(n, n.div_ceil(CHAIN), 1, seed, multiple)
 }
 
 /// The same, and one more in the first bucket at the end: all the comparisons, and then the sort.
 fn too_long(n: usize, seed: u64, first: fn(&mut Rng) -> u64) -> Vec<Uuid> {
-    let mut u = chains(n - 1, (n - 1).div_ceil(CHAIN), seed, first);
+    let mut u = chains(n - 1, (n - 1).div_ceil(CHAIN), 1, seed, first);
     u.push(halves(0, 0));
     u
 }
 
-fn chains(n: usize, buckets: usize, seed: u64, first: fn(&mut Rng) -> u64) -> Vec<Uuid> {
+/// Chains in so many buckets, which lie that far apart.
+fn chains(n: usize, buckets: usize, apart: u64, seed: u64, first: fn(&mut Rng) -> u64) -> Vec<Uuid> {
     let mut r = Rng::new(4000 + seed);
-    (0..n).map(|k| halves(first(&mut r), multiple(&mut r) + (k % buckets) as u64)).collect()
+    (0..n).map(|k| halves(first(&mut r), multiple(&mut r) + apart * (k % buckets) as u64)).collect()
+}
+
+/// Long chains all over 65521 of the 65535 buckets, so that each step is far from the one before.
+fn far_chains(n: usize, seed: u64) -> Vec<Uuid> {
+    let buckets = n.div_ceil(CHAIN);
+    chains(n, buckets, (PRIME - 1) / buckets as u64, seed, multiple)
+}
+
+fn far_too_long(n: usize, seed: u64) -> Vec<Uuid> {
+    let mut u = far_chains(n - 1, seed);
+    u.push(halves(0, 0));
+    u
+}
+
+/// The halves of a UUID whose sum, 31 high + low, is that number.
+fn of_sum(r: &mut Rng, sum: u64) -> Uuid {
+    let high = (sum / 31).min(PRIME - 1);
+    halves(multiple(r) + high, multiple(r) + sum - 31 * high)
+}
+
+/// All in bucket 0 of the 65535, by sums that are multiples of it; of 4096 buckets they take 32.
+fn one_of_many(n: usize, seed: u64) -> Vec<Uuid> {
+    let mut r = Rng::new(6000 + seed);
+    (0..n).map(|k| of_sum(&mut r, BUCKETS * (k % 32) as u64)).collect()
+}
+
+/// All of one sum, and so in one bucket however many there are, and no half a multiple of 65521.
+fn one_sum(n: usize, seed: u64) -> Vec<Uuid> {
+    let mut r = Rng::new(7000 + seed);
+    (0..n)
+        .map(|k| {
+            let high = 1 + (k % 2000) as u64;
+            halves(multiple(&mut r) + high, multiple(&mut r) + 65000 - 31 * high)
+        })
+        .collect()
+}
+
+/// Paths of 128 UUIDs, each of which has a bit more at its end in common with the first than the one before; and in
+/// front a bucket with one too many.
+fn ends_alike(n: usize, seed: u64) -> Vec<Uuid> {
+    let mut r = Rng::new(9000 + seed);
+    let mut list = one_bucket(n.min(CHAIN + 1), seed, multiple);
+    while list.len() < n {
+        let first = u128::from_be_bytes(halves(r.next() << 11 ^ r.next(), r.next() << 11 ^ r.next()));
+        list.extend((0..128).map(|bit| (first ^ 1 << bit).to_be_bytes()).take(n - list.len()));
+    }
+    list
+}
+
+/// All of one sum, whatever their owners.
+fn one_sum_shared(n: usize, seed: u64) -> Vec<Key> {
+    let mut r = Rng::new(8000 + seed);
+    (0..n).map(|k| (owner(k), of_sum(&mut r, OWNER * (OWNERS as u64 - owner(k) as u64)))).collect()
+}
+
+/// The list over and over, n UUIDs in all.
+fn again(uuids: &[Uuid], n: usize) -> Vec<Uuid> {
+    uuids.iter().cycle().take(n).copied().collect()
 }

@@ -17,8 +17,9 @@ static const uint32_t axes[] = {RASPTEAL_NEC_AXIS_LSTICKX, RASPTEAL_NEC_AXIS_LST
 #define BUTTONS buttons, sizeof buttons / sizeof buttons[0]
 #define AXES axes, sizeof axes / sizeof axes[0]
 
-/* The largest store. Keep the two buffers between runs, e.g. in a file; fresh ones are all 0. */
-static uint8_t index_[RASPTEAL_INDEX_MAX], text[RASPTEAL_TEXT_MAX];
+/* A store of the smaller size; RASPTEAL_INDEX_MAX and RASPTEAL_TEXT_MAX bytes are the larger one. Keep the two buffers
+ * between runs, e.g. in a file; fresh ones are all 0. */
+static uint8_t index_[RASPTEAL_SMALL_MAX], text[RASPTEAL_SMALL_MAX];
 #define STORE index_, sizeof index_, text, sizeof text
 #define HALL RASPTEAL_HALL /* the hall's own lines; a league organiser's are {true, 7}'s */
 

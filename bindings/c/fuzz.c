@@ -52,10 +52,18 @@ static uint64_t any(void) {
     return state >> 16;
 }
 
-static size_t below(size_t n) { return n == 0 ? 0 : (any() << 8 ^ any()) % n; }
+static size_t below(size_t n) {
+    uint64_t x = any() << 8 ^ any();
+    return n == 0 ? 0 : (n > 65536 ? x << 16 ^ any() << 8 ^ any() : x) % n;
+}
 
 /* Most often small, now and then up to most. */
 static size_t length(size_t most) { return below(4) == 0 ? below(most + 1) : below(most < 60 ? most + 1 : 60); }
+
+/* How many bytes there are for a buffer, before the page that nobody may touch. */
+static size_t room_of(int k) {
+    return ROOM + (k == INDEX ? RASPTEAL_INDEX_MAX : k == TEXT ? RASPTEAL_TEXT_MAX : 0);
+}
 
 /* A buffer of that length, which ends where the room ends. */
 static uint8_t *lend(int k, size_t len) {
@@ -226,7 +234,7 @@ static void build_line(void) {
 
 /* ---- the store, which stays from call to call */
 
-static uint8_t kept[2][ROOM];
+static uint8_t kept[2][ROOM + RASPTEAL_TEXT_MAX];
 #define STORE at(INDEX), lent[INDEX], at(TEXT), lent[TEXT]
 
 static void keep(void) {
@@ -257,6 +265,28 @@ static void new_store(void) {
     fill(INDEX, below(3) == 0 ? length(65600) : 21 * below(9) + below(9), 0);
     fill(TEXT, below(3) == 0 ? length(65600) : 400, 0);
 }
+
+/* A store whose next line lies about offset 65536, with few bytes of the index left: lines move to either side. Seldom one
+ * about as large as can be. */
+static void new_large_store(void) {
+    static char made[5 * (RASPTEAL_LINE_MAX + 1)];
+    bool largest = below(12) == 0;
+    size_t index = below(2) == 0 ? 65536 + below(100) : 105 + below(200);
+    fill(INDEX, largest ? RASPTEAL_INDEX_MAX - 2 + below(4) : index, 0);
+    fill(TEXT, largest ? RASPTEAL_TEXT_MAX - 2 + below(4) : 65536 + below(20000), 0);
+    char *to = made;
+    for (unsigned k = 0; k < 4; k++) {
+        size_t line = RASPTEAL_LINE_MAX - (k == 3 ? below(200) : 0);
+        memset(to, 'n', line);
+        to[sprintf(to, "%032x,", k)] = 'n';
+        to[line] = '\n';
+        to += line + 1;
+    }
+    raspteal_store_insert(STORE, RASPTEAL_HALL, (const uint8_t *)made, (size_t)(to - made));
+}
+
+/* Whether the store is so long that it is not asked 256 times. */
+static bool long_store(void) { return lent[TEXT] > 4 * RASPTEAL_SMALL_MAX; }
 
 static void insert_lines(void) {
     any_line(false);
@@ -315,6 +345,8 @@ static size_t claims(void) {
 
 /* A share is set, of the hall, of an organiser that calls, or of any party: it is told then, and 26 goes by the sum. */
 static void share_text(void) {
+    if (long_store())
+        return;
     uint8_t owner = (uint8_t)(below(4) == 0 ? below(256) : below(3));
     size_t bytes = below(6) == 0 ? 0 : below(9) == 0 ? any() * any() : length(lent[TEXT]);
     keep();
@@ -337,7 +369,7 @@ static void file_within(void) {
     static char made[80];
     size_t n = (size_t)sprintf(made, "%032x,T", (unsigned)(6 + below(3)));
     raspteal_share s = raspteal_store_share(STORE, 0);
-    bool within = s.refusal.number == 0 && s.used + n <= s.share && claims() <= lent[TEXT];
+    bool within = s.refusal.number == 0 && s.used + n <= s.share && !long_store() && claims() <= lent[TEXT];
     memcpy(lend(LINE, n), made, n);
     raspteal_inserted i = raspteal_store_insert(STORE, RASPTEAL_HALL, at(LINE), n);
     met[i.refusal.number]++;
@@ -362,12 +394,13 @@ static void (*const calls[])(void) = {read_line, walk_line, build_line, insert_l
 
 static void prepare(void) {
     for (int k = 0; k < SPACES && ends[k] == NULL; k++) {
-        uint8_t *room = mmap(NULL, ROOM + PAGE, PROT_READ | PROT_WRITE, MAP_PRIVATE | MAP_ANONYMOUS, -1, 0);
-        if (room == MAP_FAILED || mprotect(room + ROOM, PAGE, PROT_NONE) != 0) {
+        size_t len = room_of(k);
+        uint8_t *room = mmap(NULL, len + PAGE, PROT_READ | PROT_WRITE, MAP_PRIVATE | MAP_ANONYMOUS, -1, 0);
+        if (room == MAP_FAILED || mprotect(room + len, PAGE, PROT_NONE) != 0) {
             perror("memory");
             exit(1);
         }
-        ends[k] = room + ROOM;
+        ends[k] = room + len;
     }
     for (int k = 0; k < SPACES; k++)
         lend(k, 0);
@@ -376,7 +409,10 @@ static void prepare(void) {
 /* A store, and some calls. */
 static void history(void) {
     prepare();
-    new_store();
+    if (below(25) == 0)
+        new_large_store();
+    else
+        new_store();
     for (size_t n = 1 + below(30); n > 0; n--) {
         calls[below(sizeof calls / sizeof calls[0])]();
         check_marks();

@@ -41,7 +41,7 @@ def rebound(map):
 def main():
     if len(sys.argv) != 2:
         sys.exit("usage: example.py LIST")
-    # The largest store. bytes(store) are those of a hub's store file.
+    # A store of the smaller size. bytes(store) are those of a hub's store file.
     store = Store()
     insert(store, sys.argv[1])
 

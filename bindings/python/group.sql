@@ -37,24 +37,28 @@ CREATE TABLE IF NOT EXISTS raspteal.call (
     UNIQUE (store, version)
 );
 
--- Where the records of the lines start: the parties' shares stand before them, by owner, none of 0 bytes.
+-- Where the records of the lines start: the parties' shares stand before them, by owner, none of 0 bytes, and one over
+-- 65535 with four bytes.
 CREATE OR REPLACE FUNCTION raspteal.front(index bytea) RETURNS int LANGUAGE plpgsql IMMUTABLE
     SET search_path = pg_catalog, pg_temp AS $$
 DECLARE
     at int := 0;
     owner int := -1;
 BEGIN
-    WHILE at + 4 <= length(index) AND get_byte(index, at) = 4 LOOP
+    WHILE at + 4 <= length(index) AND get_byte(index, at) = 4
+        OR at + 6 <= length(index) AND get_byte(index, at) = 6 LOOP
+        -- two bytes that are not 0, or the first two of four
         IF get_byte(index, at + 1) <= owner OR get_byte(index, at + 2) + get_byte(index, at + 3) = 0 THEN
             RAISE EXCEPTION 'not a sound store';
         END IF;
         owner := get_byte(index, at + 1);
-        at := at + 4;
+        at := at + CASE get_byte(index, at) WHEN 4 THEN 4 ELSE 6 END;
     END LOOP;
     RETURN at;
 END $$;
 
--- The lines of a sound store, in their order; owner 0 is the hall. Bytes that are no sound store are an error.
+-- The lines of a sound store, in their order; owner 0 is the hall. A record has four bytes of offset where that is over
+-- 65535, and two otherwise. Bytes that are no sound store are an error.
 CREATE OR REPLACE FUNCTION raspteal.lines(index bytea, text bytea)
     RETURNS TABLE (owner int, uuid bytea, line bytea) LANGUAGE plpgsql IMMUTABLE
     SET search_path = pg_catalog, pg_temp AS $$
@@ -66,19 +70,25 @@ DECLARE
     at int := raspteal.front(i);
     used int := 0;
     body int;
+    width int;
+    starts bigint;
     size int;
 BEGIN
     WHILE sound AND at < length(i) AND get_byte(i, at) <> 0 LOOP
-        body := at + CASE get_byte(i, at) WHEN 1 THEN 1 WHEN 3 THEN 2 ELSE length(i) END;
-        sound := body + 20 <= length(i);
+        body := at + CASE get_byte(i, at) WHEN 1 THEN 1 WHEN 2 THEN 1 WHEN 3 THEN 2 WHEN 5 THEN 2 ELSE length(i) END;
+        width := CASE WHEN used > 65535 THEN 4 ELSE 2 END;
+        sound := body + 18 + width <= length(i) AND (get_byte(i, at) IN (2, 5)) = (width = 4);
         EXIT WHEN NOT sound;
         owner := CASE body - at WHEN 2 THEN get_byte(i, at + 1) ELSE 0 END;
         uuid := substr(i, body + 1, 16);
-        size := get_byte(i, body + 18) * 256 + get_byte(i, body + 19);
+        starts := get_byte(i, body + 14 + width) * 256 + get_byte(i, body + 15 + width);
+        IF width = 4 THEN
+            starts := starts + (get_byte(i, body + 16)::bigint * 256 + get_byte(i, body + 17)) * 65536;
+        END IF;
+        size := get_byte(i, body + 16 + width) * 256 + get_byte(i, body + 17 + width);
         line := substr(t, used + 1, size);
-        sound := (owner > 0 OR body - at = 1) AND get_byte(i, body + 16) * 256 + get_byte(i, body + 17) = used
-            AND size BETWEEN 1 AND 16384 AND length(line) = size;
-        at := body + 20;
+        sound := (owner > 0 OR body - at = 1) AND starts = used AND size BETWEEN 1 AND 16384 AND length(line) = size;
+        at := body + 18 + width;
         used := used + size;
         RETURN NEXT;
     END LOOP;

@@ -14,8 +14,8 @@ import uuid
 
 import psycopg2
 from group_server import Server
-from raspteal import Uuid
-from raspteal_group import LOCK, WRITE, GroupStore, Held, Link, create
+from raspteal import Store, Uuid
+from raspteal_group import LOCK, WRITE, GroupStore, Link, create
 
 BUTTONS, AXES = list(range(0x10130, 0x1013F)), list(range(0x30000, 0x30006))
 BOUND = {key: 0x10130 + n for n, key in enumerate("a b x y leftshoulder rightshoulder back start guide".split())}
@@ -79,7 +79,7 @@ def row(link, name, index, text, rounds):
     for n in range(rounds):
         began = time.monotonic()
         version, *halves = link.begin(LOCK, {"name": name})
-        held = Held(*halves).halves
+        held = Store.over(*halves).halves
         parts[0].append(time.monotonic() - began)
         line = next(lines(1, random.Random(n))).encode()
         changed = held[0], line + held[1][:-len(line)]

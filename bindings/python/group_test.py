@@ -15,8 +15,8 @@ import psycopg2
 import raspteal_group
 from group_mixed import STORE, Verdict, arguments, play
 from group_server import Server
-from raspteal import Mapping, Refused, Uuid
-from raspteal_group import GroupStore, Held, Trouble, Unknown, create
+from raspteal import INDEX_MAX, LINE_MAX, TEXT_MAX, Mapping, Refused, Store, Uuid
+from raspteal_group import GroupStore, Trouble, Unknown, create
 
 ONE, TWO = Uuid("0" * 31 + "1"), Uuid("0" * 31 + "2")
 BUTTONS, AXES = [0x10130, 0x10131], [0x30000]
@@ -105,7 +105,7 @@ class Cases(unittest.TestCase):
     def test_calls(self):
         """Each call answers as it does on a store in memory, and leaves the same bytes; a call that changes none makes
         no version."""
-        group, plain, versions = self.fresh("calls"), Held(*map(bytes, SIZES)), []
+        group, plain, versions = self.fresh("calls"), Store.over(*map(bytes, SIZES)), []
         calls = [lambda s: s.insert(f"# x\n{ONE},One,a:b0,\r\nxinput,X\n"), lambda s: s.insert(b"\xff"),
                  lambda s: s.set_share(7, 300), lambda s: s.set_share(None, 65536),
                  lambda s: s.insert(f"{{{'0' * 8}-0000-0000-0000-{'0' * 12}}},Braced", 7), lambda s: s.insert("", 0),
@@ -274,6 +274,30 @@ class Cases(unittest.TestCase):
         with self.assertRaisesRegex(psycopg2.Error, "and as no other"):
             sql("SET search_path = own, pg_catalog; " + change, index, text[:at] + b"DESK" + text[at + 4:], user=role)
         sql(change, *more(bytes(15) + b"\x09"), user=role)
+
+    def test_large(self):
+        """A store of the large size: the database takes records with long offsets and long shares apart, and none that is
+        longer or shorter than its number needs."""
+        self.assertTrue(create("large", INDEX_MAX, TEXT_MAX))
+        store, plain = GroupStore("large"), Store.large()
+        self.addCleanup(store.close)
+        lines = [f"{n:032x},{'n' * (LINE_MAX - 33)}" for n in range(4)] + [f"{9:032x},far"]
+        for s in (store, plain):
+            s.insert("\n".join(lines))
+            s.insert(f"{ONE},league", 7)
+            s.set_share(9, 65536)
+            s.set_share(10, 65535)
+        self.assertEqual(bytes(store.read()), bytes(plain))
+        self.assertEqual(store.lines(), [(0, line.encode()) for line in lines] + [(7, f"{ONE},league".encode())])
+        index, text = plain.halves
+        front, far = index[:6 + 4 + 4 * 21], index[6 + 4 + 4 * 21:][:23 + 24]
+        self.assertEqual((front[0], front[6], far[0], far[23:25]), (6, 4, 2, b"\5\7"))
+        for wrong in (b"\6\x09\0\0\xff\xff" + front[6:] + far, front[:6] + b"\4\x09" + front[8:] + far,
+                      front + b"\1" + far[1:], front + far[:17] + b"\0\1\0\1" + far[21:],
+                      front + far[:23] + b"\3\7" + far[25:], front[:10] + b"\2" + front[11:27] + b"\0\0" + front[27:] + far):
+            with self.assertRaisesRegex(psycopg2.Error, "not a sound store"):
+                sql("SELECT count(*) FROM raspteal.lines(%s, %s)", wrong.ljust(INDEX_MAX, b"\0"), text)
+        self.assertEqual(sql("SELECT count(*) FROM raspteal.lines(%s, %s)", index, text), [(6,)])
 
     def test_backup(self):
         """pg_dump while a hub files lines: the copy is the store of one moment, and hubs go on with it."""

@@ -7,18 +7,21 @@ import time
 from pathlib import Path
 
 from hub_words import Arguments, WrongUse, complain, complain_refused, pad_of, say, say_map, say_pairs, shown
-from raspteal import Mapping, Refused, Uuid
+from raspteal import INDEX_MAX, TEXT_MAX, Mapping, Refused, Uuid
 from raspteal_group import WAIT, GroupStore, Trouble, Unknown, create
 
 DONE, REFUSED, TROUBLE = 0, 1, 2
 NIL = Uuid("0" * 32)
+
+# The bytes of index and text of a hub's store files.
+FILES = (65535, 65535), (1048576, 16777216)
 
 # How long it is asked what became of a change whose answer was lost: longer than the server waits for a silent hub.
 ASKING = 40
 
 HELP = """hub-group: mapping lines of game pads, in a hall group's stores
 
-  hub-group init STORE                 makes a fresh store in the database
+  hub-group init STORE [large]         makes a fresh store in the database
   hub-group insert STORE FILE          files the lines of a list
   hub-group save STORE UUID NAME ..    builds a mapping and files it
   hub-group find STORE UUID|TEXT       prints the line held under a UUID, or those with TEXT in the name
@@ -40,9 +43,11 @@ A refusal prints 'refused NUMBER: meaning'. The exit status is 0 where all was d
 a file and where the output can't be written. Refusals and trouble go to standard error."""
 
 MANUAL = {
-    "init": """hub-group init STORE
+    "init": """hub-group init STORE [large]
   Makes a fresh store of that name, which holds no line; first the tables (schema raspteal) where
-  the database has none. A store that stands already is left alone.""",
+  the database has none. A store that stands already is left alone.
+  It has the size of a hub's store file, 65535 bytes each for index and text; a large one has
+  1048576 and 16777216.""",
     "insert": """hub-group insert STORE FILE [party=NUMBER]
   Files the lines of a list, as 'hub insert' does, for all hubs of the group at once. It stops at
   a line that is too long (20) or has no room (21, 25), says at which, and keeps the lines before
@@ -139,8 +144,10 @@ def near_line(store, pad, party):
 # ---- The commands
 
 
-def init(name):
-    if not create(name):
+def init(name, *size):
+    if size not in ((), ("large",)):
+        raise WrongUse(shown(size[0]) + b": a store is as large as a hub's, or 'large'")
+    if not create(name, *((INDEX_MAX, TEXT_MAX) if size else ())):
         complain(shown(name), ": the store stands already, and is left alone")
         return TROUBLE
     say("a fresh store: ", shown(name))
@@ -252,7 +259,10 @@ def lock_of(folder):
 
 def pull(name, path):
     """As the script hub puts a store in place: under its folder's lock, synced, by a rename."""
-    data, path = bytes(GroupStore(name).read()), os.path.realpath(path)
+    store, path = GroupStore(name).read(), os.path.realpath(path)
+    if tuple(map(len, store.halves)) not in FILES:
+        raise Trouble(f"{name}: its index and text have not the lengths of a hub's store file, large or not")
+    data = bytes(store)
     if os.path.exists(path) and not os.path.isfile(path):
         raise Trouble(f"{path}: not a regular file, so no store")
     lock = lock_of(os.path.dirname(path))
@@ -345,7 +355,7 @@ def allow(name, role, *words):
 
 
 # Each with the least and the most words behind it.
-COMMANDS = {"init": (init, 1, 1), "insert": (insert, 2, 99), "save": (save, 3, 9999), "find": (find, 2, 99),
+COMMANDS = {"init": (init, 1, 2), "insert": (insert, 2, 99), "save": (save, 3, 9999), "find": (find, 2, 99),
             "show": (show, 2, 9999), "export": (export, 1, 9), "pull": (pull, 2, 2), "share": (share, 3, 3),
             "shares": (shares, 1, 1), "clear": (clear, 1, 1), "done": (done, 2, 2), "allow": (allow, 2, 9)}
 

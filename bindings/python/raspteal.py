@@ -12,16 +12,21 @@ target/staticlib.
     map.event(0x30000, axis(1200))          # (leftx, 1200)
 
 A code is the kind times 65536 plus the number of the Linux input headers: evtest's button 304 is 0x10130. A refusal
-raises Refused. A store is two buffers; Store(data) takes a hub's store file, bytes(store) gives one back. Who changes a
-file that hubs use holds its folder's lock meanwhile, as the script hub does."""
+raises Refused. A store is two buffers; Store(data) takes a hub's store file of either size, bytes(store) gives one back.
+Who changes a file that hubs use holds its folder's lock meanwhile, as the script hub does."""
 import ctypes
 import os
 from collections import namedtuple
-from ctypes import POINTER, c_bool, c_int16, c_size_t, c_uint8, c_uint16, c_uint32, c_uint64
+from concurrent.futures import Future
+from ctypes import POINTER, c_bool, c_int16, c_size_t, c_uint8, c_uint16, c_uint32, c_uint64, c_void_p
 from pathlib import Path
 
-CODES_MAX, LINE_MAX, INDEX_MAX, TEXT_MAX, BUTTONS, AXES = 256, 16384, 65535, 65535, 20, 9
+CODES_MAX, LINE_MAX, INDEX_MAX, TEXT_MAX, BUTTONS, AXES = 256, 16384, 1048576, 16777216, 20, 9
 HELD_MAX, ELEMENTS = 256, 27
+
+# The index and the text of a hub's smaller store file have so many bytes each. A call on a longer index takes up to so
+# many bytes of the stack.
+SMALL_MAX, STACK_LARGE = 65535, 4718592
 LOWER_HALF, UPPER_HALF, FULL = 0, 1, 2
 AXIS, BUTTON, HAT = 5, 6, 7
 
@@ -48,7 +53,7 @@ MEANINGS = {
     20: "a wanted line of more than 16384 bytes",
     21: "no room in the index",
     22: "the name has a line end or platform:",
-    23: "a buffer of more than 65535 bytes",
+    23: "an index of more than 1048576 bytes, or a text of more than 16777216",
     24: "an organiser's owner is 1 to 255, not 0",
     25: "no room in the text, the parties' shares counted",
     26: "the text is too small for that share",
@@ -159,6 +164,32 @@ lib = library()
 
 def call(name, *arguments):
     return getattr(lib, "raspteal_" + name)(*arguments)
+
+
+system = ctypes.CDLL(None)
+START = ctypes.CFUNCTYPE(c_void_p, c_void_p)
+OWN_STACK = STACK_LARGE + (1 << 20)
+
+
+def on_own_stack(run):
+    """Runs a call on a thread of its own, whose stack has what a large store takes, and hands back its answer. The size
+    goes with the thread; `threading.stack_size` is one for all, which others may set at the same moment."""
+    answer, thread, attributes = Future(), c_size_t(), (c_uint64 * 8)()
+
+    def start(_):
+        try:
+            answer.set_result(run())
+        except BaseException as error:
+            answer.set_exception(error)
+
+    start = START(start)
+    system.pthread_attr_init(attributes)
+    if (system.pthread_attr_setstacksize(attributes, c_size_t(OWN_STACK))
+            or system.pthread_create(ctypes.byref(thread), attributes, start, None)):
+        raise MemoryError(f"a call on a large store takes a thread with a stack of {OWN_STACK} bytes")
+    system.pthread_attr_destroy(attributes)
+    system.pthread_join(thread, None)
+    return answer.result()
 
 
 def within(n, least, most, what):
@@ -447,30 +478,61 @@ def build(bound, buttons, axes, name, pad):
 
 
 class Store:
-    """The lines held under their UUIDs, in an index and a text. Store() is fresh and as large as can be; Store(data)
-    holds the bytes of a hub's store file: index and text, half each.
+    """The lines held under their UUIDs, in an index and a text. Store() is fresh and has 65535 bytes each, Store.large()
+    is as large as can be: 1048576 and 16777216. Store(data) holds the bytes of a hub's store file: those of the large
+    one, or index and text of half each. Store.over(index, text) has any lengths.
+
+    A call on an index of more than 65535 bytes takes some megabytes of stack, and runs on a thread of its own that has
+    them, whatever thread calls; it waits for it.
 
     The hall and the league organisers share a store, each with lines of its own. A call is the hall's, or that of the
     organiser whose owner byte `party` says, 1 to 255."""
 
-    def __init__(self, data=bytes(INDEX_MAX + TEXT_MAX)):
+    def __init__(self, data=bytes(2 * SMALL_MAX)):
         if len(data) % 2:
             raise ValueError("index and text have half the bytes each")
-        half = len(data) // 2
-        self.buffers = lent(data[:half]) + lent(data[half:])
+        start = INDEX_MAX if len(data) == INDEX_MAX + TEXT_MAX else len(data) // 2
+        self.buffers = lent(data[:start]) + lent(data[start:])
+
+    @classmethod
+    def over(cls, index, text):
+        """The store of two buffers, which are copied."""
+        store = cls(b"")
+        store.buffers = lent(index) + lent(text)
+        return store
+
+    @classmethod
+    def large(cls):
+        """A fresh store as large as can be."""
+        return cls(bytes(INDEX_MAX + TEXT_MAX))
+
+    def grown(self):
+        """The same lines and shares in a store as large as can be: zeros follow the bytes of each buffer."""
+        index, text = self.halves
+        return Store.over(index.ljust(INDEX_MAX, b"\0"), text.ljust(TEXT_MAX, b"\0"))
+
+    @property
+    def halves(self):
+        """The bytes of index and text."""
+        index, index_len, text, text_len = self.buffers
+        return bytes(index)[:index_len], bytes(text)[:text_len]
 
     def __bytes__(self):
-        index, index_len, text, text_len = self.buffers
-        return bytes(index)[:index_len] + bytes(text)[:text_len]
+        return b"".join(self.halves)
+
+    def call(self, name, *arguments):
+        if self.buffers[1] <= SMALL_MAX:
+            return call(name, *self.buffers, *arguments)
+        return on_own_stack(lambda: call(name, *self.buffers, *arguments))
 
     def clear(self):
         """Sets every byte to 0, whether the store was sound or not: no party has a line or a share then."""
-        accepted(call("store_clear", *self.buffers))
+        accepted(self.call("store_clear"))
 
     def insert(self, lines, party=None):
         """Files the lines of a list, and hands back how many were walked, and how many of them were filed with a UUID
         that is not spelled in 32 digits."""
-        done = call("store_insert", *self.buffers, who(party), *lent(lines))
+        done = self.call("store_insert", who(party), *lent(lines))
         accepted(done.refusal, done.count)
         return Inserted(done.count, done.not_simple)
 
@@ -478,23 +540,22 @@ class Store:
         """Builds a line, as `build` does, files it under the UUID, and hands back its map."""
         lists = *listed(buttons), *listed(axes)
         slots = slots_of(bound)
-        return Mapping.accepted(
-            call("store_save", *self.buffers, who(party), slots, *lists, *lent(name), uuid(*pad)))
+        return Mapping.accepted(self.call("store_save", who(party), slots, *lists, *lent(name), uuid(*pad)))
 
     def set_share(self, party, size):
         """Gives a party, None being the hall, a share of the text in bytes, which others can't fill; 0 takes it away."""
         size = within(size, 0, 2**64 - 1, "a share")
-        accepted(call("store_set_share", *self.buffers, owner_byte(party), size))
+        accepted(self.call("store_set_share", owner_byte(party), size))
 
     def share(self, party=None):
         """The share of a party, and the bytes of its lines."""
-        told = call("store_share", *self.buffers, owner_byte(party))
+        told = self.call("store_share", owner_byte(party))
         accepted(told.refusal)
         return Share(told.share, told.used)
 
     def found(self, pad, party=None):
         """Whether a line is held under the UUID."""
-        at = call("store_found", *self.buffers, who(party), uuid(*pad))
+        at = self.call("store_found", who(party), uuid(*pad))
         accepted(at.refusal)
         return at.found
 
@@ -503,17 +564,17 @@ class Store:
         if not self.found(pad, party):
             return None
         out = (c_uint8 * LINE_MAX)()
-        return bytes(out[: call("store_get", *self.buffers, who(party), uuid(*pad), out, LINE_MAX).next])
+        return bytes(out[: self.call("store_get", who(party), uuid(*pad), out, LINE_MAX).next])
 
     def get_near(self, pad, party=None):
         """The line held under the UUID, and "exact"; else the line held under it without its checksum, and "near";
         else None."""
-        at = call("store_found_near", *self.buffers, who(party), uuid(*pad))
+        at = self.call("store_found_near", who(party), uuid(*pad))
         accepted(at.refusal)
         if not at.how:
             return None
         out = (c_uint8 * LINE_MAX)()
-        line = bytes(out[: call("store_get_near", *self.buffers, who(party), uuid(*pad), out, LINE_MAX).next])
+        line = bytes(out[: self.call("store_get_near", who(party), uuid(*pad), out, LINE_MAX).next])
         return line, "exact" if at.how == 1 else "near"
 
     def mapping(self, pad, buttons=(), axes=(), party=None):

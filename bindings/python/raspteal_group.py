@@ -18,7 +18,7 @@ from pathlib import Path
 
 import psycopg2
 import psycopg2.errors
-from raspteal import INDEX_MAX, TEXT_MAX, Refused, Store, lent
+from raspteal import SMALL_MAX, Refused, Store
 
 SCHEMA = Path(__file__).with_name("group.sql")
 
@@ -44,18 +44,6 @@ class Unknown(Trouble):
     def __init__(self, call, version):
         super().__init__(f"the connection broke while version {version} was committed: it may be done or not")
         self.call, self.version = call, version
-
-
-class Held(Store):
-    """A store of two buffers that may be unlike in length."""
-
-    def __init__(self, index, text):
-        self.buffers = lent(index) + lent(text)
-
-    @property
-    def halves(self):
-        index, index_len, text, text_len = self.buffers
-        return bytes(index)[:index_len], bytes(text)[:text_len]
 
 
 # What a changing call came to: its name, the version that it made, or found where it changed no byte.
@@ -199,7 +187,7 @@ class GroupStore:
         row = self.link.begin(LOCK, {"name": self.name})
         if row is None:
             raise self.missing()
-        version, store, refused, answer = row[0], Held(*row[1:]), None, None
+        version, store, refused, answer = row[0], Store.over(*row[1:]), None, None
         before = store.halves
         try:
             answer = run(store)
@@ -261,7 +249,7 @@ class GroupStore:
         if row is None:
             raise self.missing()
         version, call, index, text = row
-        self.kept = Kept(call, version, self.kept.store if index is None else Held(index, text))
+        self.kept = Kept(call, version, self.kept.store if index is None else Store.over(index, text))
         return self.kept.store
 
     @property
@@ -293,9 +281,9 @@ class GroupStore:
         return list(zip(row[0] or [], map(bytes, row[1] or [])))
 
 
-def create(name, index_len=INDEX_MAX, text_len=TEXT_MAX, dsn=""):
-    """Makes a fresh store, as large as the library takes if nothing is said; first the schema where it is not there.
-    Whether it is new."""
+def create(name, index_len=SMALL_MAX, text_len=SMALL_MAX, dsn=""):
+    """Makes a fresh store, of the smaller size if nothing is said; first the schema where it is not there. Whether it is
+    new."""
     if not name:
         raise Trouble("the name of the store is empty")
     link = Link(dsn)

@@ -3,7 +3,7 @@ import threading
 import unittest
 
 import raspteal
-from raspteal import AXIS, BUTTON, FULL, HAT, LOWER_HALF, PRESSED, RELEASED, UPPER_HALF
+from raspteal import AXIS, BUTTON, FULL, HAT, INDEX_MAX, LINE_MAX, LOWER_HALF, PRESSED, RELEASED, TEXT_MAX, UPPER_HALF
 from raspteal import Element, Entry, Mapping, Pad, Pads, Pair, Refused, Store, Uuid, axis, build, pairs
 
 U = "0" * 32
@@ -96,7 +96,7 @@ class Cases(unittest.TestCase):
         self.assertEqual(store.get(ONE).decode(), f"{ONE},Seat 7,a:b1,leftx:a0,")
         again = Store(bytes(store))
         self.assertEqual(again.mapping(ONE, BUTTONS, AXES), saved)
-        self.assertEqual(len(bytes(store)), 131070)
+        self.assertEqual((len(bytes(store)), bytes(Store(bytes(store)))), (131070, bytes(store)))
         store.clear()
         self.assertEqual(bytes(store), bytes(131070))
 
@@ -128,7 +128,7 @@ class Cases(unittest.TestCase):
         self.refused(24, store.save, {}, [], [], "a,b", ONE, 0)
         self.refused(24, store.found, ONE, 0)
         self.refused(24, store.get_near, ONE, 0)
-        self.refused(24, Store(bytes(2 * 65536)).mapping, ONE, (), (), 0)
+        self.refused(24, Store.over(bytes(INDEX_MAX + 1), b"").mapping, ONE, (), (), 0)
         self.assertEqual(bytes(store), before)
         self.assertRaises(ValueError, store.found, ONE, 256)
         store.clear()
@@ -173,8 +173,51 @@ class Cases(unittest.TestCase):
         self.assertEqual((stopped.count, store.found(ONE)), (1, False))
         self.refused(21, Store(bytes(2 * 20)).insert, U)
         self.refused(20, Store().insert, U + "," + "n" * 16352)
-        self.refused(23, Store(bytes(2 * 65536)).clear)
+        for over in (Store.over(bytes(INDEX_MAX + 1), b""), Store.over(b"", bytes(TEXT_MAX + 1))):
+            self.refused(23, over.clear)
+            self.refused(19, over.insert, "")
+            self.refused(19, over.found, ONE)
         self.assertRaises(ValueError, Store, b"x")
+
+    def test_large(self):
+        """A file of the large size; lines on either side of offset 65536; a small store that grows."""
+        store = Store.large()
+        self.assertEqual((len(bytes(store)), [len(half) for half in store.halves]), (17825792, [INDEX_MAX, TEXT_MAX]))
+        long = [f"{Uuid('0' * 31 + str(k))},{'n' * (LINE_MAX - 33)}" for k in range(4)]
+        five = Uuid("0" * 31 + "5")
+        self.assertEqual(store.insert("\n".join([*long, f"{five},T"])), (5, 0))
+        self.assertEqual(bytes(store)[84:107], b"\2" + bytes(15) + b"\5\0\1\0\0\0\x22")
+        self.assertEqual(store.insert(long[0]), (1, 0))
+        self.assertEqual(bytes(store)[63:84], b"\1" + bytes(15) + b"\5\xc0\0\0\x22")
+        self.assertEqual(store.save({"a": 0x10131}, BUTTONS, AXES, "T", ONE, 7), store.mapping(ONE, BUTTONS, AXES, 7))
+        store.set_share(7, 65536)
+        self.assertEqual((store.share(7), bytes(store)[:6]), ((65536, 40), b"\6\7\0\1\0\0"))
+        again = Store(bytes(store))
+        self.assertEqual((again.get(five), again.get_near(five)), (f"{five},T".encode(), (f"{five},T".encode(), "exact")))
+        self.refused(23, Store.over(bytes(INDEX_MAX + 1), b"").clear)
+        store.clear()
+        self.assertEqual(bytes(store), bytes(17825792))
+        small = Store()
+        small.insert("\n".join(long[:3]))
+        self.refused(25, small.insert, long[3])
+        grown = small.grown()
+        self.assertEqual([half[:65535] for half in grown.halves], list(small.halves))
+        self.assertEqual(grown.insert(long[3]), (1, 0))
+        self.assertEqual(grown.get(ONE).decode(), long[1])
+
+    def test_own_stack(self):
+        """A large store in a thread with a small stack, eight at a time; what a call raises comes through."""
+        store, told = Store.large(), []
+        store.insert(f"{ONE},One,a:b0,")
+        before = threading.stack_size(256 << 10)
+        threads = [threading.Thread(target=lambda: told.append(store.get(ONE))) for _ in range(8)]
+        for t in threads:
+            t.start()
+        for t in threads:
+            t.join()
+        threading.stack_size(before)
+        self.assertEqual(told, [f"{ONE},One,a:b0,".encode()] * 8)
+        self.assertRaises(ZeroDivisionError, raspteal.on_own_stack, lambda: 1 // 0)
 
     def test_values(self):
         rows = {(FULL, False): (0, 16383, 16383, 16384, 32767), (FULL, True): (32767, 16383, 16383, 16382, 0),

@@ -2,7 +2,7 @@
 //! pad's code lists, turn a code into an element, and save what staff have bound.
 //!
 //!     cargo run --example hub ../example/pads.txt
-use raspteal::{Axis, AxisOrBtn, Button, Code, Error as Refusal, Mapping, MappingData, Store, Uuid, INDEX_MAX, TEXT_MAX};
+use raspteal::{Axis, AxisOrBtn, Button, Code, Error as Refusal, Mapping, MappingData, Store, Uuid};
 use std::error::Error;
 
 // What the pad's driver reports, in its order: a line's `b1` is the second button of this list.
@@ -43,8 +43,8 @@ fn bind(data: &mut MappingData, code: Code, button: Button) {
 fn main() -> Result<(), Box<dyn Error>> {
     let path = std::env::args().nth(1).ok_or("usage: hub LIST")?;
 
-    // The largest store. Keep its two buffers between runs, e.g. in a file.
-    let mut store = Store::new(INDEX_MAX, TEXT_MAX);
+    // A store of the smaller size. StoreFile keeps one between runs.
+    let mut store = Store::small();
     match store.insert(std::fs::read(path)?) {
         Ok(walked) => println!("{} lines", walked.count),
         Err(stopped) if matches!(stopped.error, Refusal::NoRoom | Refusal::NoText) => {

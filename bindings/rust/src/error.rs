@@ -88,7 +88,7 @@ pub enum Error {
     NameTooLong,
     /// 18: an output shorter than the line.
     OutputTooShort,
-    /// 19: the store is not sound, or a buffer has more than 65535 bytes.
+    /// 19: the store is not sound, or its index has more than 1048576 bytes or its text more than 16777216.
     Unsound,
     /// 20: a wanted line of more than 16384 bytes.
     LineTooLong,
@@ -96,7 +96,7 @@ pub enum Error {
     NoRoom,
     /// 22: a saved name with LF or `platform:`.
     UnsavedName,
-    /// 23: a clear of a buffer with more than 65535 bytes.
+    /// 23: a clear of an index with more than 1048576 bytes or a text with more than 16777216.
     BufferTooLarge,
     /// 24: an organiser's call with owner 0.
     NoOwner,
@@ -229,7 +229,7 @@ impl Error {
             Error::LineTooLong => "a wanted line of more than 16384 bytes",
             Error::NoRoom => "no room in the index",
             Error::UnsavedName => "the name has a line end or platform:",
-            Error::BufferTooLarge => "a buffer of more than 65535 bytes",
+            Error::BufferTooLarge => "an index of more than 1048576 bytes, or a text of more than 16777216",
             Error::NoOwner => "an organiser's owner is 1 to 255, not 0",
             Error::NoText => "no room in the text, the parties' shares counted",
             Error::ShareTooLarge => "the text is too small for that share",

@@ -2,6 +2,7 @@
 //! with the Rattle source. A slice is a pointer and a length; a struct passes by value.
 #![allow(unsafe_code, missing_docs)]
 
+pub mod lock;
 pub mod safe;
 
 pub const CODES_MAX: usize = 256;
@@ -12,8 +13,11 @@ pub const KEYS: usize = 512;
 pub const LIST_MAX: usize = 1024;
 pub const NAME_MAX: usize = 8192;
 pub const LINE_MAX: usize = 16384;
-pub const INDEX_MAX: usize = 65535;
-pub const TEXT_MAX: usize = 65535;
+pub const INDEX_MAX: usize = 1048576;
+pub const TEXT_MAX: usize = 16777216;
+pub const SMALL_MAX: usize = 65535;
+pub const STACK: usize = 393216;
+pub const STACK_LARGE: usize = 4718592;
 pub const HELD_MAX: usize = 256;
 pub const ELEMENTS: usize = 27;
 

@@ -7,7 +7,7 @@
 //! A pad is known by its [`Uuid`]. What its kernel driver reports are event [`Code`]s; a [`Mapping`] turns a code
 //! into a named element, an [`AxisOrBtn`]. A mapping is read from a line by the lists of the pad's button and axis
 //! codes. A [`Store`] holds lines under their UUIDs, the hall's and those of league organisers ([`Party`]);
-//! [`MappingData`] is what staff have bound, and a save makes a line of it.
+//! [`MappingData`] is what staff have bound, and a save makes a line of it. A [`StoreFile`] is the file of a hub's store.
 //!
 //! ```
 //! use raspteal::{AxisOrBtn, Button, Code, MappingData, Store, Uuid};
@@ -34,10 +34,12 @@ mod element;
 mod error;
 #[doc(hidden)]
 pub mod ffi;
+mod file;
 mod mapping;
 mod pad;
 mod parser;
 mod party;
+mod stack;
 mod store;
 pub mod text;
 mod uuid;
@@ -45,6 +47,7 @@ mod uuid;
 pub use data::{Built, MappingData};
 pub use element::{Axis, AxisOrBtn, Button, Code};
 pub use error::{Error, InsertError, ParseUuidError};
+pub use file::StoreFile;
 pub use mapping::{Entry, Iter, Lookup, Mapping};
 pub use pad::{Event, Events, Pad, Pads, Raw, Which};
 pub use parser::{count_tokens, first_form, AxisRange, Parser, Token};
@@ -64,15 +67,19 @@ pub const LINE_MAX: usize = ffi::LINE_MAX;
 pub const INDEX_MAX: usize = ffi::INDEX_MAX;
 /// The bytes that a text may have.
 pub const TEXT_MAX: usize = ffi::TEXT_MAX;
+/// The bytes of an index whose calls run on the caller's stack, and of both buffers of a hub's smaller store file.
+pub const SMALL_MAX: usize = ffi::SMALL_MAX;
 /// The key codes in the table of buttons.
 pub const KEYS: usize = ffi::KEYS;
 /// The first key code of the table.
 pub const KEY_FIRST: Code = Code(0x10100);
 /// The codes that a pad holds.
 pub const HELD_MAX: usize = ffi::HELD_MAX;
-/// The bytes of the index that a line of the hall takes.
+/// The bytes of the index that a line of the hall takes, within the first 65535 bytes of the text.
 pub const RECORD_LEN: usize = 21;
-/// The bytes of the index that an organiser's line takes.
+/// The bytes of the index that an organiser's line takes there.
 pub const ORGANISER_RECORD_LEN: usize = 22;
-/// The bytes of the index that a party's share takes.
+/// The bytes of the index that a party's share takes, up to 65535.
 pub const SHARE_RECORD_LEN: usize = 4;
+/// The bytes more that a line takes beyond the first 65535 bytes of the text, and a share over 65535.
+pub const LONG_LEN: usize = 2;

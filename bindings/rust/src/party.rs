@@ -1,6 +1,7 @@
 //! Who calls the store: the hall, or a league organiser.
 use crate::error::{Error, InsertError};
 use crate::ffi::{self, safe};
+use crate::stack::on_stack_for;
 use crate::{Code, Inserted, Mapping, MappingData, Match, Uuid, LINE_MAX};
 
 /// The hall, or a league organiser by its owner byte, 1 to 255.
@@ -55,9 +56,15 @@ impl<B> By<B> {
 }
 
 impl<B: AsRef<[u8]>> By<B> {
+    /// Looks something up, on the stack that the index needs.
+    fn look<T: Send>(&self, up: impl FnOnce(&[u8], &[u8], ffi::Party) -> T + Send) -> T {
+        let (index, text, party) = (self.index.as_ref(), self.text.as_ref(), self.party);
+        on_stack_for(index.len(), || up(index, text, party))
+    }
+
     /// Whether the party holds a line under a UUID. Refusals: 24, 19.
     pub fn found(&self, id: Uuid) -> Result<bool, Error> {
-        let look = safe::store_found(self.index.as_ref(), self.text.as_ref(), self.party, id.into());
+        let look = self.look(|index, text, party| safe::store_found(index, text, party, id.into()));
         Error::check(look.refusal)?;
         Ok(look.found)
     }
@@ -77,7 +84,7 @@ impl<B: AsRef<[u8]>> By<B> {
     /// the store is not sound or the party is `Organiser(0)`. `None`, and the buffer as it was, where it is shorter than
     /// the line.
     pub fn get_into(&self, id: Uuid, out: &mut [u8]) -> Option<usize> {
-        let w = safe::store_get(self.index.as_ref(), self.text.as_ref(), self.party, id.into(), out);
+        let w = self.look(|index, text, party| safe::store_get(index, text, party, id.into(), out));
         w.fits.then_some(w.next)
     }
 
@@ -97,7 +104,7 @@ impl<B: AsRef<[u8]>> By<B> {
 
     /// The same without the line.
     pub fn found_near(&self, id: Uuid) -> Result<Option<Match<()>>, Error> {
-        let look = safe::store_found_near(self.index.as_ref(), self.text.as_ref(), self.party, id.into());
+        let look = self.look(|index, text, party| safe::store_found_near(index, text, party, id.into()));
         Error::check(look.refusal)?;
         Ok(match look.how {
             1 => Some(Match::Exact(())),
@@ -108,7 +115,7 @@ impl<B: AsRef<[u8]>> By<B> {
 
     /// Copies the line that [`By::get_near`] finds to the start of a buffer, as [`By::get_into`] does.
     pub fn get_near_into(&self, id: Uuid, out: &mut [u8]) -> Option<usize> {
-        let w = safe::store_get_near(self.index.as_ref(), self.text.as_ref(), self.party, id.into(), out);
+        let w = self.look(|index, text, party| safe::store_get_near(index, text, party, id.into(), out));
         w.fits.then_some(w.next)
     }
 
@@ -126,7 +133,8 @@ impl<B: AsRef<[u8]> + AsMut<[u8]>> By<B> {
     /// Files lines, each in place of the party's one under its UUID, as [`Store::insert`](crate::Store::insert) does.
     /// Refusals: 24, with no line walked, then those there.
     pub fn insert(&mut self, lines: impl AsRef<[u8]>) -> Result<Inserted, InsertError> {
-        let inserted = safe::store_insert(self.index.as_mut(), self.text.as_mut(), self.party, lines.as_ref());
+        let (index, text, party, lines) = (self.index.as_mut(), self.text.as_mut(), self.party, lines.as_ref());
+        let inserted = on_stack_for(index.len(), || safe::store_insert(index, text, party, lines));
         let walked = Inserted { count: inserted.count, not_simple: inserted.not_simple };
         Error::check(inserted.refusal).map_err(|error| InsertError { error, walked })?;
         Ok(walked)
@@ -142,8 +150,10 @@ impl<B: AsRef<[u8]> + AsMut<[u8]>> By<B> {
         name: impl AsRef<[u8]>,
         id: Uuid,
     ) -> Result<Mapping, Error> {
-        let (index, text) = (self.index.as_mut(), self.text.as_mut());
+        let (index, text, party) = (self.index.as_mut(), self.text.as_mut(), self.party);
         let (slots, name, id) = (data.slots(), name.as_ref(), id.into());
-        Mapping::accepted(safe::store_save(index, text, self.party, slots, buttons, axes, name, id))
+        Mapping::accepted(on_stack_for(index.len(), || {
+            safe::store_save(index, text, party, slots, buttons, axes, name, id)
+        }))
     }
 }

@@ -1,10 +1,13 @@
 //! The store of lines.
 use crate::error::{Error, InsertError};
 use crate::ffi::safe;
-use crate::{By, Code, Mapping, MappingData, Party, Uuid};
+use crate::stack::on_stack_for;
+use crate::{By, Code, Mapping, MappingData, Party, Uuid, INDEX_MAX, SMALL_MAX, TEXT_MAX};
 
-/// The lines held under their UUIDs, in two buffers of at most 65535 bytes: an index, of which each line takes 21
-/// bytes, an organiser's 22 and a party's share 4, and a text. Fresh buffers are all 0.
+/// The lines held under their UUIDs, in two buffers: an index of at most 1048576 bytes and a text of at most 16777216.
+/// A line takes 21 bytes of the index, an organiser's 22, and 2 more where it lies beyond the first 65535 bytes of the
+/// text; a party's share takes 4, and 6 where it is over 65535. Fresh buffers are all 0. [`Store::small`] and
+/// [`Store::large`] have the sizes of a hub's files, which [`StoreFile`](crate::StoreFile) reads and writes.
 ///
 /// The hall and the league organisers share a store, each with lines of its own. The calls here are the hall's;
 /// [`Store::by`] and [`Store::seen_by`] make those of an organiser.
@@ -12,7 +15,11 @@ use crate::{By, Code, Mapping, MappingData, Party, Uuid};
 /// The buffers are owned (`Vec<u8>`, arrays) or lent (`&mut [u8]`); a store over `&[u8]` can only be looked up. Keep
 /// them as they are between calls, in a file or in shared memory: the store has no other state.
 ///
-/// A call takes up to 288 KB of the stack: mind it in a thread with a small one.
+/// # Stack
+///
+/// A call takes up to 384 KB of the stack: mind it in a thread with a small one. On an index of more than 65535 bytes a
+/// call takes some megabytes, which a thread of Rust has not (2 MiB): so it runs on a thread of its own with a stack of
+/// 8 MiB, and the caller waits for it. Where the system gives no such thread the call panics, and nothing was done.
 ///
 /// ```
 /// use raspteal::{Store, Uuid};
@@ -62,10 +69,40 @@ pub struct Share {
 }
 
 impl Store {
-    /// A fresh store that owns buffers of these lengths. Over 65535 bytes each of its calls is refused: 19, or 23 for
-    /// a clear.
+    /// A fresh store that owns buffers of these lengths. Over [`INDEX_MAX`] or [`TEXT_MAX`] each of its calls is
+    /// refused: 19, or 23 for a clear.
     pub fn new(index_len: usize, text_len: usize) -> Store {
         Store { index: vec![0; index_len], text: vec![0; text_len] }
+    }
+
+    /// A fresh store of the smaller size, 65535 bytes each.
+    pub fn small() -> Store {
+        Store::new(SMALL_MAX, SMALL_MAX)
+    }
+
+    /// A fresh store as large as can be.
+    pub fn large() -> Store {
+        Store::new(INDEX_MAX, TEXT_MAX)
+    }
+
+    /// The same lines and shares in a store as large as can be: zeros follow the bytes of each buffer. A larger buffer
+    /// stays as it is.
+    ///
+    /// ```
+    /// use raspteal::{Store, Uuid, INDEX_MAX};
+    ///
+    /// let mut store = Store::new(21, 100);
+    /// store.insert("00000000000000000000000000000001,Pad")?;
+    /// let mut store = store.grown();
+    /// assert_eq!(store.index().len(), INDEX_MAX);
+    /// store.insert("00000000000000000000000000000002,Pad")?;
+    /// assert!(store.found(Uuid::from_u128(1))?);
+    /// # Ok::<(), Box<dyn std::error::Error>>(())
+    /// ```
+    pub fn grown(mut self) -> Store {
+        self.index.resize(INDEX_MAX.max(self.index.len()), 0);
+        self.text.resize(TEXT_MAX.max(self.text.len()), 0);
+        self
     }
 }
 
@@ -99,7 +136,8 @@ impl<B: AsRef<[u8]>> Store<B> {
 
     /// The share and the use of the party with that owner byte, 0 being the hall. Refusal: 19.
     pub fn share(&self, owner: u8) -> Result<Share, Error> {
-        let told = safe::store_share(self.index(), self.text(), owner);
+        let (index, text) = (self.index(), self.text());
+        let told = on_stack_for(index.len(), || safe::store_share(index, text, owner));
         Error::check(told.refusal)?;
         Ok(Share { share: told.share, used: told.used })
     }
@@ -163,7 +201,8 @@ impl<B: AsRef<[u8]> + AsMut<[u8]>> Store<B> {
     /// Sets every byte of both buffers to 0, whether the store was sound or not: no party has a line or a share
     /// then. Refusal: 23.
     pub fn clear(&mut self) -> Result<(), Error> {
-        Error::check(safe::store_clear(self.index.as_mut(), self.text.as_mut()))
+        let (index, text) = (self.index.as_mut(), self.text.as_mut());
+        Error::check(on_stack_for(index.len(), || safe::store_clear(index, text)))
     }
 
     /// Gives the party with that owner byte, 0 being the hall, a share of the text in bytes; 0 takes it away. A line that
@@ -182,7 +221,8 @@ impl<B: AsRef<[u8]> + AsMut<[u8]>> Store<B> {
     /// # Ok::<(), Box<dyn std::error::Error>>(())
     /// ```
     pub fn set_share(&mut self, owner: u8, bytes: usize) -> Result<(), Error> {
-        Error::check(safe::store_set_share(self.index.as_mut(), self.text.as_ref(), owner, bytes))
+        let (index, text) = (self.index.as_mut(), self.text.as_ref());
+        Error::check(on_stack_for(index.len(), || safe::store_set_share(index, text, owner, bytes)))
     }
 
     /// Files the lines of a text that are for Linux and start with a UUID, each in place of the one under its UUID,

@@ -1,6 +1,7 @@
 //! The hall and league organisers in one store: each finds its own lines, and 24.
 use raspteal::{
-    Button, Code, Error, Inserted, MappingData, Match, Party, Store, Uuid, ORGANISER_RECORD_LEN, RECORD_LEN,
+    Button, Code, Error, Inserted, MappingData, Match, Party, Store, Uuid, INDEX_MAX, ORGANISER_RECORD_LEN,
+    RECORD_LEN,
 };
 use std::collections::HashMap;
 
@@ -66,7 +67,7 @@ fn room() {
 #[test]
 fn nobody_24() {
     let id = Uuid::from_u128(1);
-    for mut store in [Store::new(42, 100), Store::over(vec![9; 42], vec![9; 100]), Store::new(65536, 65536)] {
+    for mut store in [Store::new(42, 100), Store::over(vec![9; 42], vec![9; 100]), Store::new(INDEX_MAX + 1, 9)] {
         let before = store.clone();
         let mut nobody = store.by(Party::Organiser(0));
         let refused = nobody.insert(b"\xff").unwrap_err();

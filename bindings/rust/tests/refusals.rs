@@ -1,5 +1,5 @@
 //! Every refusal of document 01, by the example of its table: number, place, code, and that nothing was changed.
-use raspteal::{Axis, Button, Code, Error, Mapping, MappingData, Parser, Store, Uuid};
+use raspteal::{Axis, Button, Code, Error, Mapping, MappingData, Parser, Store, Uuid, INDEX_MAX, TEXT_MAX};
 
 const U: &str = "00000000000000000000000000000000";
 
@@ -154,8 +154,8 @@ fn stores_19() {
     assert_eq!(store.get_into(Uuid::NIL, &mut out), Some(0));
     assert_eq!(out, [7; 50]);
     assert_eq!(store, before);
-    expect(Store::new(65536, 10).found(Uuid::NIL).unwrap_err(), 19, None, None);
-    expect(Store::new(10, 65536).insert("").unwrap_err().error, 19, None, None);
+    expect(Store::new(INDEX_MAX + 1, 10).found(Uuid::NIL).unwrap_err(), 19, None, None);
+    expect(Store::new(10, TEXT_MAX + 1).insert("").unwrap_err().error, 19, None, None);
 }
 
 #[test]
@@ -192,11 +192,11 @@ fn names_22() {
 
 #[test]
 fn clears_23() {
-    let mut store = Store::over(vec![1; 65536], vec![1; 10]);
+    let mut store = Store::over(vec![1; INDEX_MAX + 1], vec![1; 10]);
     expect(store.clear().unwrap_err(), 23, None, None);
     assert!(store.index().iter().chain(store.text()).all(|&b| b == 1));
-    expect(Store::over(vec![1; 10], vec![1; 65536]).clear().unwrap_err(), 23, None, None);
-    assert!(Store::over(vec![1; 65535], vec![1; 65535]).clear().is_ok());
+    expect(Store::over(vec![1; 10], vec![1; TEXT_MAX + 1]).clear().unwrap_err(), 23, None, None);
+    assert!(Store::over(vec![1; INDEX_MAX], vec![1; TEXT_MAX]).clear().is_ok());
 }
 
 #[test]

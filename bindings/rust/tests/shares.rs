@@ -1,6 +1,7 @@
 //! Guaranteed shares of the text: what a filing and a setting go by, 25 and 26, and what a share is worth.
 use raspteal::{
-    Button, Code, Error, MappingData, Party, Share, Store, Uuid, ORGANISER_RECORD_LEN, RECORD_LEN, SHARE_RECORD_LEN,
+    Button, Code, Error, MappingData, Party, Share, Store, Uuid, INDEX_MAX, ORGANISER_RECORD_LEN, RECORD_LEN,
+    SHARE_RECORD_LEN, TEXT_MAX,
 };
 use std::collections::HashMap;
 
@@ -73,7 +74,9 @@ fn settings() {
         assert_eq!(store.index()[..5], [4, 7, 0, 5, 1]);
         assert_eq!((store.set_share(7, 0), &store), (Ok(()), &before));
     }
-    for mut store in [Store::over(vec![4, 3, 0, 0, 0], vec![0; 9]), Store::new(65536, 9), Store::new(9, 65536)] {
+    for mut store in
+        [Store::over(vec![4, 3, 0, 0, 0], vec![0; 9]), Store::new(INDEX_MAX + 1, 9), Store::new(9, TEXT_MAX + 1)]
+    {
         let before = store.clone();
         assert_eq!(store.set_share(3, usize::MAX), Err(Error::Unsound));
         assert_eq!((store.share(3), &store), (Err(Error::Unsound), &before));

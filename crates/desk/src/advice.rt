@@ -25,12 +25,12 @@ const ADVICE: [&[u8]; 27] = [
     b"lend the call a longer output; hub itself lends enough for every line",
     b"bring a former store back (hub undo, or a copy), or empty this one (hub clear)",
     b"shorten the line to 16384 bytes, or take it out of the list",
-    b"take lines out (hub remove), insert only the pads that the hall has (only=), or keep a second store",
+    b"make the store large (hub grow), take lines out (hub remove), or insert only the hall's own pads (only=)",
     b"choose a name without a line end and without 'platform:', which insert reads as a line's platform",
-    b"lend buffers of at most 65535 bytes; those of a store file have that",
+    b"lend shorter buffers; those of a store file, large or not, are short enough",
     b"name an organiser, party=1 to party=255, or leave party= out: then it is the hall's line",
-    b"take lines out (hub remove), lower a share (hub share), or keep a second store; see hub shares",
-    b"give less, or lower another share (hub share); hub shares says who claims what",
+    b"make the store large (hub grow), take lines out (hub remove), or lower a share (hub share); see hub shares",
+    b"give less, lower another share (hub share), or make the store large (hub grow); see hub shares",
     b"record one pad at a time: no pad has more than 256 codes",
 ];
 

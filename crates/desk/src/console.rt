@@ -3,6 +3,7 @@
 ghost use Rattle.std.specs.Prelude.{◌≤◌, length};
 
 use crate::fields::{before, first, without};
+use std::alloc::Global;
 use std::cell::Cell;
 use std::env::FillError;
 use std::fmt::Display;
@@ -54,6 +55,11 @@ impl Console {
     // The script `hub` takes a status from its descriptor.
     pub fn serve_script(&self) {
         self.scripted.set(true);
+    }
+
+    // Where files are kept while a command is at work.
+    pub fn alloc(&self) -> Global {
+        self.rt.alloc()
     }
 
     // Whether the reader of an output has gone.

@@ -1,48 +1,70 @@
-// Files that are read: a store is the index and then the text, HALF bytes each.
+// Files that are read: lists, and stores. A store is the index and then the text, in one of two sizes.
 ghost use Rattle.std.specs.Prelude.{◌≡◌, length};
 
 use crate::console::{Console, NO_ERROR, NO_TEXT, open_read};
-use crate::fields::first;
 use crate::say::{Failure, complain};
 use crate::shown::{complain_shown, fail};
 use crate::words::refused_file;
+use std::alloc::{AllocError, Global};
 use std::fs::File;
 use std::io;
 use std::io::{Error, ErrorKind, Read};
 
-pub const HALF: usize = 65535;
-
 // The most bytes of a list.
-const LIST_ROOM: usize = 1048576;
+const LIST_MAX: usize = 4194304;
 
 // The most bytes of an argument.
 pub const ARG_ROOM: usize = 16384;
 
-// The room for half a store, for a list and for an argument. The length is said, since a repeat of so many is long to
-// count.
-pub fn half() -> [u8; HALF]
-    ensures { 65535 ≡ length result }
-{
-    [0u8; HALF]
-}
-
-pub fn list_space() -> [u8; LIST_ROOM]
-    ensures { 1048576 ≡ length result }
-{
-    [0u8; LIST_ROOM]
-}
-
+// The room for an argument. The length is said, since a repeat of so many is long to count.
 pub fn arg_space() -> [u8; ARG_ROOM]
     ensures { 16384 ≡ length result }
 {
     [0u8; ARG_ROOM]
 }
 
-// What a store file holds: the index and the text.
+// The sizes of a store: the first one, and that of `hub new STORE large`.
 #[derive(Clone, Copy, PartialEq, Eq)]
+pub enum Size {
+    Small,
+    Large,
+}
+
+impl Size {
+    // The bytes of the index.
+    pub fn index(self) -> usize {
+        match self {
+            Size::Small => 65535,
+            Size::Large => 1048576,
+        }
+    }
+
+    // The bytes of the text.
+    fn text(self) -> usize {
+        match self {
+            Size::Small => 65535,
+            Size::Large => 16777216,
+        }
+    }
+
+    // The bytes of a file.
+    fn whole(self) -> usize {
+        self.index().wrapping_add(self.text())
+    }
+
+    // That of a file of so many bytes.
+    fn of_file(bytes: usize) -> Option<Size> {
+        [Size::Small, Size::Large]
+            .into_iter()
+            .find(|size| size.whole() == bytes)
+    }
+}
+
+// What a store file holds: the index and the text.
+#[derive(Clone, PartialEq, Eq, Drop)]
 pub struct StoreFile {
-    pub index: [u8; HALF],
-    pub text: [u8; HALF],
+    pub index: Vec<u8>,
+    pub text: Vec<u8>,
 }
 
 // An index and a text of any length, which stand elsewhere.
@@ -54,11 +76,38 @@ pub struct Halves<'a> {
 
 impl StoreFile {
     // A fresh one, all 0.
-    pub fn new() -> StoreFile {
-        StoreFile {
-            index: half(),
-            text: half(),
-        }
+    pub fn new(alloc: Global, size: Size) -> Result<StoreFile, AllocError> {
+        Ok(StoreFile {
+            index: vec![in alloc; 0; size.index()]?,
+            text: vec![in alloc; 0; size.text()]?,
+        })
+    }
+
+    // The store of a file's bytes; None where no store has so many.
+    fn of_bytes(alloc: Global, bytes: &[u8]) -> Result<Option<StoreFile>, AllocError> {
+        let halves = Size::of_file(bytes.len()).and_then(|size| bytes.split_at_checked(
+            size.index(),
+        ));
+        let Some((index, text)) = halves else {
+            return Ok(None);
+        };
+        Ok(Some(StoreFile {
+            index: Vec::from_slice(alloc, index)?,
+            text: Vec::from_slice(alloc, text)?,
+        }))
+    }
+
+    pub fn is_large(&self) -> bool {
+        Size::Large.index() <= self.index.len()
+    }
+
+    // The large store with the same bytes, and zeros behind them in each half. The crate store's law `grown` says that it
+    // is as sound as this one, and holds the same lines.
+    pub fn grown(&self) -> Result<StoreFile, AllocError> {
+        let mut large = self.clone()?;
+        large.index.resize(Size::Large.index(), 0)?;
+        large.text.resize(Size::Large.text(), 0)?;
+        Ok(large)
     }
 }
 
@@ -99,50 +148,32 @@ pub fn read_all(file: &mut File, space: &mut [u8]) -> io::Result<usize> {
     }
 }
 
-// How many bytes follow what was read, of one.
-fn count_more(file: &mut File) -> io::Result<usize> {
-    read_all(file, &mut [0u8; 1])
+// The first bytes of a file, one more than `most` where it has more.
+fn read_first(console: &Console, path: &[u8], most: usize) -> io::Result<Vec<u8>> {
+    let mut bytes = Vec::new(console.alloc());
+    open_read(console, path)?
+        .take(most.wrapping_add(1) as u64)
+        .read_to_end(&mut bytes)?;
+    Ok(bytes)
 }
 
-// Reads a list. What does not fit, or can't be read, is said.
-pub fn read_list<'a>(
-    console: &Console,
-    path: &[u8],
-    space: &'a mut [u8],
-) -> Result<&'a [u8], Failure> {
-    let mut file = open_read(console, path).map_err(|error| fail(console, path, error))?;
-    let n = read_all(&mut file, space).map_err(|error| fail(console, path, error))?;
-    let over = count_more(&mut file).map_err(|error| fail(console, path, error))?;
-    if 0 < over {
+// Reads a list. What is too long, or can't be read, is said.
+pub fn read_list(console: &Console, path: &[u8]) -> Result<Vec<u8>, Failure> {
+    let list = read_first(console, path, LIST_MAX).map_err(|error| fail(console, path, error))?;
+    if LIST_MAX < list.len() {
         complain_shown(console, path);
-        complain(console, b": a list may have at most 1048576 bytes\n");
+        complain(console, b": a list may have at most 4194304 bytes\n");
         return Err(Failure::Trouble);
     }
-    Ok(first(space, n))
-}
-
-// Whether so many bytes were read: else 19, or trouble.
-fn check_len(
-    console: &Console,
-    path: &[u8],
-    got: io::Result<usize>,
-    len: usize,
-) -> Result<(), Failure> {
-    let n = got.map_err(|error| fail(console, path, error))?;
-    if n != len {
-        return Err(refused_file(console, path));
-    }
-    Ok(())
+    Ok(list)
 }
 
 // Reads a store file.
 pub fn load(console: &Console, path: &[u8]) -> Result<StoreFile, Failure> {
-    let mut file = open_read(console, path).map_err(|error| fail(console, path, error))?;
-    let mut store = StoreFile::new();
-    check_len(console, path, read_all(&mut file, &mut store.index), HALF)?;
-    check_len(console, path, read_all(&mut file, &mut store.text), HALF)?;
-    check_len(console, path, count_more(&mut file), 0)?;
-    Ok(store)
+    let bytes = read_first(console, path, Size::Large.whole()).map_err(|error| fail(
+        console, path, error,
+    ))?;
+    StoreFile::of_bytes(console.alloc(), &bytes)?.ok_or_else(|| refused_file(console, path))
 }
 
 // Whether there is a file of that name, or something that can't be opened. A name that is no text names none.

@@ -6,10 +6,10 @@ use crate::shown::complain_shown;
 use crate::suggest::Near;
 
 // The commands that are suggested.
-const COMMANDS: [&[u8]; 21] = [
-    b"new", b"insert", b"save", b"edit", b"remove", b"find", b"show", b"test", b"list", b"export",
-    b"check", b"share", b"shares", b"clear", b"undo", b"lint", b"tidy", b"pad", b"default",
-    b"demo", b"help",
+const COMMANDS: [&[u8]; 22] = [
+    b"new", b"grow", b"insert", b"save", b"edit", b"remove", b"find", b"show", b"test", b"list",
+    b"export", b"check", b"share", b"shares", b"clear", b"undo", b"lint", b"tidy", b"pad",
+    b"default", b"demo", b"help",
 ];
 
 pub fn help(console: &Console) {
@@ -17,7 +17,8 @@ pub fn help(console: &Console) {
         console,
         b"hub: mapping lines of game pads, in a hall's store file
 
-  hub new STORE                  makes a fresh store file
+  hub new STORE [large]          makes a fresh store file
+  hub grow STORE                 makes a store file large, with the lines that it holds
   hub insert STORE FILE          files the lines of a list
   hub save STORE UUID NAME ..    builds a mapping and files it
   hub edit STORE UUID PAIR ..    changes pairs of the line held under a UUID

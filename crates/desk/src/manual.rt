@@ -1,21 +1,29 @@
 // What `hub help COMMAND` says.
 use crate::manual_pads::PAD;
 
-const NEW: &[u8] = b"hub new STORE
-  Makes a fresh store file, which holds no line: 131070 bytes, all 0.
-  A file that stands already is left alone.
+const NEW: &[u8] = b"hub new STORE [large]
+  Makes a fresh store file, which holds no line: 131070 bytes, all 0, with 65535 of them for the
+  text of the lines. With 'large' it has 17825792 bytes, 16777216 of them for the text.
+  A file that stands already is left alone; 'hub grow STORE' makes it large.
+";
+
+const GROW: &[u8] = b"hub grow STORE
+  Makes a large store of a store file, 17825792 bytes in the place of 131070, with all its lines
+  and shares: room for 14 times as many lines, and for 256 times as much text. Says what it holds
+  and which room is left. A store that is large already is left alone, and so is one that is not
+  sound (19). 'hub undo STORE' takes it back.
 ";
 
 const INSERT: &[u8] = b"hub insert STORE FILE [only=TEXT] [party=NUMBER]
-  Files the lines of a list of at most 1048576 bytes; lines end at LF or CR LF. A line is
+  Files the lines of a list of at most 4194304 bytes; lines end at LF or CR LF. A line is
   filed when its first field is a UUID, and its 'platform:', if any, says Linux. It takes the
   place of a line that is held under the same UUID. Says how many lines were filed, how many of
   them in place of another, how many can't be read (hub lint says why), and which were passed
   over: empty lines, comments, other platforms, first fields that are no UUID; and how many were
   filed whose UUID is not spelled in 32 digits, the one form that consoles read. It stops at a
-  line that is too long (20) or has no room (21 in the index, 25 in the text), says at which, and
-  keeps the lines before it. A list that is not UTF-8 (10) files nothing. 'hub undo STORE' takes
-  an insert back.
+  line that is too long (20) or has no room (21 in the index, 25 in the text; 'hub grow STORE'
+  makes more), says at which, and keeps the lines before it. A list that is not UTF-8 (10) files
+  nothing. 'hub undo STORE' takes an insert back.
   only=TEXT files of the list only the lines with TEXT in the name or in the UUID, capital letters
   or not, and those under the UUID that TEXT is; the lines said are those of them. only=pads files
   those of the pads that are plugged in ('hub help pad').
@@ -35,16 +43,16 @@ const EDIT: &[u8] = b"hub edit STORE UUID KEY:VALUE .. [party=NUMBER]
 ";
 
 const REMOVE: &[u8] = b"hub remove STORE UUID [party=NUMBER]
-  Takes the line held under that UUID out of the store: the parties' shares are set and the other
-  lines filed anew, each by its party and in its order, and compared with what they were. Where
-  they would not be the same, nothing is changed, and it says why. 'hub undo STORE' brings the line
-  back.
+  Takes the line held under that UUID out of the store: the shares and the other lines are written
+  down anew, in their order, and the new store is looked at. Where it would not be sound, or a
+  share or a line not what it was, nothing is changed, and it says so. 'hub undo STORE' brings the
+  line back.
 ";
 
 const CLEAR: &[u8] = b"hub clear STORE
   Empties the store, the hall's lines and the organisers', and drops the shares, whether it was
-  sound or not. A file that has not the 131070 bytes of a store file is left alone. 'hub undo
-  STORE' brings all back.
+  sound or not. A large store stays large. A file that has not the 131070 or the 17825792 bytes of
+  a store file is left alone. 'hub undo STORE' brings all back.
 ";
 
 const UNDO: &[u8] = b"hub undo STORE
@@ -67,7 +75,8 @@ const LIST: &[u8] = b"hub list STORE [long]
   Prints a row for each line held, its UUID in 32 digits and its name, in the order of the names,
   and the room left, beside the parties' shares where any is set. 'long' prints the lines whole, in
   the order in which they were filed. A line of a league organiser has its party before it, as
-  'party 7: '.
+  'party 7: '. Of a large store the room is said as lines take it that start behind the first 65535
+  bytes of the text: such a line takes 2 bytes more of the index.
 ";
 
 const EXPORT: &[u8] = b"hub export STORE [digits] [party=NUMBER]
@@ -87,9 +96,9 @@ const SHARE: &[u8] = b"hub share STORE PARTY BYTES
   organiser's number from 1 to 255. A line that leaves its party within its share is never
   turned away for want of text, however full the others made it. What counts is the sum over
   all parties of the larger of use and share: a line that would bring it over the text is
-  refused (25), and so is a share (26). A share takes 4 bytes of the index (21 where they are not
-  there). BYTES 0 takes the share away. It may be below what the party uses; its lines stay.
-  'hub undo STORE' takes it back.
+  refused (25), and so is a share (26). A share takes 4 bytes of the index, one over 65535 takes
+  6 (21 where they are not there). BYTES 0 takes the share away. It may be below what the party
+  uses; its lines stay. 'hub undo STORE' takes it back.
 ";
 
 const SHARES: &[u8] = b"hub shares STORE
@@ -180,7 +189,7 @@ hub default layout [--csv]
 ";
 
 const LINT: &[u8] = b"hub lint FILE
-  Reads every line of a list of at most 1048576 bytes, and shows each refused one, up to 1000,
+  Reads every line of a list of at most 4194304 bytes, and shows each refused one, up to 1000,
   with its number, its meaning and a mark under the place, which counts bytes from 0. UUID, name
   and the refused pair are shown; two dots stand where the line is cut, one dot for each byte
   that is no printable ASCII. Names the lines that an insert files whose UUID is not spelled in
@@ -189,7 +198,7 @@ const LINT: &[u8] = b"hub lint FILE
 ";
 
 const TIDY: &[u8] = b"hub tidy FILE
-  Prints a list of at most 1048576 bytes with the pairs of each line by hand side: the left stick,
+  Prints a list of at most 4194304 bytes with the pairs of each line by hand side: the left stick,
   shoulder, trigger and the directions; then the right ones, with a, b, c, x, y and z; then the
   rest. FILE itself is not changed. A line gives the same map as before, for every pad whose lists
   have no code twice and none of a hat (10220 to 10223, 30010, 30011). Left alone are comments,
@@ -214,6 +223,7 @@ hub help NUMBER
 pub fn page(command: &[u8]) -> Option<&'static [u8]> {
     match command {
         b"new" => Some(NEW),
+        b"grow" => Some(GROW),
         b"insert" => Some(INSERT),
         b"edit" => Some(EDIT),
         b"remove" => Some(REMOVE),

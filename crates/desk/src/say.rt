@@ -1,15 +1,23 @@
 // What is printed: answers on standard output; refusals, `none`, `near` and trouble on standard error.
 use crate::console::{Console, print, write};
 pub use crate::console::{ERR, OUT, STATUS};
+use std::alloc::AllocError;
 use std::fmt::Display;
 use text::uuid::Uuid;
 
-// Why a command, or a step of one, was not done: it was refused, or found nothing; or wrong use, or trouble with a file.
-// The greater is the worse.
+// Why a command, or a step of one, was not done: it was refused, or found nothing; or wrong use, or trouble with a file;
+// or too little memory, which is said where the program ends, the others where they come up. The greater is the worse.
 #[derive(Clone, Copy, PartialEq, Eq, PartialOrd, Ord)]
 pub enum Failure {
     Refused,
     Trouble,
+    NoMemory,
+}
+
+impl From<AllocError> for Failure {
+    fn from(_error: AllocError) -> Failure {
+        Failure::NoMemory
+    }
 }
 
 // The program's exit status.
@@ -17,7 +25,7 @@ pub fn exit_status(done: Result<(), Failure>) -> u8 {
     match done {
         Ok(()) => 0,
         Err(Failure::Refused) => 1,
-        Err(Failure::Trouble) => 2,
+        Err(Failure::Trouble | Failure::NoMemory) => 2,
     }
 }
 
@@ -74,4 +82,11 @@ pub fn say_count(console: &Console, n: usize, words: &[u8]) {
 
 pub fn complain(console: &Console, text: &[u8]) {
     put(console, ERR, text);
+}
+
+// Says that there was too little memory for a command.
+pub fn complain_memory(console: &Console, done: Result<(), Failure>) {
+    if done == Err(Failure::NoMemory) {
+        complain(console, b"there is not enough memory for this\n");
+    }
 }

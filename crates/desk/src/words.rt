@@ -30,7 +30,7 @@ const MEANINGS: [&[u8]; 27] = [
     b"a wanted line of more than 16384 bytes",
     b"no room in the index",
     b"the name has a line end or platform:",
-    b"a buffer of more than 65535 bytes",
+    b"an index of more than 1048576 bytes, or a text of more than 16777216",
     b"an organiser's owner is 1 to 255, not 0",
     b"no room in the text, the parties' shares counted",
     b"the text is too small for that share",
@@ -86,7 +86,7 @@ pub fn refused_file(console: &Console, path: &[u8]) -> Failure {
     complain_shown(console, path);
     complain(
         console,
-        b" has not the 131070 bytes of a store file, and is left alone)\n",
+        b" has not the 131070 or the 17825792 bytes of a store file, and is left alone)\n",
     );
     Failure::Refused
 }

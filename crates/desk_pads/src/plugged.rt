@@ -7,7 +7,7 @@ use crate::devices::{
 use desk::codes::{Codes, put_codes};
 use desk::console::Console;
 use desk::fields::{after, before};
-use desk::files::{list_space, read_list};
+use desk::files::read_list;
 use desk::say::{Failure, OUT, complain, put_uuid, put_value, say};
 use desk::shown::{complain_shown, say_shown};
 use std::array;
@@ -77,23 +77,18 @@ fn say_pads(console: &Console, list: &[u8]) -> Result<(), Failure> {
 }
 
 // Reads the list of devices: a copy where one is named, else the machine's own.
-fn read_devices<'a>(
-    console: &Console,
-    copy: &[u8],
-    space: &'a mut [u8],
-) -> Result<&'a [u8], Failure> {
+fn read_devices(console: &Console, copy: &[u8]) -> Result<Vec<u8>, Failure> {
     let path = if copy.is_empty() {
         b"/proc/bus/input/devices".as_slice()
     } else {
         copy
     };
-    read_list(console, path, space)
+    read_list(console, path)
 }
 
 // `hub pad`, `hub pad from=FILE`
 pub fn list_pads(console: &Console, copy: &[u8]) -> Result<(), Failure> {
-    let mut space = list_space();
-    say_pads(console, read_devices(console, copy, &mut space)?)
+    say_pads(console, &read_devices(console, copy)?)
 }
 
 // The GUIDs of the first pads, as many as there are.
@@ -119,8 +114,7 @@ impl Guids {
 
 // The GUIDs of the pads that are plugged in, or of those in a copy.
 pub fn plugged_guids(console: &Console, copy: &[u8]) -> Result<Guids, Failure> {
-    let mut space = list_space();
-    Ok(Guids::of_devices(read_devices(console, copy, &mut space)?))
+    Ok(Guids::of_devices(&read_devices(console, copy)?))
 }
 
 // Whether an argument names a pad, as `pad:1`.
@@ -145,9 +139,8 @@ pub fn pad_named(console: &Console, arg: &[u8]) -> Result<Plugged, Failure> {
         );
         return Err(Failure::Trouble);
     };
-    let mut space = list_space();
-    let list = read_devices(console, after(rest, b':'), &mut space)?;
-    let Some(device) = pad_device(list, usize::from(n)) else {
+    let list = read_devices(console, after(rest, b':'))?;
+    let Some(device) = pad_device(&list, usize::from(n)) else {
         complain_shown(console, arg);
         complain(console, b": there is no such pad; hub pad lists them\n");
         return Err(Failure::Refused);

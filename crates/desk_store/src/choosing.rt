@@ -1,12 +1,11 @@
 // Which lines of a list an insert with `only=TEXT` is about.
 use crate::records::{name_of, uuid_of};
-use arrayvec::ArrayVec;
 use desk::console::Console;
 use desk::fields::{after, bare, before};
-use desk::files::HALF;
 use desk::matching::has_part;
 use desk::say::Failure;
 use desk_pads::plugged::{Guids, plugged_guids};
+use std::alloc::{AllocError, Global};
 use text::uuid::Uuid;
 
 // What `only=` asks for: a text, or with `pads` the pads that are plugged in.
@@ -43,15 +42,15 @@ impl<'a> Choice<'a> {
         }
     }
 
-    // The lines of a list that are chosen, with their ends; None where they are more bytes than a store holds.
-    pub fn lines_of(&self, list: &[u8]) -> Option<ArrayVec<u8, HALF>> {
-        let mut kept = ArrayVec::new();
+    // The lines of a list that are chosen, with their ends.
+    pub fn lines_of(&self, alloc: Global, list: &[u8]) -> Result<Vec<u8>, AllocError> {
+        let mut kept = Vec::new(alloc);
         for line in list.split_inclusive(|b| *b == b'\n') {
             if self.takes(bare(line)) {
-                kept.try_extend_from_slice(line).ok()?;
+                kept.extend_from_slice(line)?;
             }
         }
-        Some(kept)
+        Ok(kept)
     }
 }
 

@@ -4,7 +4,7 @@ use crate::records::{LineKey, View};
 use crate::reports::Report;
 use crate::saving::say_saved;
 use desk::console::Console;
-use desk::files::StoreFile;
+use desk::files::{Size, StoreFile};
 use desk::say::{Failure, say};
 use desk_pads::table::say_reading;
 use line::ev::{Axis, Button, Code};
@@ -68,7 +68,7 @@ fn save_pad(console: &Console, file: &mut StoreFile) {
 
 // `hub demo`
 pub fn demo(console: &Console) -> Result<(), Failure> {
-    let mut file = StoreFile::new();
+    let mut file = StoreFile::new(console.alloc(), Size::Small)?;
     say(console, b"1. hub new STORE: a fresh store\n\n");
     say_sound(console, View::from(&file))?;
     say(

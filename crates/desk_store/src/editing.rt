@@ -186,7 +186,7 @@ fn edit_held(console: &Console, target: Target, key: LineKey, from: usize) -> Re
     let held = store.line(key);
     let made = new_line(console, held, from).map_err(|failure| unchanged(console, failure))?;
     let line = made.as_slice();
-    let mut file = former;
+    let mut file = former.clone()?;
     file_line(console, &mut file, key, line).map_err(|failure| unchanged(console, failure))?;
     target.replace(console, &former, &file)?;
     say_edited(console, held, line);

@@ -59,7 +59,7 @@ pub fn export_store(console: &Console, path: &[u8], from: usize) -> Result<(), F
     let store = View::from(&file);
     sound(console, store, party)?;
     for record in store.records() {
-        if let Some(line) = record.line {
+        if let Some(line) = record.line() {
             if record.owner == owner_of(party) {
                 say_exported(console, line, digits);
             }

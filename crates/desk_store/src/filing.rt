@@ -1,28 +1,55 @@
-// The commands that change a whole store: new, clear, undo.
-use crate::holding::say_sound;
+// The commands that change a whole store: new, grow, clear, undo.
+use crate::holding::{say_extent, say_sound, sound};
 use crate::records::View;
 use crate::targets::Target;
 use desk::changing::load_old;
 use desk::console::Console;
-use desk::files::{StoreFile, stands};
+use desk::files::{Size, StoreFile, stands};
 use desk::say::{Failure, complain, say};
 use desk::shown::{complain_shown, say_shown};
 use desk_pads::refusals::refused_outcome;
 use store::calls::clear;
+use store::parties::Party;
 use store::refusal::store_outcome;
 
-// `hub new STORE`
-pub fn new_store(console: &Console, target: Target) -> Result<(), Failure> {
+// `hub new STORE`, `hub new STORE large`
+pub fn new_store(console: &Console, target: Target, size: Size) -> Result<(), Failure> {
     target.may_change(console)?;
     if stands(console, target.path) {
         complain_shown(console, target.path);
         complain(console, b": the file stands already, and is left alone\n");
         return Err(Failure::Trouble);
     }
-    target.place(console, &StoreFile::new())?;
-    say(console, b"a fresh store: ");
+    target.place(console, &StoreFile::new(console.alloc(), size)?)?;
+    say(
+        console,
+        match size {
+            Size::Small => b"a fresh store: ".as_slice(),
+            Size::Large => b"a fresh large store: ",
+        },
+    );
     say_shown(console, target.path);
     say(console, b"\n");
+    Ok(())
+}
+
+// `hub grow STORE`
+pub fn grow_store(console: &Console, target: Target) -> Result<(), Failure> {
+    target.may_change(console)?;
+    let former = target.load(console)?;
+    if former.is_large() {
+        complain_shown(console, target.path);
+        complain(
+            console,
+            b": the store is large already, and is left alone\n",
+        );
+        return Err(Failure::Trouble);
+    }
+    sound(console, View::from(&former), Party::Hall)?;
+    let file = former.grown()?;
+    target.replace(console, &former, &file)?;
+    say(console, b"grown: ");
+    say_extent(console, View::from(&file));
     Ok(())
 }
 
@@ -30,7 +57,7 @@ pub fn new_store(console: &Console, target: Target) -> Result<(), Failure> {
 pub fn clear_store(console: &Console, target: Target) -> Result<(), Failure> {
     target.may_change(console)?;
     let former = target.load(console)?;
-    let mut file = former;
+    let mut file = former.clone()?;
     let answer = clear(&mut file.index, &mut file.text);
     refused_outcome(console, store_outcome(answer))?;
     target.replace(console, &former, &file)?;

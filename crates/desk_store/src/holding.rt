@@ -1,11 +1,11 @@
 // The commands that look into a store: find, list, check.
 use crate::names::{say_named, say_owner, say_rows};
-use crate::parties::{Caller, OWNED_RECORD, RECORD};
+use crate::parties::Caller;
 use crate::records::{LineKey, Record, View};
-use crate::shares::{claims_in, put_sum};
+use crate::shares::{Ledger, put_sum};
 use crate::wrong::complain_about;
 use desk::console::Console;
-use desk::files::{HALF, load};
+use desk::files::load;
 use desk::help::wrong_use;
 use desk::near::complain_near;
 use desk::say::{Failure, OUT, say, say_number};
@@ -26,13 +26,6 @@ struct Extent {
     owned: usize,
     bytes: usize,
     records: usize,
-}
-
-// The lines held, and the room left in the index.
-#[derive(Clone, Copy)]
-pub struct Room {
-    pub held: usize,
-    pub index: usize,
 }
 
 // The line that a party holds under a UUID, or else under that without its checksum. What is not exact is said, of the
@@ -102,7 +95,7 @@ pub fn find_line(console: &Console, path: &[u8], key: &[u8], from: usize) -> Res
 
 // A line, after its party where that is an organiser.
 fn say_record(console: &Console, record: Record) {
-    let Some(line) = record.line else {
+    let Some(line) = record.line() else {
         return;
     };
     say_owner(console, record.owner);
@@ -121,8 +114,8 @@ impl Extent {
 
     // One more record.
     fn count(&mut self, record: Record) {
-        self.records = self.records.wrapping_add(record.size);
-        let Some(line) = record.line else {
+        self.records = self.records.wrapping_add(record.bytes.len());
+        let Some(line) = record.line() else {
             count_one(&mut self.shares);
             return;
         };
@@ -133,27 +126,25 @@ impl Extent {
         self.bytes = self.bytes.wrapping_add(line.len());
     }
 
-    fn room(self) -> Room {
-        Room {
-            held: self.lines,
-            index: HALF.saturating_sub(self.records),
-        }
+    // The bytes that are left in the index.
+    fn room(self, store: View) -> usize {
+        store.index.len().saturating_sub(self.records)
     }
 
     // The room for lines: the hall's, and an organiser's where one holds any.
-    fn say_line_room(self, console: &Console) {
-        let room = self.room();
-        say_number(console, room.index / RECORD);
+    fn say_line_room(self, console: &Console, store: View) {
+        let room = self.room(store);
+        say_number(console, store.lines_in(room, Party::Hall));
         say(console, b" more lines");
         if self.owned != 0 {
             say(console, b" of the hall or ");
-            say_number(console, room.index / OWNED_RECORD);
+            say_number(console, store.lines_in(room, Party::Organiser(1)));
             say(console, b" of an organiser");
         }
     }
 
     // The lines held and the room left, of the text that many bytes.
-    fn say_held(self, console: &Console, left: usize) {
+    fn say_held(self, console: &Console, store: View, left: usize) {
         say_number(console, self.lines);
         say(console, b" lines held, ");
         if self.owned != 0 {
@@ -163,30 +154,36 @@ impl Extent {
         say(console, b"of ");
         say_number(console, self.bytes);
         say(console, b" bytes; room for ");
-        self.say_line_room(console);
+        self.say_line_room(console, store);
         say(console, b" and ");
         say_number(console, left);
         say(console, b" more bytes");
     }
 }
 
-// The room of a sound store.
-pub fn room_in(store: View) -> Room {
-    Extent::of(store).room()
+// How many lines a sound store holds.
+pub fn lines_held(store: View) -> usize {
+    Extent::of(store).lines
+}
+
+// How many more lines of a party the index of a sound store has room for.
+pub fn line_room(store: View, party: Party) -> usize {
+    store.lines_in(Extent::of(store).room(store), party)
 }
 
 // What is held and what room is left, and where a share is set what the parties claim.
-fn say_extent(console: &Console, store: View) {
+pub(crate) fn say_extent(console: &Console, store: View) {
     let held = Extent::of(store);
     if held.shares == 0 {
-        held.say_held(console, HALF.saturating_sub(held.bytes));
+        let left = store.text.len().saturating_sub(held.bytes);
+        held.say_held(console, store, left);
         say(console, b"\n");
         return;
     }
-    let claims = claims_in(store);
-    held.say_held(console, HALF.saturating_sub(claims.bytes));
+    let ledger = Ledger::of(store);
+    held.say_held(console, store, ledger.left());
     say(console, b" beside the parties' shares\n");
-    put_sum(console, OUT, claims);
+    put_sum(console, OUT, &ledger);
 }
 
 // That a store is sound, and what it holds. This, say_long and say_list differ in what is printed between two calls:
@@ -211,7 +208,7 @@ fn say_long(console: &Console, store: View) -> Result<(), Failure> {
 // The rows of a store, by name, and what it holds.
 pub(crate) fn say_list(console: &Console, store: View) -> Result<(), Failure> {
     sound(console, store, Party::Hall)?;
-    say_rows(console, store);
+    say_rows(console, store)?;
     say_extent(console, store);
     Ok(())
 }

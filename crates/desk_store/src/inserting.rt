@@ -1,7 +1,7 @@
 // The command insert.
 use crate::census::count_lines;
 use crate::choosing::{Choice, is_one};
-use crate::holding::room_in;
+use crate::holding::lines_held;
 use crate::parties::Caller;
 use crate::records::View;
 use crate::reports::{Report, has_filed};
@@ -9,9 +9,9 @@ use crate::targets::Target;
 use desk::arguments::argument_with;
 use desk::console::{Console, argument};
 use desk::fields::after;
-use desk::files::{arg_space, list_space, read_list};
+use desk::files::{arg_space, read_list};
 use desk::help::wrong_use;
-use desk::say::{Failure, complain, say, say_number};
+use desk::say::{Failure, say, say_number};
 use desk::shown::say_shown;
 use desk::words::none;
 use store::calls::insert;
@@ -24,7 +24,7 @@ fn insert_text(
     list: &[u8],
 ) -> Result<(), Failure> {
     let former = target.load(console)?;
-    let mut file = former;
+    let mut file = former.clone()?;
     let inserted = insert(&mut file.index, &mut file.text, party, list);
     if has_filed(inserted.answer) {
         target.replace(console, &former, &file)?;
@@ -34,7 +34,7 @@ fn insert_text(
         list,
         party,
         inserted,
-        held: room_in(View::from(&former)).held,
+        held: lines_held(View::from(&former)),
         store,
     };
     report.say(console)
@@ -66,19 +66,12 @@ fn insert_matching(
     let mut space = arg_space();
     let wanted = after(argument(console, only, &mut space), b'=');
     let choice = Choice::named(console, wanted)?;
-    let Some(kept) = choice.lines_of(list) else {
-        complain(
-            console,
-            b"The lines that match have more than the 65535 bytes of a store; nothing is filed.\n",
-        );
-        return Err(Failure::Trouble);
-    };
-    let lines = kept.as_slice();
-    say_chosen(console, count_lines(lines), count_lines(list), &choice);
+    let lines = choice.lines_of(console.alloc(), list)?;
+    say_chosen(console, count_lines(&lines), count_lines(list), &choice);
     if lines.is_empty() {
         return Err(none(console));
     }
-    insert_text(console, target, party, lines)
+    insert_text(console, target, party, &lines)
 }
 
 // `hub insert STORE FILE ..`; the party and `only=` stand from argument `from` on.
@@ -95,10 +88,9 @@ pub fn insert_list(
         return Err(wrong_use(console, b"insert"));
     }
     let party = caller.party()?;
-    let mut space = list_space();
-    let list = read_list(console, path, &mut space)?;
+    let list = read_list(console, path)?;
     match only {
-        Some(i) => insert_matching(console, target, party, list, i),
-        None => insert_text(console, target, party, list),
+        Some(i) => insert_matching(console, target, party, &list, i),
+        None => insert_text(console, target, party, &list),
     }
 }

@@ -2,7 +2,7 @@
 use crate::census::{LineKind, Passed, kind_of};
 use desk::console::Console;
 use desk::fields::bare;
-use desk::files::{list_space, read_list};
+use desk::files::read_list;
 use desk::forms::{has_other_form, say_form, say_other_forms};
 use desk::say::{Failure, OUT, say, say_number};
 use desk::tally::count_one;
@@ -139,8 +139,7 @@ impl Tally {
 
 // `hub lint FILE`
 pub fn lint_list(console: &Console, path: &[u8]) -> Result<(), Failure> {
-    let mut space = list_space();
-    let list = read_list(console, path, &mut space)?;
+    let list = read_list(console, path)?;
     let mut tally = Tally::default();
     for line in list.split_inclusive(|b| *b == b'\n') {
         tally.count(console, bare(line));

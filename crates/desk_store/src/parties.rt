@@ -9,14 +9,6 @@ use desk::tally::count_one;
 use store::parties::Party;
 use text::decimal::parse_u16;
 
-// The bytes of a record of the index: the hall's, and an organiser's, which has its owner behind the kind.
-pub const RECORD: usize = 21;
-
-pub const OWNED_RECORD: usize = 22;
-
-// Those of a party's share, which holds no line.
-pub const SHARE_RECORD: usize = 4;
-
 // The organiser that the arguments name, if they name one; how many of them say something else; and whether all that are
 // about the party were understood.
 #[derive(Clone, Copy)]
@@ -95,13 +87,5 @@ pub fn party_of(owner: u8) -> Party {
     match owner {
         0 => Party::Hall,
         _ => Party::Organiser(owner),
-    }
-}
-
-// How many lines of a party so many bytes of the index take.
-pub fn lines_in(bytes: usize, party: Party) -> usize {
-    match party {
-        Party::Hall => bytes / RECORD,
-        Party::Organiser(_) => bytes / OWNED_RECORD,
     }
 }

@@ -1,69 +1,102 @@
-// The command remove. There is no call that takes a line out: on a copy the store is cleared, the parties' shares are
-// set, and the other lines are filed anew. Unless all is then as it was, nothing is changed.
+// The command remove. There is no call that takes a line out: the store is written down once more without it, as the
+// library lays one out, and what is written is looked at. Unless it is sound, and all else in it as it was, nothing is
+// changed.
 use crate::editing::exact;
 use crate::holding::{say_shown_line, say_sound};
-use crate::parties::{Caller, party_of};
-use crate::records::{LineKey, View};
-use crate::shares::share_in;
+use crate::parties::Caller;
+use crate::records::{Entry, LineKey, Record, View};
 use crate::targets::Target;
 use crate::wrong::id_named;
 use desk::console::Console;
 use desk::files::StoreFile;
 use desk::help::wrong_use;
 use desk::say::{Failure, complain, say};
-use desk_pads::refusals::refused_outcome;
-use store::calls::{clear, insert};
-use store::refusal::store_outcome;
-use store::sharing::set_share;
+use std::alloc::{AllocError, Global};
+use store::calls::found;
+use store::parties::Party;
+use text::uuid::Uuid;
 
-// Sets the share that an owner has in a store.
-fn put_share(
-    console: &Console,
-    file: &mut StoreFile,
-    former: View,
-    owner: u8,
-) -> Result<(), Failure> {
-    let share = share_in(former, owner);
-    if share == 0 {
-        return Ok(());
-    }
-    let answer = set_share(&mut file.index, &file.text, owner, share);
-    refused_outcome(console, store_outcome(answer))
+// A store that is written down: the records so far, and their lines.
+#[derive(Drop)]
+struct Rest {
+    index: Vec<u8>,
+    text: Vec<u8>,
 }
 
-// Puts the shares of a store into a cleared one, and all its lines but the one of that key.
-fn refile(
-    console: &Console,
-    file: &mut StoreFile,
-    former: View,
-    key: LineKey,
-) -> Result<(), Failure> {
-    for owner in 0..=u8::MAX {
-        put_share(console, file, former, owner)?;
-    }
-    for record in former.records() {
-        if let Some(line) = record.line {
-            if !record.is_under(key) {
-                let party = party_of(record.owner);
-                let inserted = insert(&mut file.index, &mut file.text, party, line);
-                refused_outcome(console, store_outcome(inserted.answer))?;
-            }
+impl Rest {
+    fn new(alloc: Global) -> Rest {
+        Rest {
+            index: Vec::new(alloc),
+            text: Vec::new(alloc),
         }
     }
-    Ok(())
+
+    // Writes a record down; a line comes behind the others.
+    fn push(&mut self, record: Record) -> Result<(), AllocError> {
+        match record.entry {
+            Entry::Share(_) => self.index.extend_from_slice(record.bytes),
+            Entry::Line { id, line } => self.push_line(record.owner, id, line),
+        }
+    }
+
+    // Where a line starts behind 65535, its offset has four bytes.
+    fn push_line(&mut self, owner: u8, id: &[u8], line: &[u8]) -> Result<(), AllocError> {
+        let at = self.text.len();
+        match u16::try_from(at) {
+            Ok(near) => {
+                self.push_kind(owner, 1, 3)?;
+                self.index.extend_from_slice(id)?;
+                self.index.extend_from_slice(&near.to_be_bytes())?;
+            }
+            Err(_) => {
+                let far = u32::try_from(at).unwrap_or(u32::MAX);
+                self.push_kind(owner, 2, 5)?;
+                self.index.extend_from_slice(id)?;
+                self.index.extend_from_slice(&far.to_be_bytes())?;
+            }
+        }
+        let len = u16::try_from(line.len()).unwrap_or(u16::MAX);
+        self.index.extend_from_slice(&len.to_be_bytes())?;
+        self.text.extend_from_slice(line)
+    }
+
+    // The hall's kind, or an organiser's and the owner.
+    fn push_kind(&mut self, owner: u8, hall: u8, organiser: u8) -> Result<(), AllocError> {
+        match owner {
+            0 => self.index.extend_from_slice(&[hall]),
+            _ => self.index.extend_from_slice(&[organiser, owner]),
+        }
+    }
+
+    // The store of it, with zeros behind records and lines, in the size of another one.
+    fn as_large_as(mut self, former: View) -> Result<StoreFile, AllocError> {
+        self.index.resize(former.index.len(), 0)?;
+        self.text.resize(former.text.len(), 0)?;
+        Ok(StoreFile {
+            index: self.index,
+            text: self.text,
+        })
+    }
 }
 
-// Whether all parties have the same shares in two stores.
-fn has_shares_of(former: View, store: View) -> bool {
-    (0..=u8::MAX).all(|owner| share_in(former, owner) == share_in(store, owner))
+// A store without the line of a key.
+fn rest_of(alloc: Global, former: View, key: LineKey) -> Result<StoreFile, AllocError> {
+    let mut rest = Rest::new(alloc);
+    for record in former.records() {
+        if !record.is_under(key) {
+            rest.push(record)?;
+        }
+    }
+    rest.as_large_as(former)
 }
 
-// Whether a store holds what another one does, in its order, but for the line of that key.
+// Whether a store holds what another one does, in its order, shares too, but for the line of that key.
 fn is_rest(former: View, store: View, key: LineKey) -> bool {
     former
         .records()
-        .filter(|record| record.is_line() && !record.is_under(key))
-        .eq(store.records().filter(|record| record.is_line()))
+        .filter(|record| !record.is_under(key))
+        .map(|record| (record.owner, record.entry))
+        .eq(store.records().map(|record| (record.owner, record.entry)))
 }
 
 // Says why, unlike the one of the command edit, which hands a failure on.
@@ -73,13 +106,16 @@ fn unchanged(console: &Console, words: &[u8]) -> Failure {
     Failure::Refused
 }
 
-// Whether the other lines are held as they were: else it says why nothing is changed.
-fn rest(console: &Console, former: View, store: View, key: LineKey) -> Result<(), Failure> {
-    if !has_shares_of(former, store) {
-        return Err(unchanged(console, b"the parties' shares would not be as they are"));
+// Whether the new store is sound, and all else is held as it was: else it says why nothing is changed.
+fn remains(console: &Console, former: View, store: View, key: LineKey) -> Result<(), Failure> {
+    if found(store.index, store.text, Party::Hall, Uuid::NIL).is_err() {
+        return Err(unchanged(console, b"the new store would not be sound"));
     }
     if !is_rest(former, store, key) {
-        return Err(unchanged(console, b"the other lines would not be held as they are"));
+        return Err(unchanged(
+            console,
+            b"the shares or the other lines would not be as they are",
+        ));
     }
     Ok(())
 }
@@ -88,15 +124,10 @@ fn rest(console: &Console, former: View, store: View, key: LineKey) -> Result<()
 fn remove_held(console: &Console, target: Target, key: LineKey) -> Result<(), Failure> {
     let old = target.load(console)?;
     let former = View::from(&old);
-    let mut file = old;
-    let cleared = clear(&mut file.index, &mut file.text);
-    refused_outcome(console, store_outcome(cleared))?;
     exact(console, former, key)?;
-    if refile(console, &mut file, former, key).is_err() {
-        return Err(unchanged(console, b"a share or a line could not be put back"));
-    }
+    let file = rest_of(console.alloc(), former, key)?;
     let store = View::from(&file);
-    rest(console, former, store, key)?;
+    remains(console, former, store, key)?;
     target.replace(console, &old, &file)?;
     say(console, b"removed: ");
     say_shown_line(console, former.line(key));

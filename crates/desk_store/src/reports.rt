@@ -1,7 +1,6 @@
 // What the command insert says of a list, and why a store has no room.
 use crate::census::{Census, count_lines, nth_line};
-use crate::holding::room_in;
-use crate::parties::lines_in;
+use crate::holding::{line_room, lines_held};
 use crate::records::{LineKey, View};
 use crate::shares::{complain_claims, free_for};
 use desk::console::Console;
@@ -68,17 +67,20 @@ impl NoRoom<'_> {
         complain(console, b" bytes wanted; ");
         put_number(console, ERR, free_for(self.store, self.party, self.freed));
         complain(console, b" bytes free, and room for ");
-        let room = room_in(self.store).index;
-        put_number(console, ERR, lines_in(room, self.party));
+        put_number(console, ERR, line_room(self.store, self.party));
         complain(console, b" more lines\n");
         if self.full == Full::Text {
             complain_claims(console, self.store);
         }
+        complain(console, b"  what can be done: ");
+        if self.store.can_grow() {
+            complain(console, b"make the store large (hub grow STORE); or ");
+        }
         complain(
             console,
-            b"  what can be done: insert a list of only the pads that the hall has, into a fresh store (hub new);
-  or keep a second store; or clear this one (hub clear) and insert what is needed. hub list shows what
-  is held.\n",
+            b"insert a list of only the pads that the
+  hall has, into a fresh store (hub new); or keep a second store; or clear this one (hub clear) and
+  insert what is needed. hub list shows what is held.\n",
         );
     }
 }
@@ -95,7 +97,7 @@ impl Report<'_, '_> {
     fn say_filed(self, console: &Console) {
         let count = self.inserted.count;
         let census = Census::of(self.list, count);
-        let fresh = room_in(self.store).held.saturating_sub(self.held);
+        let fresh = lines_held(self.store).saturating_sub(self.held);
         say_number(console, count);
         say(console, b" lines walked, ");
         say_number(console, census.wanted);

@@ -122,7 +122,7 @@ impl Save<'_> {
     // Saves into a store, and puts it in place.
     fn run(&self, console: &Console, target: Target) -> Result<(), Failure> {
         let former = target.load(console)?;
-        let mut file = former;
+        let mut file = former.clone()?;
         let saved = self.file(&mut file);
         saved
             .answer

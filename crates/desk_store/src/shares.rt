@@ -1,41 +1,79 @@
 // The parties' shares of the text: the commands share and shares, and who claims what of it.
 use crate::parties::owner_of;
-use crate::records::View;
+use crate::records::{Entry, Record, View};
 use crate::targets::Target;
 use crate::wrong::wrong;
 use desk::console::{Console, argument};
-use desk::files::{HALF, arg_space, load};
+use desk::files::{arg_space, load};
 use desk::say::{ERR, Failure, OUT, complain, put, put_number};
-use desk::tally::count_one;
 use desk::words::put_refused;
 use desk_pads::refusals::refused_by;
+use std::str;
 use store::calls::StoreError;
 use store::parties::Party;
 use store::sharing::{ShareUse, set_share, share_of};
 use text::decimal::parse_u16;
 
-// More bytes than a text has; a share of more is refused as one of so many.
-const TOO_MANY: usize = 65536;
+// The owner bytes.
+const OWNERS: usize = 256;
 
-// How many parties have a share, and the sum over all parties of the larger of use and share.
-#[derive(Clone, Copy, Default)]
-pub struct Claims {
-    pub shares: usize,
-    pub bytes: usize,
-}
-
-// The share and the use of a party in a sound store.
-fn told_of(store: View, owner: u8) -> ShareUse {
-    share_of(store.index, store.text, owner).unwrap_or(ShareUse { share: 0, used: 0 })
-}
-
-// The share of a party in a sound store.
-pub fn share_in(store: View, owner: u8) -> usize {
-    told_of(store, owner).share
+// What each party uses of the text of a sound store and its share, by owner byte; and how many bytes the text has. One walk
+// over the records tells it: a call of the library for each party would walk so often.
+#[derive(Clone, Copy)]
+pub struct Ledger {
+    told: [ShareUse; OWNERS],
+    text: usize,
 }
 
 fn larger(told: ShareUse) -> usize {
     told.share.max(told.used)
+}
+
+impl Ledger {
+    pub fn of(store: View) -> Ledger {
+        let mut ledger = Ledger {
+            told: [ShareUse { share: 0, used: 0 }; OWNERS],
+            text: store.text.len(),
+        };
+        for record in store.records() {
+            ledger.count(record);
+        }
+        ledger
+    }
+
+    fn count(&mut self, record: Record) {
+        let told = &mut self.told[usize::from(record.owner)];
+        match record.entry {
+            Entry::Line { line, .. } => told.used = told.used.wrapping_add(line.len()),
+            Entry::Share(bytes) => told.share = bytes,
+        }
+    }
+
+    fn of_owner(&self, owner: u8) -> ShareUse {
+        self.told[usize::from(owner)]
+    }
+
+    fn has_shares(&self) -> bool {
+        self.told.iter().any(|told| told.share != 0)
+    }
+
+    // The sum over all parties of the larger of use and share.
+    fn claimed(&self) -> usize {
+        self.told
+            .iter()
+            .fold(0usize, |sum, told| sum.wrapping_add(larger(*told)))
+    }
+
+    // How much of the text nobody claims.
+    pub fn left(&self) -> usize {
+        self.text.saturating_sub(self.claimed())
+    }
+
+    // How much of the text the others leave to a party.
+    fn left_to(&self, owner: u8) -> usize {
+        let others = self.claimed().saturating_sub(larger(self.of_owner(owner)));
+        self.text.saturating_sub(others)
+    }
 }
 
 // `hall` or `party 7`
@@ -76,76 +114,49 @@ fn put_claim(console: &Console, fd: i32, owner: u8, told: ShareUse) {
     put_use(console, fd, owner, told);
 }
 
-impl Claims {
-    // What a party claims.
-    fn add(&mut self, told: ShareUse) {
-        if told.share != 0 {
-            count_one(&mut self.shares);
-        }
-        self.bytes = self.bytes.wrapping_add(larger(told));
-    }
-}
-
-// Adds up what the parties claim in a sound store, and shows each of them to `see`.
-fn claims_seen<F: Fn(u8, ShareUse)>(store: View, see: F) -> Claims
-    requires { F.IsAlwaysCallable see }
-{
-    let mut claims = Claims::default();
+// What each party claims.
+fn put_claims(console: &Console, fd: i32, ledger: &Ledger) {
     for owner in 0..=u8::MAX {
-        let told = told_of(store, owner);
-        see(owner, told);
-        claims.add(told);
+        put_claim(console, fd, owner, ledger.of_owner(owner));
     }
-    claims
-}
-
-// What the parties claim in a sound store.
-pub fn claims_in(store: View) -> Claims {
-    claims_seen(store, |_, _| {})
-}
-
-// The same, and prints what each party claims.
-fn put_claims(console: &Console, fd: i32, store: View) -> Claims {
-    claims_seen(store, |owner, told| put_claim(console, fd, owner, told))
 }
 
 // `claimed: 513 of 65535 bytes ..`
-pub fn put_sum(console: &Console, fd: i32, claims: Claims) {
+pub fn put_sum(console: &Console, fd: i32, ledger: &Ledger) {
     put(console, fd, b"claimed: ");
-    put_number(console, fd, claims.bytes);
+    put_number(console, fd, ledger.claimed());
     put(console, fd, b" of ");
-    put_number(console, fd, HALF);
+    put_number(console, fd, ledger.text);
     put(
         console,
         fd,
         b" bytes of the text, of each party the larger of use and share; ",
     );
-    put_number(console, fd, HALF.saturating_sub(claims.bytes));
+    put_number(console, fd, ledger.left());
     put(console, fd, b" are left\n");
-}
-
-// How much of the text the others leave to a party that uses and has so much.
-fn left_to(store: View, told: ShareUse) -> usize {
-    let others = claims_in(store).bytes.saturating_sub(larger(told));
-    HALF.saturating_sub(others)
 }
 
 // How many bytes a line of a party can have that takes the place of one of `freed` bytes.
 pub fn free_for(store: View, party: Party, freed: usize) -> usize {
-    let told = told_of(store, owner_of(party));
-    left_to(store, told).saturating_sub(told.used.saturating_sub(freed))
+    let ledger = Ledger::of(store);
+    let owner = owner_of(party);
+    let used = ledger.of_owner(owner).used;
+    ledger
+        .left_to(owner)
+        .saturating_sub(used.saturating_sub(freed))
 }
 
 // Who claims what of the text, where a share is set.
 pub fn complain_claims(console: &Console, store: View) {
-    if claims_in(store).shares == 0 {
+    let ledger = Ledger::of(store);
+    if !ledger.has_shares() {
         return;
     }
     complain(
         console,
         b"  of the text each party claims the larger of use and share (hub share changes a share):\n",
     );
-    put_claims(console, ERR, store);
+    put_claims(console, ERR, &ledger);
 }
 
 // `hub shares STORE`
@@ -153,7 +164,9 @@ pub fn list_shares(console: &Console, path: &[u8]) -> Result<(), Failure> {
     let file = load(console, path)?;
     let store = View::from(&file);
     share_of(store.index, store.text, 0).map_err(|e| refused_by(console, e.refusal()))?;
-    put_sum(console, OUT, put_claims(console, OUT, store));
+    let ledger = Ledger::of(store);
+    put_claims(console, OUT, &ledger);
+    put_sum(console, OUT, &ledger);
     Ok(())
 }
 
@@ -175,30 +188,44 @@ fn size_named(s: &[u8]) -> Option<usize> {
     if s.is_empty() || !s.iter().all(|b| b.is_ascii_digit()) {
         return None;
     }
-    Some(TOO_MANY)
+    let digits = str::from_utf8(s).ok()?;
+    Some(digits.parse().unwrap_or(usize::MAX))
 }
 
 fn say_set(console: &Console, store: View, owner: u8) {
-    put_use(console, OUT, owner, told_of(store, owner));
-    put_sum(console, OUT, claims_in(store));
+    let ledger = Ledger::of(store);
+    put_use(console, OUT, owner, ledger.of_owner(owner));
+    put_sum(console, OUT, &ledger);
+}
+
+// What more can be done in a store of the smaller size.
+fn complain_growth(console: &Console, store: View) {
+    if store.can_grow() {
+        complain(
+            console,
+            b"  hub grow STORE makes the store large, with more room.\n",
+        );
+    }
 }
 
 // 26: how much the party can have at most, and who claims the rest.
 fn complain_too_large(console: &Console, store: View, owner: u8) {
+    let ledger = Ledger::of(store);
     complain(console, b"  at most ");
-    put_number(console, ERR, left_to(store, told_of(store, owner)));
+    put_number(console, ERR, ledger.left_to(owner));
     complain(console, b" bytes can be the share of ");
     put_party(console, ERR, owner);
     complain(
         console,
         b"; of the text each party claims the larger of use and share:\n",
     );
-    put_claims(console, ERR, store);
+    put_claims(console, ERR, &ledger);
     complain(
         console,
         b"  what can be done: give less; or lower another share (hub share STORE PARTY BYTES); or keep a second
   store for the league.\n",
     );
+    complain_growth(console, store);
 }
 
 // A setting that was refused, in a store that is as it was.
@@ -214,8 +241,9 @@ fn refused_share(console: &Console, e: StoreError, store: View, owner: u8) -> Fa
             put_refused(console, ERR, number);
             complain(
                 console,
-                b"\n  a share takes 4 bytes of the index, and fewer are free; hub shares says who has one\n",
+                b"\n  a share takes 4 bytes of the index, one over 65535 takes 6, and fewer are free; hub shares says who has one\n",
             );
+            complain_growth(console, store);
         }
         _ => return refused_by(console, e.refusal()),
     }
@@ -224,7 +252,7 @@ fn refused_share(console: &Console, e: StoreError, store: View, owner: u8) -> Fa
 
 fn set_in(console: &Console, target: Target, owner: u8, bytes: usize) -> Result<(), Failure> {
     let former = target.load(console)?;
-    let mut file = former;
+    let mut file = former.clone()?;
     set_share(&mut file.index, &file.text, owner, bytes).map_err(|e| refused_share(
         console,
         e,

@@ -4,9 +4,9 @@
 use desk::changing::{Held, held_from, not_held};
 use desk::console::{Console, argument, argument_count, is_too_long, print};
 use desk::fields::{after, before};
-use desk::files::arg_space;
+use desk::files::{Size, arg_space};
 use desk::help::wrong_use;
-use desk::say::{Failure, STATUS, complain, exit_status};
+use desk::say::{Failure, STATUS, complain, complain_memory, exit_status};
 use desk::{advice, help};
 use desk_pads::{elements, layout, plugged, tidying};
 use desk_store::targets::Target;
@@ -112,7 +112,11 @@ fn run_on_store(console: &Console, call: &Call) -> Result<(), Failure> {
         (b"shares", 1) => shares::list_shares(console, path),
         (b"show", 2..) => mappings::show_mapping(console, path, key, from),
         (b"test", 2..) => testing::test_mapping(console, path, key, from),
-        (b"new", 1) => filing::new_store(console, call.target()),
+        (b"new", 1) => filing::new_store(console, call.target(), Size::Small),
+        (b"new", 2) if key == b"large".as_slice() => {
+            filing::new_store(console, call.target(), Size::Large)
+        }
+        (b"grow", 1) => filing::grow_store(console, call.target()),
         (b"insert", 2..) => inserting::insert_list(console, call.target(), key, from),
         (b"save", 3..) => saving::save_mapping(console, call.target(), key, from),
         (b"share", 3) => shares::give_share(console, call.target(), key, from),
@@ -199,9 +203,10 @@ fn main(rt: HostRuntime) -> ExitCode {
     if argument(&console, 1, &mut space) == b"--script".as_slice() {
         console.serve_script();
         let done = run_all(&console, held_from(&console, 2), 6);
+        complain_memory(&console, done);
         print(&console, STATUS, exit_status(done));
     } else {
-        let _ = run_all(&console, not_held(), 1);
+        complain_memory(&console, run_all(&console, not_held(), 1));
     }
     exit_code(&console)
 }

@@ -1,5 +1,5 @@
 // The cases, each on the store as the one before left it. An answer is document 01's number, 0 where there is none.
-use crate::spelled::{spelled, uuid};
+use crate::spelled::{big, spelled, uuid};
 use line::refusal::Refusal;
 use parts::cuts::{after, before, first, past, rest, word};
 use parts::numbers::{number, unhex};
@@ -108,6 +108,6 @@ pub fn bytes_case(alloc: Global, buffer: &[u8], args: &[u8]) -> Result<bool, All
 pub fn poke_case(buffer: &mut [u8], args: &[u8]) -> bool {
     let mut space = [0u8; 64];
     let n = unhex(rest(args), &mut space);
-    write_bytes(buffer, number(word(args)), &space[..n]);
+    write_bytes(buffer, big(word(args)), &space[..n]);
     true
 }

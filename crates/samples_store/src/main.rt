@@ -21,10 +21,10 @@ use std::rt::Files;
 use std::{fs, io};
 use store::parties::Party;
 
-// The most bytes of a list, and of each of the store's two buffers.
+// The most bytes of a list.
 const ROOM: usize = 65536;
 
-const FILES: [&str; 9] = [
+const FILES: [&str; 12] = [
     "store.txt",
     "damage.txt",
     "history.txt",
@@ -34,6 +34,9 @@ const FILES: [&str; 9] = [
     "shares.txt",
     "share-damage.txt",
     "share-history.txt",
+    "far.txt",
+    "far-damage.txt",
+    "far-history.txt",
 ];
 
 // One call of a party on the store, a comparison of a whole buffer, or a change of its bytes.
@@ -56,61 +59,38 @@ fn run_case(alloc: Global, store: Store, call: &[u8]) -> Result<bool, AllocError
     }
 }
 
-// The end of a buffer that has `len` bytes, or all of it where it has fewer.
-fn end_of(whole: &mut [u8], len: usize) -> &mut [u8] {
-    let from = whole.len().saturating_sub(len);
-    &mut whole[from..]
-}
-
-// The store's two buffers, whole. replay has a struct of two such buffers with cases of its own: two arrays are all that a
-// common one would have.
+// The store's two buffers, of the lengths that the cases name, on the heap. replay has a struct of two such buffers with
+// cases of its own: two buffers are all that a common one would have.
 #[derive(Drop)]
 struct Buffers {
-    index: [u8; ROOM],
-    text: [u8; ROOM],
+    index: Vec<u8>,
+    text: Vec<u8>,
 }
 
 impl Buffers {
-    fn new() -> Buffers {
-        Buffers {
-            index: [0u8; ROOM],
-            text: [0u8; ROOM],
-        }
+    // All zero.
+    fn fresh(alloc: Global, index: usize, text: usize) -> Result<Buffers, AllocError> {
+        Ok(Buffers {
+            index: vec![in alloc; 0u8; index]?,
+            text: vec![in alloc; 0u8; text]?,
+        })
     }
 
-    fn clear(&mut self) {
-        self.index.fill(0);
-        self.text.fill(0);
+    // The store, for a call of a party.
+    fn store(&mut self, party: Party) -> Store<'_> {
+        let Buffers { index, text } = self;
+        Store { index, text, party }
     }
 }
 
-// The lengths of the store's buffers, and how many cases were run and went wrong, of this group and of all.
+// How many cases were run and went wrong, of this group and of all.
 #[derive(Drop)]
 struct Run {
-    index: usize,
-    text: usize,
     group: Totals,
     all: Totals,
 }
 
 impl Run {
-    // A fresh store: `new INDEX TEXT`.
-    fn renew(&mut self, buffers: &mut Buffers, args: &[u8]) {
-        buffers.clear();
-        self.index = big(word(args));
-        self.text = big(rest(args));
-    }
-
-    // The store of those lengths, for a call of a party.
-    fn store<'a>(&self, buffers: &'a mut Buffers, party: Party) -> Store<'a> {
-        let Buffers { index, text } = buffers;
-        Store {
-            index: end_of(index, self.index),
-            text: end_of(text, self.text),
-            party,
-        }
-    }
-
     // Prints how a group went.
     fn finish(&mut self, rt: &impl Print) -> io::Result<()> {
         if 0 < self.group.cases {
@@ -148,12 +128,13 @@ impl Run {
         match word(line) {
             [b'=', ..] => self.title(rt, rest(line)),
             b"new" => {
-                self.renew(buffers, rest(line));
+                let lengths = rest(line);
+                *buffers = Buffers::fresh(rt.alloc(), big(word(lengths)), big(rest(lengths)))?;
                 Ok(())
             }
             kind => {
                 let (party, call) = party_and_call(line);
-                let right = run_case(rt.alloc(), self.store(buffers, party), call)?;
+                let right = run_case(rt.alloc(), buffers.store(party), call)?;
                 if kind.starts_with(b"p") {
                     return Ok(());
                 }
@@ -164,7 +145,7 @@ impl Run {
 
     // Runs a whole list in fresh buffers.
     fn list<R: Print + AllocGlobal>(&mut self, rt: &R, list: &[u8]) -> io::Result<()> {
-        let mut buffers = Buffers::new();
+        let mut buffers = Buffers::fresh(rt.alloc(), 0, 0)?;
         for ended in list.split_inclusive(|b| *b == b'\n') {
             let line = before(ended, b'\n');
             if !is_blank(line) {
@@ -193,8 +174,6 @@ impl Run {
 // Runs all lists. Shared with the other test programs it would be handed their files and `run_file`, and be no shorter.
 fn main(rt: HostRuntime) -> io::Result<()> {
     let mut run = Run {
-        index: 0,
-        text: 0,
         group: Totals::NONE,
         all: Totals::NONE,
     };

@@ -24,7 +24,7 @@ impl Store<'_> {
             Err(e) => (e.refusal().number, ShareUse { share: 0, used: 0 }),
         };
         refused as usize == number(word(args))
-            && shown.share == number(word(uses))
-            && shown.used == number(word(rest(uses)))
+            && shown.share == big(word(uses))
+            && shown.used == big(word(rest(uses)))
     }
 }

@@ -5,7 +5,7 @@ use parts::numbers::{number, unhex, uuid_or};
 use std::alloc::{AllocError, Global};
 use text::uuid::Uuid;
 
-const ROOM: usize = 16640;
+const ROOM: usize = 262144;
 
 // The UUID in a word: 32 digits, or a number, which is its value.
 pub fn uuid(s: &[u8]) -> Uuid {
@@ -16,13 +16,16 @@ pub fn uuid(s: &[u8]) -> Uuid {
     uuid_or(s, small)
 }
 
-// The number in a word, `65536` being one too, and `most` the largest that a machine word holds.
+// A length, a place or a share in a word, 0 where it is none; `most` is the largest number that a machine word holds.
 pub fn big(s: &[u8]) -> usize {
     match s {
-        b"65536" => 65536,
         b"most" => usize::MAX,
-        _ => number(s),
+        _ => decimal(s).unwrap_or(0),
     }
+}
+
+fn decimal(s: &[u8]) -> Option<usize> {
+    str::from_utf8(s).ok()?.parse().ok()
 }
 
 // The owner in a word, as the store's records hold it: a byte.
@@ -54,7 +57,7 @@ fn put_part(out: &mut Vec<u8>, part: &[u8]) -> Result<(), AllocError> {
     }
 }
 
-// The bytes of a text, at most 16640.
+// The bytes of a text, at most 262144.
 pub fn spelled(alloc: Global, s: &[u8]) -> Result<Vec<u8>, AllocError> {
     let mut out = Vec::new(alloc);
     for part in s.split_inclusive(|b| *b == b'|') {

@@ -17,10 +17,13 @@ use Rattle.text.specs.declared.uuid.Spelled.{Spelled}
 use Rattle.store.specs.declared.rows.Row.{Row}
 use Rattle.store.specs.declared.claims.Dues.{Dues}
 use Rattle.store.specs.declared.table.Fill.{Fill}
+use Rattle.store.specs.declared.border.Border.{Border}
+use Rattle.store.specs.declared.border.Standing.{Standing}
 use Rattle.store.specs.declared.batch.Walked.{Walked}
 use Rattle.store.specs.Book.{Caller, under, Reached, after, stopped, reach, insert_turn, on_reached, room_for}
 use Rattle.store.specs.Book.{by_room}
 use Rattle.store.specs.Book.{insert_lines}
+use Rattle.store.specs.Border.{Bordered}
 use Rattle.store.specs.Decode.{decode}
 use Rattle.store.specs.Held.{Held, key_by, file, index_max, text_max, line_max}
 use Rattle.text.specs.Search.{lf}
@@ -28,7 +31,7 @@ use Rattle.store.specs.Layout.{Bytes}
 use Rattle.store.specs.Inner.{GoodFor, behind, first_line, known, insert_full}
 use Rattle.store.specs.Claims.{not_of, Owed}
 use Rattle.store.specs.Lines.{lines_of, wanted}
-use Rattle.store.specs.Table.{Tabled, Settles, Settled, InRows, Loads, Files', Filed, fits, full}
+use Rattle.store.specs.Table.{Tabled, Settles, Settled, InStanding, Loads, Files', Filed, fits, full}
 use Rattle.store.specs.Table.{FilesRow, Comes, goes, stops}
 use Rattle.store.specs.Table.{SomeRows, ReachesRow, Takes, onward, halted, Went, TakesLines, Encoded, Batches}
 use Rattle.store.proofs.BookLaws.{Kept, keeps_reach}
@@ -48,7 +51,7 @@ wanted_part s at len v p e q =
     ap (λ (k : ℕ). wanted (take k (drop at s))) (sym (plus_minus at len)) ∙ sym e ∙ q
 
 -- the exits of `reach_row`
-module _ (d : Dues) (i t s : List ℕ) (a : List Row) (heads next : List ℕ) (f : Fill) (own at len : ℕ)
+module _ (d : Dues) (i t s : List ℕ) (a : List Row) (heads next : List ℕ) (w : Standing) (own at len : ℕ)
     (inside : at + len ≤ length s) where
   abbrev l : List ℕ
   l = take len (drop at s)
@@ -57,61 +60,61 @@ module _ (d : Dues) (i t s : List ℕ) (a : List Row) (heads next : List ℕ) (f
   part_long = length-take-le len (drop at s) (omega (arith, length-drop at s))
 
   pub slot_not : {v : Option Spelled} → v ≡ wanted (take (at + len - at) (drop at s)) → v ≡ None
-      → ReachesRow d i t s a heads next f own l a heads next (Ok f)
-  slot_not e q g old hs o w =
-      goes f hs (reach-not (behind g i t own) hs l (wanted_part s at len _ _ e q)) refl w
+      → ReachesRow d i t s a heads next w own l a heads next (Ok w)
+  slot_not e q g old hs o x =
+      goes w hs (reach-not (behind g i t own) hs l (wanted_part s at len _ _ e q)) refl x
 
   -- the line is wanted: the part of the text that is read is the line
   module _ {v : Option Spelled} (u : Spelled) (e' : v ≡ wanted (take (at + len - at) (drop at s))) (q : v ≡ Some u) where
     e : wanted l ≡ Some u
     e = wanted_part s at len _ _ e' q
 
-    pub slot_long : line_max < len → ReachesRow d i t s a heads next f own l a heads next (Err E.LineTooLong)
-    slot_long p g old hs o w =
-        stops E.LineTooLong (reach_long (behind g i t own) hs l u e (omega (arith, part_long))) refl w.tabled
+    pub slot_long : line_max < len → ReachesRow d i t s a heads next w own l a heads next (Err E.LineTooLong)
+    slot_long p g old hs o x =
+        stops E.LineTooLong (reach_long (behind g i t own) hs l u e (omega (arith, part_long))) refl x.in_rows.tabled
 
     module _ (p : len ≤ line_max) where
-      pub slot_files : (g : List ℕ) (old : ℕ) (hs : List Held) → Owed g own hs d → InRows i t s a heads next old f hs
-          → Files' g d i t s a heads next old f (key_by own u.id) at len hs
-      slot_files g old hs o w =
+      pub slot_files : (g : List ℕ) (old : ℕ) (hs : List Held) → Owed g own hs d → InStanding i t s a heads next old w hs
+          → Files' g d i t s a heads next old w (key_by own u.id) at len hs
+      slot_files g old hs o x =
           record {
             owed = o;
-            in_rows = w;
+            standing = x;
             inside = inside;
             shape = record { some = wanted-some l u e; most = omega (arith, part_long) };
           }
 
-      module _ (a' : List Row) (heads' next' : List ℕ) (z : Result Fill Full)
-          (y : FilesRow d i t a heads next f (key_by own u.id) at len a' heads' next' z) where
+      module _ (a' : List Row) (heads' next' : List ℕ) (z : Result Standing Full)
+          (y : FilesRow d i t a heads next w (key_by own u.id) at len a' heads' next' z) where
         reached : (g : List ℕ) (hs : List Held) (r : Result ⊤ Full) → room_for (behind g i t own) (under own u.id l) hs ≡ r
             → reach (behind g i t own) hs l
             ≡ by_room r (stopped (Err E.NoRoom)) (stopped (Err E.NoText)) (after (file (under own u.id l) hs))
         reached g hs r q = reach_room (behind g i t own) hs l u e (omega (arith, part_long)) r q
 
-        says : (x : Full) (w : Reached)
-            → by_room (Err x) (stopped (Err E.NoRoom)) (stopped (Err E.NoText)) w ≡ stopped (Err (insert_full x))
-        says R.Index w = refl
-        says R.Text w = refl
+        says : (x : Full) (v : Reached)
+            → by_room (Err x) (stopped (Err E.NoRoom)) (stopped (Err E.NoText)) v ≡ stopped (Err (insert_full x))
+        says R.Index v = refl
+        says R.Text v = refl
 
-        pub slot_full : (x : Full) → z ≡ Err x → ReachesRow d i t s a heads next f own l a' heads' next' (Err (insert_full x))
-        slot_full x er g old hs o w = go (y g s old hs (slot_files g old hs o w))
+        pub slot_full : (x : Full) → z ≡ Err x → ReachesRow d i t s a heads next w own l a' heads' next' (Err (insert_full x))
+        slot_full x er g old hs o p = go (y g s old hs (slot_files g old hs o p))
           where
-            go : Filed g i t s a' heads' next' old f (under own u.id l) hs z
-                → Comes g i t s a' heads' next' old own l hs f (Err (insert_full x))
-            go (fits f' q c k) = let n : ◌≡◌ {A = ℕ} 0 1 = cc in absurd (omega arith)
+            go : Filed g i t s a' heads' next' old w (under own u.id l) hs z
+                → Comes g i t s a' heads' next' old own l hs w (Err (insert_full x))
+            go (fits w' q c k) = let n : ◌≡◌ {A = ℕ} 0 1 = cc in absurd (omega arith)
             go (full x' q c k) =
                 let n : x' ≡ x = cc in
                 stops (insert_full x) (reached g hs (Err x) (q ∙ ap (λ (m : Full). Err m) n) ∙ says x _) refl k
 
-        pub slot_filed : (f' : Fill) → z ≡ Ok f' → ReachesRow d i t s a heads next f own l a' heads' next' (Ok f')
-        slot_filed f' er g old hs o w = go (y g s old hs (slot_files g old hs o w))
+        pub slot_filed : (w' : Standing) → z ≡ Ok w' → ReachesRow d i t s a heads next w own l a' heads' next' (Ok w')
+        slot_filed w' er g old hs o p = go (y g s old hs (slot_files g old hs o p))
           where
-            go : Filed g i t s a' heads' next' old f (under own u.id l) hs z
-                → Comes g i t s a' heads' next' old own l hs f (Ok f')
-            go (fits f'' q c k) =
-                let n : f'' ≡ f' = cc in
-                goes f' (file (under own u.id l) hs) (reached g hs (Ok tt) q) refl
-                (subst (λ (m : Fill). InRows i t s a' heads' next' old m (file (under own u.id l) hs)) n k)
+            go : Filed g i t s a' heads' next' old w (under own u.id l) hs z
+                → Comes g i t s a' heads' next' old own l hs w (Ok w')
+            go (fits w'' q c k) =
+                let n : w'' ≡ w' = cc in
+                goes w' (file (under own u.id l) hs) (reached g hs (Ok tt) q) refl
+                (subst (λ (m : Standing). InStanding i t s a' heads' next' old m (file (under own u.id l) hs)) n k)
             go (full x q c k) = let n : ◌≡◌ {A = ℕ} 0 1 = cc in absurd (omega arith)
 
 -- what the loop cut off: the first line from `at` on
@@ -137,61 +140,61 @@ runs_line by s at end l e line el hs c =
     (λ ks. insert_lines by ks (suc c) (lines_of (drop (at + (end + 1)) s)))) (sym el)
 
 -- the loop of `take_lines`: the lines before `at` are filed, and the rest has the whole's answer
-pub record Took (g i t s : List ℕ) (a : List Row) (heads next : List ℕ) (own from old : ℕ) (f : Fill) (at count : ℕ)
+pub record Took (g i t s : List ℕ) (a : List Row) (heads next : List ℕ) (own from old : ℕ) (w : Standing) (at count : ℕ)
     (hs : List Held) : Type 0 where
   pub ks : List Held
   pub others : not_of own ks ≡ not_of own hs
-  pub in_rows : InRows i t s a heads next old f ks
+  pub standing : InStanding i t s a heads next old w ks
   pub keeps : GoodFor (behind g i t own) hs → GoodFor (behind g i t own) ks
   pub run : (c : ℕ) → insert_lines (behind g i t own) hs c (lines_of (drop from s))
       ≡ insert_lines (behind g i t own) ks (c + count) (lines_of (drop at s))
 
-pub record Taking (d : Dues) (i t s : List ℕ) (a₀ : List Row) (heads₀ next₀ : List ℕ) (own from : ℕ) (f₀ : Fill)
-    (a : List Row) (heads next : List ℕ) (f : Fill) (at count : ℕ) : Type 0 where
+pub record Taking (d : Dues) (i t s : List ℕ) (a₀ : List Row) (heads₀ next₀ : List ℕ) (own from : ℕ) (w₀ : Standing)
+    (a : List Row) (heads next : List ℕ) (w : Standing) (at count : ℕ) : Type 0 where
   pub within : at ≤ length s + 1
   pub counted : from + count ≤ at
-  pub still : at ≡ from → f.count ≡ f₀.count
-  pub took : (g : List ℕ) (old : ℕ) (hs : List Held) → Owed g own hs d → InRows i t s a₀ heads₀ next₀ old f₀ hs
-      → Took g i t s a heads next own from old f at count hs
+  pub still : at ≡ from → w.fill.count ≡ w₀.fill.count
+  pub took : (g : List ℕ) (old : ℕ) (hs : List Held) → Owed g own hs d → InStanding i t s a₀ heads₀ next₀ old w₀ hs
+      → Took g i t s a heads next own from old w at count hs
 
-module _ {d : Dues} {i t s : List ℕ} {a₀ : List Row} {heads₀ next₀ : List ℕ} {own from : ℕ} {f₀ : Fill} where
-  module _ {a : List Row} {heads next : List ℕ} {f : Fill} {at count : ℕ}
-      (w : Taking d i t s a₀ heads₀ next₀ own from f₀ a heads next f at count) where
-    pub taken : SomeRows d own i t s a₀ heads₀ next₀ f₀ → SomeRows d own i t s a heads next f
+module _ {d : Dues} {i t s : List ℕ} {a₀ : List Row} {heads₀ next₀ : List ℕ} {own from : ℕ} {w₀ : Standing} where
+  module _ {a : List Row} {heads next : List ℕ} {w : Standing} {at count : ℕ}
+      (k : Taking d i t s a₀ heads₀ next₀ own from w₀ a heads next w at count) where
+    pub taken : SomeRows d own i t s a₀ heads₀ next₀ w₀ → SomeRows d own i t s a heads next w
     taken (g, (old, (hs, (o, p)))) =
-        let x : Took g i t s a heads next own from old f at count hs = w.took g old hs o p in
-        (g, (old, (x.ks, (owed_on g own hs x.ks d x.others o, x.in_rows))))
+        let x : Took g i t s a heads next own from old w at count hs = k.took g old hs o p in
+        (g, (old, (x.ks, (owed_on g own hs x.ks d x.others o, x.standing))))
 
     pub first_at_lem : from ≤ at
-    first_at_lem = omega (arith, w.counted)
+    first_at_lem = omega (arith, k.counted)
 
     -- the insert goes on from `at`
-    pub take_on : (f₀.count < length a₀ → from < length s → from < at)
-        → TakesLines d i t s a₀ heads₀ next₀ own from f₀ a
-        (record { answer = Ok tt; at = at; count = count; filled = f.count })
-        × Went s from f₀.count (length a₀) (record { answer = Ok tt; at = at; count = count; filled = f.count })
+    pub take_on : (w₀.fill.count < length a₀ → from < length s → from < at)
+        → TakesLines d i t s a₀ heads₀ next₀ own from w₀ a
+        (record { answer = Ok tt; at = at; count = count; filled = w.fill.count })
+        × Went s from w₀.fill.count (length a₀) (record { answer = Ok tt; at = at; count = count; filled = w.fill.count })
     take_on moves = (
       λ g old hs o p.
-          let x : Took g i t s a heads next own from old f at count hs = w.took g old hs o p in
-          onward x.ks refl x.run x.keeps x.in_rows.tabled,
-      record { within = w.within; counted = w.counted; moved = λ p q o. moves p q },
+          let x : Took g i t s a heads next own from old w at count hs = k.took g old hs o p in
+          onward x.ks refl x.run x.keeps x.standing.in_rows.tabled,
+      record { within = k.within; counted = k.counted; moved = λ p q o. moves p q },
     )
 
     -- one line on
     module _ (l : at < length s) {end : ℕ} (e : end ≡ first_of lf (take (length s - at) (drop at s))) (len : ℕ)
         (el : take len (take (length s - at) (drop at s)) ≡ first_line (take (length s - at) (drop at s)))
-        (r : Result Fill StoreError) (a' : List Row) (heads' next' : List ℕ)
-        (y : ReachesRow d i t s a heads next f own (take len (drop at s)) a' heads' next' r) where
+        (r : Result Standing StoreError) (a' : List Row) (heads' next' : List ℕ)
+        (y : ReachesRow d i t s a heads next w own (take len (drop at s)) a' heads' next' r) where
       abbrev line : List ℕ
       line = take len (drop at s)
 
       module _ (g : List ℕ) (old : ℕ) (hs : List Held) (o : Owed g own hs d)
-          (x : Took g i t s a heads next own from old f at count hs) where
+          (x : Took g i t s a heads next own from old w at count hs) where
         abbrev by : Caller
         by = behind g i t own
 
-        comes : Comes g i t s a' heads' next' old own line x.ks f r
-        comes = y g old x.ks (owed_on g own hs x.ks d x.others o) x.in_rows
+        comes : Comes g i t s a' heads' next' old own line x.ks w r
+        comes = y g old x.ks (owed_on g own hs x.ks d x.others o) x.standing
 
         runs : (v : Reached) → reach by x.ks line ≡ v → (c : ℕ)
             → insert_lines by hs c (lines_of (drop from s))
@@ -203,25 +206,25 @@ module _ {d : Dues} {i t s : List ℕ} {a₀ : List Row} {heads₀ next₀ : Lis
             ∙ ap (λ (v : Reached). on_reached v (λ b. insert_turn x.ks b (c + count))
             (λ js. insert_lines by js (suc (c + count)) (lines_of (drop (at + (end + 1)) s)))) q
 
-        stopped_at : (e : StoreError) → r ≡ Err e → Comes g i t s a' heads' next' old own line x.ks f r
-            → Takes (behind g i t own) s from hs (record { answer = Err e; at = at; count = count; filled = f.count })
-            (Tabled i t s a' old f.count)
-        stopped_at e z (goes f' js q v p) = let n : ◌≡◌ {A = ℕ} 0 1 = cc in absurd (omega arith)
+        stopped_at : (e : StoreError) → r ≡ Err e → Comes g i t s a' heads' next' old own line x.ks w r
+            → Takes (behind g i t own) s from hs (record { answer = Err e; at = at; count = count; filled = w.fill.count })
+            (Tabled i t s a' old w.fill.count)
+        stopped_at e z (goes w' js q v p) = let n : ◌≡◌ {A = ℕ} 0 1 = cc in absurd (omega arith)
         stopped_at e z (stops e' q v p) =
             let n : e' ≡ e = cc in
             halted x.ks e refl
             (subst (λ (m : StoreError). (c : ℕ) → insert_lines by hs c (lines_of (drop from s))
             ≡ insert_turn x.ks (Err m) (c + count)) n (runs (stopped (Err e')) q)) x.keeps p
 
-        next_line : own < 256 → (f' : Fill) → r ≡ Ok f' → Comes g i t s a' heads' next' old own line x.ks f r
-            → Took g i t s a' heads' next' own from old f' (at + (end + 1)) (count + 1) hs
-        next_line byte f' z (stops e' q v p) = let n : ◌≡◌ {A = ℕ} 0 1 = cc in absurd (omega arith)
-        next_line byte f' z (goes f'' js q v p) =
-            let n : f'' ≡ f' = cc in
+        next_line : own < 256 → (w' : Standing) → r ≡ Ok w' → Comes g i t s a' heads' next' old own line x.ks w r
+            → Took g i t s a' heads' next' own from old w' (at + (end + 1)) (count + 1) hs
+        next_line byte w' z (stops e' q v p) = let n : ◌≡◌ {A = ℕ} 0 1 = cc in absurd (omega arith)
+        next_line byte w' z (goes w'' js q v p) =
+            let n : w'' ≡ w' = cc in
             record {
               ks = js;
               others = after_others by x.ks line js q ∙ x.others;
-              in_rows = subst (λ (m : Fill). InRows i t s a' heads' next' old m js) n p;
+              standing = subst (λ (m : Standing). InStanding i t s a' heads' next' old m js) n p;
               keeps = λ b. subst (Kept by) q (keeps_reach by o.each byte x.ks (x.keeps b) line);
               run = λ c.
                   let more : suc (c + count) ≡ c + (count + 1) = omega arith in
@@ -230,29 +233,29 @@ module _ {d : Dues} {i t s : List ℕ} {a₀ : List Row} {heads₀ next₀ : Lis
             }
 
       pub take_off : (e : StoreError) → r ≡ Err e
-          → TakesLines d i t s a₀ heads₀ next₀ own from f₀ a'
-          (record { answer = Err e; at = at; count = count; filled = f.count })
-          × Went s from f₀.count (length a₀) (record { answer = Err e; at = at; count = count; filled = f.count })
+          → TakesLines d i t s a₀ heads₀ next₀ own from w₀ a'
+          (record { answer = Err e; at = at; count = count; filled = w.fill.count })
+          × Went s from w₀.fill.count (length a₀) (record { answer = Err e; at = at; count = count; filled = w.fill.count })
       take_off e z = (
         λ g old hs o p.
-            let x : Took g i t s a heads next own from old f at count hs = w.took g old hs o p in
+            let x : Took g i t s a heads next own from old w at count hs = k.took g old hs o p in
             stopped_at g old hs o x e z (comes g old hs o x),
         record {
-          within = w.within;
-          counted = w.counted;
+          within = k.within;
+          counted = k.counted;
           moved = λ p q o. let n : ◌≡◌ {A = ℕ} 0 1 = cc in absurd (omega arith);
         },
       )
 
-      pub take-turn : own < 256 → (f' : Fill) → r ≡ Ok f'
-          → Taking d i t s a₀ heads₀ next₀ own from f₀ a' heads' next' f' (at + (end + 1)) (count + 1)
-      take-turn byte f' z = record {
+      pub take-turn : own < 256 → (w' : Standing) → r ≡ Ok w'
+          → Taking d i t s a₀ heads₀ next₀ own from w₀ a' heads' next' w' (at + (end + 1)) (count + 1)
+      take-turn byte w' z = record {
         within = omega (arith, l, end_within at s end e);
-        counted = omega (arith, w.counted);
-        still = λ v. absurd (omega (arith, w.counted));
+        counted = omega (arith, k.counted);
+        still = λ v. absurd (omega (arith, k.counted));
         took = λ g old hs o p.
-            let x : Took g i t s a heads next own from old f at count hs = w.took g old hs o p in
-            next_line g old hs o x byte f' z (comes g old hs o x);
+            let x : Took g i t s a heads next own from old w at count hs = k.took g old hs o p in
+            next_line g old hs o x byte w' z (comes g old hs o x);
       }
 
 -- the end of a batch
@@ -262,19 +265,26 @@ takes_held (onward ks o run g p) = (ks, p)
 takes_held (halted ks e o run g p) = (ks, p)
 
 module _ (d : Dues) (g i t s : List ℕ) (a : List Row) (heads next : List ℕ) (f : Fill) (own : ℕ)
-    (loaded : Loads i a heads next f) (owed : (hs : List Held) → decode i t ≡ some hs → Owed g own hs d) where
-  pub loads_held : known (decode i t) ≡ true → SomeRows d own i t s a heads next f
+    (loaded : Loads i a heads next f) (b₀ : Border) (bordered : Bordered a f.count b₀)
+    (owed : (hs : List Held) → decode i t ≡ some hs → Owed g own hs d) where
+  abbrev w₀ : Standing
+  w₀ = record { fill = f; border = b₀ }
+
+  stood : (hs : List Held) → decode i t ≡ some hs → InStanding i t s a heads next f.count w₀ hs
+  stood hs e = record { in_rows = loaded t s hs e; bordered = bordered }
+
+  pub loads_held : known (decode i t) ≡ true → SomeRows d own i t s a heads next (record { fill = f; border = b₀ })
   loads_held k =
       let q : (hs : List Held) × (decode i t ≡ some hs) = lines_of_lem (decode i t) k in
-      (g, (f.count, (q.0, (owed q.0 q.1, loaded t s q.0 q.1))))
+      (g, (f.count, (q.0, (owed q.0 q.1, stood q.0 q.1))))
 
   module _ (from : ℕ) (b : List Row) (r : Walked)
-      (takes : TakesLines d i t s a heads next own from f b r) where
+      (takes : TakesLines d i t s a heads next own from (record { fill = f; border = b₀ }) b r) where
     abbrev By : (List Held → Type 0) → List Held → Type 0
     By P hs = Takes (behind g i t own) s from hs r P
 
     took : (hs : List Held) → decode i t ≡ some hs → By (Tabled i t s b f.count r.filled) hs
-    took hs e = takes g f.count hs (owed hs e) (loaded t s hs e)
+    took hs e = takes g f.count hs (owed hs e) (stood hs e)
 
     pub batch_settles : known (decode i t) ≡ true → Settles i t s b f r.filled
     batch_settles k =

@@ -200,7 +200,7 @@ pub fits_none : (n m : ℕ) → Fits n m nothing_held
 fits_none n m = record {
   given = record {
     each = length-replicate {A = ℕ} owners 0;
-    two = λ o. omega (arith, none_share owners o);
+    four = λ o. omega (arith, none_share owners o);
   };
   front = omega (arith, none_size owners);
   good = keeps_none (n - share_sizes no_shares) m;
@@ -244,10 +244,10 @@ module _ (s : List ℕ) (given : Given s) (o b : ℕ) (byte : o < 256) where
   within_each : o < length s
   within_each = omega (arith, given.each)
 
-  set_given : b ≤ 65535 → Given (set s o b)
-  set_given l = record { each = set_each; two = λ k. go k (eqb k o) refl }
+  set_given : b ≤ 4294967295 → Given (set s o b)
+  set_given l = record { each = set_each; four = λ k. go k (eqb k o) refl }
     where
-      go : (k : ℕ) (t : Bool) → eqb k o ≡ t → get_or (set s o b) k 0 ≤ 65535
+      go : (k : ℕ) (t : Bool) → eqb k o ≡ t → get_or (set s o b) k 0 ≤ 4294967295
       go k true e =
           let z : get_or (set s o b) k 0 ≡ b
           = ap (λ (j : ℕ). get_or (set s o b) j 0) (eqb-true k o e) ∙ get_or-set_same s o b 0 within_each in
@@ -255,7 +255,7 @@ module _ (s : List ℕ) (given : Given s) (o b : ℕ) (byte : o < 256) where
       go k false e =
           let z : get_or (set s o b) k 0 ≡ get_or s k 0
           = get_or-set_other s o k b 0 (λ q. eqb-false k o e q) in
-          omega (arith, z, given.two k)
+          omega (arith, z, given.four k)
 
   -- a share that is accepted is at most what all parties claim
   share_least : (hs : List Held) → b ≤ claims (set s o b) hs
@@ -276,8 +276,8 @@ module _ (n m : ℕ) (lm : m ≤ text_max) (c : Content) (f : Fits n m c) (o b :
   unfolding over_text over_index
   fits_set e q =
       let within : claims d.shares d.held ≤ m = ltb-false m (claims d.shares d.held) e in
-      let room : share_sizes d.shares + record_sizes d.held ≤ n
-      = ltb-false n (share_sizes d.shares + record_sizes d.held) q in
+      let room : share_sizes d.shares + record_sizes 0 d.held ≤ n
+      = ltb-false n (share_sizes d.shares + record_sizes 0 d.held) q in
       record {
         given = set_given c.shares f.given o b byte
             (omega (arith, within, lm, share_least c.shares f.given o b byte c.held));

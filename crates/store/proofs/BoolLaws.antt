@@ -44,3 +44,7 @@ and_false_right false b e = refl
 pub and_assoc : (a b c : Bool) → (a && b) && c ≡ a && (b && c)
 and_assoc true b c = refl
 and_assoc false b c = refl
+
+pub not_or : (a : Bool) → not a || a ≡ true
+not_or true = refl
+not_or false = refl

@@ -6,10 +6,10 @@ use mathlib.Core.Path.{◌≡◌, refl, sym, ap, ap₂, ◌∙◌}
 use Prim.Native.Nat.{ℕ, ◌/◌, ◌%◌}
 use native.Mathlib.Omega.{arith}
 use lib.Dec.{eqb}
-use Rattle.std.specs.Int.{to_be_bytes, w16, w64}
+use Rattle.std.specs.Int.{to_be_bytes, w16, w32, w64}
 use Rattle.text.specs.Inner.{every}
 use Rattle.store.specs.Decode.{zeroes}
-use Rattle.store.specs.Inner.{be2, be8}
+use Rattle.store.specs.Inner.{be2, be4, be8}
 use Rattle.store.proofs.BoolLaws.{and_assoc}
 
 and_true : (b : Bool) → b && true ≡ b
@@ -31,6 +31,11 @@ zeroes_push (y ∷ s) x =
 -- the bytes of a number
 pub two_bytes : (x : ℕ) → to_be_bytes w16 (x % 65536) ≡ be2 x
 two_bytes x = ap₂ (λ (a b : ℕ). a ∷ b ∷ []) (omega arith) (omega arith)
+
+pub four_bytes : (x : ℕ) → to_be_bytes w32 x ≡ be4 x
+four_bytes x =
+    let e3 : x / 65536 / 256 ≡ x / 16777216 = omega arith in
+    cc
 
 pub eight_bytes : (x : ℕ) → to_be_bytes w64 x ≡ be8 x
 eight_bytes x =

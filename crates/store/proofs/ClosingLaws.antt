@@ -56,9 +56,13 @@ module _ (a : List Row) (old at off k : ℕ) (w : Keeping a old at off k) where
   keep_end = record { rows = w.rows; whole = w.whole; takes = w.takes }
 
   module _ (l : k < old) (n : len_in a k ≡ 0 → ⊥) (size : ℕ)
-      (z : Sized (key_in a k) size) where
+      (z : Sized (key_in a k) off size) where
     abbrev g : Keepable a old
     g = w.given
+
+    -- where that line starts
+    at_off : (n : ℕ) → off ≡ n → Sized (key_in a k) n size
+    at_off n e = subst (λ (m : ℕ). Sized (key_in a k) m size) e z
 
     pub keep_fits : (at + size ≤ index_max) × (off + len_in a k ≤ text_max)
     keep_fits =
@@ -68,7 +72,7 @@ module _ (a : List Row) (old at off k : ℕ) (w : Keeping a old at off k) where
           omega (
             arith,
             t.0,
-            place_more g.tabled k b n size z,
+            place_more g.tabled k b n size (at_off _ t.1),
             sizes_within g.tabled (k + 1) (omega arith),
             g.index,
           ),
@@ -89,7 +93,7 @@ module _ (a : List Row) (old at off k : ℕ) (w : Keeping a old at off k) where
       takes = λ i t s c hs T.
           let b : k < c = omega (arith, T.olds) in
           let v : Takes_up (living (line_at t s a old) k) at off = w.takes i t s c hs T in (
-            ap (λ (m : ℕ). m + size) v.0 ∙ place_more T k b n size z,
+            ap (λ (m : ℕ). m + size) v.0 ∙ place_more T k b n size (at_off _ v.1),
             ap (λ (m : ℕ). m + len_in a k) v.1 ∙ used_more T k b n,
           );
     }
@@ -97,7 +101,7 @@ module _ (a : List Row) (old at off k : ℕ) (w : Keeping a old at off k) where
 -- the same of row k where the first `old` rows are taken
 module _ (a : List Row) (old at off k : ℕ) (w : Keeping a old at off k) (h : k < length (take old a))
     (n : (get_or (take old a) k unused).len ≡ 0 → ⊥) (size : ℕ)
-    (z : Sized (get_or (take old a) k unused).key size) where
+    (z : Sized (get_or (take old a) k unused).key off size) where
   old_row : k < old
   old_row = omega (arith, h, length-take old a)
 
@@ -107,8 +111,8 @@ module _ (a : List Row) (old at off k : ℕ) (w : Keeping a old at off k) (h : k
   some_len : len_in a k ≡ 0 → ⊥
   some_len e = n (ap (λ (r : Row). r.len) taken ∙ e)
 
-  sized : Sized (key_in a k) size
-  sized = subst (λ (r : Row). Sized r.key size) taken z
+  sized : Sized (key_in a k) off size
+  sized = subst (λ (r : Row). Sized r.key off size) taken z
 
   pub taken_fits : (at + size ≤ index_max) × (off + (get_or (take old a) k unused).len ≤ text_max)
   taken_fits = subst (λ (r : Row). (at + size ≤ index_max) × (off + r.len ≤ text_max)) (sym taken)
@@ -174,7 +178,7 @@ module _ {part t s : List ℕ} {a : List Row} {kept : Kept} {was : Fill} {c : �
         ≤ length (mid_of at (length part' - at) part')
     close_fits = omega (arith, fits_index w.run l n, front_long, tail_length at part', close_within)
 
-    pub close_turn : (size : ℕ) → Sized (key_in a k) size → (ys t'' : List ℕ)
+    pub close_turn : (size : ℕ) → Sized (key_in a k) off size → (ys t'' : List ℕ)
         → ys ≡ record_bytes (key_in a k) off (len_in a k)
         ++ drop (length (record_bytes (key_in a k) off (len_in a k)))
         (mid_of at (length part' - at) part')

@@ -18,7 +18,7 @@ use Rattle.store.proofs.ShareLaws.{length_shares, front_is, given_front, encode_
 use Rattle.store.proofs.ShareLaws.{content_parts, content_encoded}
 
 -- what fills a buffer up fits in it
-padded_fits : (n : ℕ) (s b : List ℕ) → b ≡ padded n s → length b ≡ n → length s ≤ n
+pub padded_fits : (n : ℕ) (s b : List ℕ) → b ≡ padded n s → length b ≡ n → length s ≤ n
 unfolding padded
 padded_fits n s b e l = omega (arith, simp (length-append, length-replicate) at (ap length e))
 

@@ -1,7 +1,8 @@
--- Filing a line by number: the row before with its key is struck out, and the new line is the last one.
+-- Filing a line by number: the row before with its key is struck out, and the new line is the last one. Where there is no
+-- room, that row's length is put back.
 -- Assumes nothing.
 use Rattle.std.specs.Prelude.{Ok, Err}
-use mathlib.Core.Bool.{Bool}
+use mathlib.Core.Bool.{Bool, true, false}
 use mathlib.Core.List.{List, [], ◌∷◌, ◌++◌}
 use mathlib.Core.Logic.{⊎_elim}
 use mathlib.Core.Path.{◌≡◌, refl, sym, ap, ap₂, ◌∙◌, subst}
@@ -12,37 +13,39 @@ use lib.Dec.{eqb}
 use lib.ListN.{length, take, drop, length-drop}
 use lib.Seq.{length-take-le}
 use borrow.Author.Count.{below_more}
-use borrow.Author.Tests.{ne_eqb, le-ltb}
+use borrow.Author.Tests.{eqb-false, ne_eqb, le-ltb}
 use Rattle.text.specs.Bytes.{pick}
 use Rattle.store.specs.declared.rows.Row.{Row}
-use Rattle.store.specs.declared.table.Fill.{Fill}
+use Rattle.store.specs.declared.border.Standing.{Standing}
 use Rattle.store.specs.declared.claims.Dues.{Dues}
 use Rattle.store.specs.Book.{room_for}
+use Rattle.store.specs.Border.{Replaces, Replaced}
 use Rattle.store.specs.Decode.{decode}
 use Rattle.store.specs.Held.{Key, Held, file}
-use Rattle.store.specs.Inner.{Sized, sizes, behind}
+use Rattle.store.specs.Inner.{sizes, behind}
 use Rattle.store.specs.Keys.{Chained, Sought}
-use Rattle.store.specs.Layout.{record_bytes, texts}
-use Rattle.store.specs.Rows.{row_in, key_in, start_in, len_in, row_put}
-use Rattle.store.specs.Table.{living, source_of, line_at, Tabled, InRows, len_before, Begins, struck_before}
-use Rattle.store.specs.Table.{Ends, Files', Filed, fits, full}
-use Rattle.store.specs.Shares.{larger}
-use Rattle.store.proofs.FilingLaws.{new_size, others_less, index_lacks, text_lacks, both_there, text_there}
-use Rattle.store.proofs.HeldLaws.{texts-file}
+use Rattle.store.specs.Layout.{texts}
+use Rattle.store.specs.Rows.{row_in, key_in, start_in, len_in, row_put, len_put, len_before, put_before}
+use Rattle.store.specs.Table.{living, source_of, line_at, Tabled, InRows, InStanding, Begins}
+use Rattle.store.specs.Table.{Weighable, room_by, Files', Filed, fits, full}
+use Rattle.store.proofs.FilingLaws.{others_less, room_is, index_there, text_there}
 use Rattle.store.proofs.LivingLaws.{gives_none}
-use Rattle.store.proofs.RecordLaws.{size_move}
 use Rattle.store.proofs.RowLaws.{texts-none}
-use Rattle.store.proofs.StruckLaws.{Struck, struck, Before, before, tabled_more, key_before, key_new}
+use Rattle.store.proofs.StandingLaws.{measured_end, measured_used, measured_same, standing_measured}
+use Rattle.store.proofs.StruckLaws.{Struck, struck, Before, before, tabled_same, row_before, row_new, key_before, key_new}
 use Rattle.store.proofs.TableLaws.{chained_agree, living-same, living_most, gives_same}
-use Rattle.store.specs.declared.table.Full.TheVariants as R
+use Rattle.store.proofs.WriteLaws.{put_long, len_back}
 use Rattle.store.specs.declared.table.Full.{Full}
 
-module _ {g : List ℕ} {d : Dues} {i t s : List ℕ} {a : List Row} {heads next : List ℕ} {old : ℕ} {f : Fill}
-    {u : Key} {start len : ℕ} {hs : List Held} (w : Files' g d i t s a heads next old f u start len hs)
-    (cl : f.count < length a)
+module _ {g : List ℕ} {d : Dues} {i t s : List ℕ} {a : List Row} {heads next : List ℕ} {old : ℕ} {w : Standing}
+    {u : Key} {start len : ℕ} {hs : List Held} (z : Files' g d i t s a heads next old w u start len hs)
+    (cl : w.fill.count < length a)
   where
+    abbrev n : ℕ
+    n = w.fill.count
+
     abbrev a' : List Row
-    a' = row_put a f.count u start len
+    a' = row_put a n u start len
 
     abbrev K' : ℕ → Key
     K' k = key_in a' k
@@ -50,203 +53,204 @@ module _ {g : List ℕ} {d : Dues} {i t s : List ℕ} {a : List Row} {heads next
     abbrev S : ℕ → List Held
     S k = line_at t s a old k
 
-    abbrev x : InRows i t s a heads next old f hs
-    x = w.in_rows
+    abbrev x : InRows i t s a heads next old w.fill hs
+    x = z.standing.in_rows
 
-    module _ (had : ℕ) (b : List Row) where
+    abbrev h : Held
+    h = record { key = u; line = take len (drop start s) }
+
+    len_is : length (take len (drop start s)) ≡ len
+    len_is = length-take-le len (drop start s) (omega (arith, length-drop start s, z.inside))
+
+    module _ (b : List Row) where
       abbrev S'' : ℕ → List Held
       S'' k = line_at t s b old k
 
       -- filed: one number more
-      module _ (y : Struck x u start len cl had b) where
-        new_line : S'' f.count ≡ record { key = u; line = take len (drop start s) } ∷ []
+      module _ (y : Struck x u start len cl b) where
+        new_line : S'' n ≡ record { key = u; line = take len (drop start s) } ∷ []
         unfolding line_at
         new_line =
             ap (λ (r : Row). pick (eqb r.len 0) []
-            (record { key = r.key; line = take r.len (drop r.start (source_of t s old f.count)) } ∷ []))
+            (record { key = r.key; line = take r.len (drop r.start (source_of t s old n)) } ∷ []))
             y.last
             ∙ ap₂ (λ (c d : Bool). pick c [] (record { key = u; line = take len (drop start (pick d t s)) } ∷ []))
-            (ne_eqb len 0 (λ z. omega (arith, new_some w.shape.some))) (le-ltb f.count old x.tabled.olds)
-          where
-            new_some : 1 ≤ length (take len (drop start s)) → 1 ≤ len
-            new_some p = omega (
-              arith,
-              p,
-              length-take-le len (drop start s) (omega (arith, length-drop start s, w.inside)),
-            )
+            (ne_eqb len 0 (λ e. omega (arith, z.shape.some, len_is))) (le-ltb n old x.tabled.olds)
 
-        filed_is : file (record { key = u; line = take len (drop start s) }) hs ≡ living S'' (f.count + 1)
+        filed_is : file (record { key = u; line = take len (drop start s) }) hs ≡ living S'' (n + 1)
         filed_is =
             unfold file in (ap₂ (λ (v q : List Held). v ++ q) y.lines (sym new_line))
-            ∙ sym (ap (living S'') (add-one f.count) ∙ unfold living in refl)
+            ∙ sym (ap (living S'') (add-one n) ∙ unfold living in refl)
 
-        given_least : (k : ℕ) → k < f.count → length (texts (S'' k)) ≤ length (texts (S k))
+        given_least : (k : ℕ) → k < n → length (texts (S'' k)) ≤ length (texts (S k))
         given_least k l = ⊎_elim
             (λ e. omega (arith, ap (λ (v : List Held). length (texts v)) (gives_none t s b old k e), texts-none))
             (λ e. omega (arith, ap (λ (v : List Held). length (texts v)) (gives_same t s a b old k e)))
             (y.either k l)
 
-        len_is : length (take len (drop start s)) ≡ len
-        len_is = length-take-le len (drop start s) (omega (arith, length-drop start s, w.inside))
+        -- a row that is not struck out is as it was
+        intact : (j : ℕ) → j < n → (len_in b j ≡ 0 → ⊥) → row_in b j ≡ row_in a j
+        intact j l f = ⊎_elim (λ e. absurd (f e)) (λ e. e) (y.either j l)
 
-        abbrev h : Held
-        h = record { key = u; line = take len (drop start s) }
+        shorter : (k : ℕ) → k < n → len_in b k ≤ len_in a k
+        shorter k l = ⊎_elim (λ e. omega (arith, e)) (λ e. omega (arith, ap (λ (r : Row). r.len) e))
+            (y.either k l)
 
-        -- what the room is measured by
-        sized : Sized u (length (record_bytes u 0 0))
-        sized off l = size_move u 0 off 0 l
+        inside' : (k : ℕ) → k < n + 1 → start_in b k + len_in b k ≤ length (source_of t s old k)
+        inside' = below_more (λ (k : ℕ). start_in b k + len_in b k ≤ length (source_of t s old k)) n
+            (λ k l. omega (arith, y.starts k l, x.tabled.inside k l, shorter k l))
+            (subst (λ (c : Bool). start_in b n + len_in b n ≤ length (pick c t s)) (sym (le-ltb n old x.tabled.olds))
+            (omega (arith, ap (λ (r : Row). r.start) y.last, ap (λ (r : Row). r.len) y.last, z.inside)))
 
-        used_is : f.used - had + len ≡ length (texts (file h hs))
-        used_is = omega (arith, x.used, y.text, len_is, texts-file h hs)
+        older' : (j k : ℕ) → j < k → k < n + 1 → K' j ≡ K' k → len_in b j ≡ 0
+        older' j k l v o =
+            below_more (λ (k : ℕ). j < k → K' j ≡ K' k → len_in b j ≡ 0) n
+            (λ k p c e.
+            let m : len_in a j ≡ 0
+            = x.older j k c p
+            (sym (key_before x u start len cl j (omega arith)) ∙ e ∙ key_before x u start len cl k p) in
+            ⊎_elim (λ g. g) (λ g. ap (λ (r : Row). r.len) g ∙ m) (y.either j (omega arith)))
+            (λ c e. y.once j c (sym (key_before x u start len cl j c) ∙ e ∙ key_new x u start len cl)) k v l o
 
-        pub used_had : had ≤ f.used
-        used_had = omega (arith, x.used, y.text)
+        -- what is filled then
+        module _ (v : Standing) (c : Replaced b w v) where
+          inside_v : (k : ℕ) → k < v.fill.count → start_in b k + len_in b k ≤ length (source_of t s old k)
+          inside_v k l = inside' k (omega (arith, c.count))
 
-        pub others_below : d.theirs ≤ f.used - had + len
-        others_below = others_less g i t h hs d w.owed _ _ refl used_is
+          filed_v : file (record { key = u; line = take len (drop start s) }) hs ≡ living S'' v.fill.count
+          filed_v = filed_is ∙ ap (living S'') (sym c.count)
 
-        module _ (e : ℕ) (ee : Ends f.end had u e) where
-          end_is : e ≡ sizes 0 (file h hs)
-          end_is = ee 0 0
-              ∙ ap (λ (v : ℕ). pick (eqb had 0) (v + length (record_bytes u 0 0)) v) x.end
-              ∙ y.index (length (record_bytes u 0 0)) sized
-              ∙ sym (new_size h hs (length (record_bytes u 0 0)) sized)
+          end_is : v.fill.end ≡ sizes 0 (file h hs)
+          end_is = measured_end t s b old v inside_v c.measured ∙ ap (sizes 0) (sym filed_v)
 
-          pub full_index : length i < e → room_for (behind g i t u.owner) h hs ≡ Err R.Index
-          full_index l = index_lacks g i t h hs d w.owed e _ end_is used_is l
+          used_is : v.fill.used ≡ length (texts (file h hs))
+          used_is = measured_used t s b old v inside_v c.measured ∙ ap (λ (q : List Held). length (texts q)) (sym filed_v)
 
-          -- with room in the index: `all` is what is then claimed
-          module _ (p : e ≤ length i) (all : ℕ)
-              (ev : all ≡ d.others + larger (f.used - had + len - d.theirs) d.share) where
-            pub full_text : length t < all → room_for (behind g i t u.owner) h hs ≡ Err R.Text
-            full_text l = text_lacks g i t h hs d w.owed e _ end_is used_is all ev p l
+          pub weighs : Weighable d v.fill
+          weighs = record {
+            theirs = others_less g i t h hs d z.owed v.fill end_is used_is;
+            used = c.most;
+            others = z.owed.others_most;
+            share = z.owed.share_most;
+          }
 
-            module _ (q : all ≤ length t) where
-              pub has_room : room_for (behind g i t u.owner) h hs ≡ Ok tt
-              has_room = both_there g i t h hs d w.owed e _ end_is used_is all ev p q
+          pub room_same : room_by d (length i) (length t) v.fill ≡ room_for (behind g i t u.owner) h hs
+          room_same = room_is g i t h hs d z.owed v.fill end_is used_is
 
-              older' : (j k : ℕ) → j < k → k < f.count + 1 → K' j ≡ K' k → len_in b j ≡ 0
-              older' j k l v o =
-                  below_more (λ (k : ℕ). j < k → K' j ≡ K' k → len_in b j ≡ 0) f.count
-                  (λ k b c z.
-                  let n : len_in a j ≡ 0
-                  = x.older j k c b
-                  (sym (key_before x u start len cl j (omega arith)) ∙ z ∙ key_before x u start len cl k b) in
-                  ⊎_elim (λ g. g) (λ g. ap (λ (r : Row). r.len) g ∙ n) (y.either j (omega arith)))
-                  (λ c z. y.once j c (sym (key_before x u start len cl j c) ∙ z
-                  ∙ key_new x u start len cl)) k v l o
+          module _ (fit : room_by d (length i) (length t) v.fill ≡ Ok tt) where
+            tabled_v : Tabled i t s b old (n + 1) (file h hs)
+            tabled_v = record {
+              is = filed_is;
+              inside = inside';
+              ahead = λ k l. omega (
+                arith,
+                x.tabled.ahead k l,
+                y.starts k (omega (arith, x.tabled.olds)),
+                living_most S S'' k (λ j p. given_least j (omega (arith, x.tabled.olds))),
+              );
+              stands = λ k l f. subst (λ (q : List Held). Begins (decode i t) q)
+                  (living-same S S'' k (λ j p. sym (gives_same t s a b old j
+                  (intact j (omega (arith, x.tabled.olds)) (f j p)))))
+                  (x.tabled.stands k l
+                  (λ j p e. f j p (ap (λ (r : Row). r.len) (intact j (omega (arith, x.tabled.olds)) (f j p))
+                  ∙ e)));
+              olds = omega (arith, x.tabled.olds);
+              most = omega (arith, cl, y.long);
+              good = record {
+                index = omega (arith, end_is, index_there g i t h hs d z.owed v.fill end_is used_is fit);
+                text = text_there g i t h hs d z.owed v.fill end_is used_is fit;
+              };
+            }
 
-              pub rows_more : (heads' next' : List ℕ) → Chained K' heads' next' (f.count + 1)
-                  → InRows i t s b heads' next' old
-                  (record { count = f.count + 1; end = e; used = f.used - had + len }) (file h hs)
-              rows_more heads' next' ch = record {
-                tabled = record {
-                  is = filed_is;
-                  inside = below_more (λ (k : ℕ). start_in b k + len_in b k ≤ length (source_of t s old k))
-                      f.count
-                      (λ k l. omega (arith, y.starts k l, x.tabled.inside k l, shorter k l))
-                      (subst (λ (c : Bool). start_in b f.count + len_in b f.count ≤ length (pick c t s))
-                      (sym (le-ltb f.count old x.tabled.olds))
-                      (omega (
-                        arith,
-                        ap (λ (r : Row). r.start) y.last,
-                        ap (λ (r : Row). r.len) y.last,
-                        w.inside,
-                      )));
-                  ahead = λ k l. omega (
-                    arith,
-                    x.tabled.ahead k l,
-                    y.starts k (omega (arith, x.tabled.olds)),
-                    living_most S S'' k (λ j z. given_least j (omega (arith, x.tabled.olds))),
-                  );
-                  stands = λ k l z. subst (λ (v : List Held). Begins (decode i t) v)
-                      (living-same S S'' k (λ j p. sym (gives_same t s a b old j
-                      (intact j (omega (arith, x.tabled.olds)) (z j p)))))
-                      (x.tabled.stands k l
-                      (λ j p e. z j p (ap (λ (r : Row). r.len) (intact j (omega (arith, x.tabled.olds)) (z j p))
-                      ∙ e)));
-                  olds = omega (arith, x.tabled.olds);
-                  most = omega (arith, y.long);
-                  good = record {
-                    index = omega (arith, end_is);
-                    text = text_there g i t h hs d w.owed e _ end_is used_is all ev q;
-                  };
-                };
-                older = λ j k l v o. older' j k l v (y.keys j (omega arith) ∙ o ∙ sym (y.keys k v));
-                chained = chained_agree K' (key_in b) (f.count + 1) y.keys heads' next' ch;
+            pub rows_more : (heads' next' : List ℕ) → Chained K' heads' next' (n + 1)
+                → InStanding i t s b heads' next' old v (file h hs)
+            rows_more heads' next' ch = record {
+              in_rows = record {
+                tabled = subst (λ (m : ℕ). Tabled i t s b old m (file h hs)) (sym c.count) tabled_v;
+                older = λ j k l q o. older' j k l (omega (arith, c.count))
+                    (y.keys j (omega (arith, c.count)) ∙ o ∙ sym (y.keys k (omega (arith, c.count))));
+                chained = subst (Chained (key_in b) heads' next') (sym c.count)
+                    (chained_agree K' (key_in b) (n + 1) y.keys heads' next' ch);
                 end = end_is;
                 used = used_is;
                 limits = x.limits;
-              }
-                where
-                  -- a row that is not struck out is as it was
-                  intact : (j : ℕ) → j < f.count → (len_in b j ≡ 0 → ⊥) → row_in b j ≡ row_in a j
-                  intact j l n = ⊎_elim (λ e. absurd (n e)) (λ e. e) (y.either j l)
-
-                  shorter : (k : ℕ) → k < f.count → len_in b k ≤ len_in a k
-                  shorter k l = ⊎_elim (λ g. omega (arith, g)) (λ g. omega (arith, ap (λ (r : Row). r.len) g))
-                      (y.either k l)
-
-    abbrev h' : Held
-    h' = record { key = u; line = take len (drop start s) }
+              };
+              bordered = c.measured.bordered;
+            }
 
     -- the new line is put down as the last one of b, and the one held under its key takes `had` bytes
     pub record Placed (b : List Row) (r had : ℕ) : Type 0 where
-      pub put : b ≡ row_put a f.count u start len
-      pub sought : Sought (key_in b) f.count r
-      pub least : r ≤ f.count
+      pub put : b ≡ row_put a w.fill.count u start len
+      pub sought : Sought (key_in b) w.fill.count r
+      pub least : r ≤ w.fill.count
       pub taken : had ≡ len_before b r
 
-    module _ {b : List Row} {r had : ℕ} (z : Placed b r had) where
-      sought' : Sought K' f.count r
-      sought' = subst (λ (v : List Row). Sought (key_in v) f.count r) z.put z.sought
+    module _ {b : List Row} {r had : ℕ} (p : Placed b r had) where
+      pub long_b : length b ≡ length a
+      long_b = ap length p.put ∙ put_long a n u start len
 
-      goes_out : (d : List Row) → d ≡ struck_before b r → Struck x u start len cl had d
-      goes_out d el = struck x u start len cl had d
-          (subst (λ (v : ℕ). Before x u start len cl v d)
-          (sym (z.taken ∙ ap (λ (v : List Row). len_before v r) z.put))
-          (subst (λ (v : List Row). Before x u start len cl (len_before a' r) v)
-          (sym (el ∙ ap (λ (v : List Row). struck_before v r) z.put)) (before x u start len cl r sought' z.least)))
+      kept_b : (k : ℕ) → k < w.fill.count → row_in b k ≡ row_in a k
+      kept_b k l = ap (λ (v : List Row). row_in v k) p.put ∙ row_before x u start len cl k l
 
-      pub had_less : had ≤ f.used
-      had_less = used_had had _ (goes_out _ refl)
+      last_b : row_in b w.fill.count ≡ record { key = u; start = start; len = len }
+      last_b = ap (λ (v : List Row). row_in v n) p.put ∙ row_new x u start len cl
 
-      pub used_most : f.used - had + len ≤ 131070
-      used_most = omega (
-        arith,
-        x.used,
-        x.tabled.good.text,
-        x.limits.1,
-        w.shape.most,
-        length-take-le len (drop start s) (omega (arith, length-drop start s, w.inside)),
-      )
+      pub replaces : {c : List Row} → c ≡ put_before b r 0 → Replaces b c w u r had len
+      replaces e = record {
+        measured = measured_same a b w kept_b (standing_measured z.standing);
+        few = omega (arith, cl, long_b);
+        fit = (
+          omega (arith, x.end, ap (sizes 0) x.tabled.is, x.tabled.good.index, x.limits.0),
+          (omega (arith, x.used, x.tabled.good.text, x.limits.1), omega (arith, z.shape.most, len_is)),
+        );
+        some = omega (arith, z.shape.some, len_is);
+        least = p.least;
+        struck_len = p.taken;
+        struck = e;
+        same = λ l. ap (λ (k : Key). k.owner) (p.sought.hit l p.least ∙ ap (λ (v : Row). v.key) last_b);
+        last_key = ap (λ (v : Row). v.key) last_b;
+        last_len = ap (λ (v : Row). v.len) last_b;
+      }
 
-      pub dues_less : d.theirs ≤ f.used - had + len
-      dues_less = others_below had _ (goes_out _ refl)
+      module _ {c : List Row} (e : c ≡ put_before b r 0) where
+        goes_out : Struck x u start len cl c
+        goes_out = struck x u start len cl c
+            (subst (Before x u start len cl) (sym (e ∙ ap (λ (v : List Row). put_before v r 0) p.put))
+            (before x u start len cl r (subst (λ (v : List Row). Sought (key_in v) n r) p.put p.sought) p.least))
 
-      module _ {e : ℕ} (ee : Ends f.end had u e) {heads' next' : List ℕ} where
-        no_room : (v : Full) → room_for (behind g i t u.owner) h' hs ≡ Err v
-            → Filed g i t s b heads' next' old f h' hs (Err v)
-        no_room v ev =
-            full v ev refl (subst (λ (v : List Row). Tabled i t s v old f.count hs) (sym z.put)
-            (tabled_more x u start len cl))
+        -- the length put back: no room
+        back : put_before c r had ≡ b
+        back = go (eqb r 0) refl
+          where
+            go : (q : Bool) → eqb r 0 ≡ q → put_before c r had ≡ b
+            go true q =
+                ap (λ (v : Bool). pick v c (len_put c (r - 1) had)) q
+                ∙ e ∙ ap (λ (v : Bool). pick v b (len_put b (r - 1) 0)) q
+            go false q =
+                let l : r ≡ 0 → ⊥ = eqb-false r 0 q in
+                let m : r - 1 < length b = omega (arith, p.least, cl, l, long_b) in
+                ap (λ (v : Bool). pick v c (len_put c (r - 1) had)) q
+                ∙ ap₂ (λ (v : List Row) (k : ℕ). len_put v (r - 1) k)
+                (e ∙ ap (λ (v : Bool). pick v b (len_put b (r - 1) 0)) q)
+                (p.taken ∙ ap (λ (v : Bool). pick v 0 (len_in b (r - 1))) q)
+                ∙ len_back b (r - 1) m
 
-        pub files_index : length i < e
-            → Filed g i t s b heads' next' old f h' hs (Err R.Index)
-        files_index l = no_room R.Index (full_index had _ (goes_out _ refl) e ee l)
+        pub can_weigh : {v : Standing} → Replaced c w v → Weighable d v.fill
+        can_weigh {v} q = weighs c goes_out v q
 
-        module _ (p : e ≤ length i) {all : ℕ}
-            (ev : all ≡ d.others + larger (f.used - had + len - d.theirs) d.share) where
-          pub files_text : length t < all
-              → Filed g i t s b heads' next' old f h' hs (Err R.Text)
-          files_text l = no_room R.Text (full_text had _ (goes_out _ refl) e ee p all ev l)
+        module _ {v : Standing} (q : Replaced c w v) {heads' next' : List ℕ} where
+          pub files_full : {o : List Row} → o ≡ put_before c r had → (k : Full)
+              → room_by d (length i) (length t) v.fill ≡ Err k
+              → Filed g i t s o heads' next' old w (record { key = u; line = take len (drop start s) }) hs (Err k)
+          files_full {o} f k l =
+              full k (sym (room_same c goes_out v q) ∙ l) refl
+              (subst (λ (y : List Row). Tabled i t s y old w.fill.count hs) (sym (f ∙ back))
+              (tabled_same x.tabled b long_b kept_b))
 
-          pub files_fit : all ≤ length t → Chained (key_in b) heads' next' (f.count + 1)
-              → {c : List Row} → c ≡ struck_before b r
-              → Filed g i t s c heads' next' old f h' hs
-              (Ok (record { count = f.count + 1; end = e; used = f.used - had + len }))
-          files_fit q ch {c} el =
-              let y : Struck x u start len cl had c = goes_out c el in
-              fits _ (has_room had c y e ee p all ev q) refl
-              (rows_more had c y e ee p all ev q heads' next'
-              (subst (λ (v : List Row). Chained (key_in v) heads' next' (f.count + 1)) z.put ch))
+          pub files_fit : Chained (key_in b) heads' next' (w.fill.count + 1)
+              → room_by d (length i) (length t) v.fill ≡ Ok tt
+              → Filed g i t s c heads' next' old w (record { key = u; line = take len (drop start s) }) hs (Ok v)
+          files_fit ch l =
+              fits v (sym (room_same c goes_out v q) ∙ l) refl
+              (rows_more c goes_out v q l heads' next'
+              (subst (λ (y : List Row). Chained (key_in y) heads' next' (n + 1)) p.put ch))

@@ -8,131 +8,194 @@ use Prim.Native.Nat.{ℕ, ◌+◌, ◌≤◌, ◌<◌}
 use native.Mathlib.Omega.{arith}
 use lib.Dec.{eqb, leb}
 use lib.ListN.{length, get_or, drop}
-use borrow.Author.Tests.{eq-eqb, ne_eqb, eqb-true, eqb-false, le-leb}
+use borrow.Author.Tests.{eq-eqb, ne_eqb, eqb-true, eqb-false, le-leb, lt-leb}
 use Rattle.text.specs.Bytes.{pick}
 use Rattle.store.specs.declared.records.Body.{Body}
 use Rattle.store.specs.declared.records.Head.{Head}
-use Rattle.store.specs.Decode.{body_at, owner_at, head_with, no_head, head_at}
-use Rattle.store.specs.Held.{record_size}
-use Rattle.store.specs.Inner.{body_size, HasRecord}
-use Rattle.store.proofs.RecordLaws.{head_none, head_cut, head_whole, Kinds, hall, owned, kinds, size_least}
+use Rattle.store.specs.declared.records.Kind.{Kind}
+use Rattle.store.specs.Decode.{body_at, offset_at, kind, kind_at, body_of, is_whole, head_at}
+use Rattle.store.specs.Held.{is_long, size_by}
+use Rattle.store.specs.Inner.{body_size, HasRecord, HasKind, TellsRecord, NotShort, Starts}
+use Rattle.store.proofs.BodyLaws.{offset_of_body}
+use Rattle.store.proofs.BoolLaws.{true-false, and_both, and_false_left, and_false_right}
+use Rattle.store.proofs.RecordLaws.{head_none, head_cut, head_whole, whole_long, Kinds, hall, owned, kinds, size_least}
 use Rattle.store.proofs.RecordLaws.{kind_size, kind_size_lem, some_is}
 
+-- the sizes of records, by their kinds
+pub size_owned : (o : ℕ) (long : Bool) → (o ≡ 0 → ⊥) → size_by o long ≡ pick long 24 22
+size_owned o true n = ap (λ (b : Bool). pick b 23 24) (ne_eqb o 0 n)
+size_owned o false n = ap (λ (b : Bool). pick b 21 22) (ne_eqb o 0 n)
+
+apart : (a : Bool) → ◌≡◌ {A = ℕ} (pick a 3 1) 2 → ⊥
+apart true e = omega (arith, e)
+apart false e = omega (arith, e)
+
+five : (a : Bool) → ◌≡◌ {A = ℕ} (pick a 3 1) 5 → ⊥
+five true e = omega (arith, e)
+five false e = omega (arith, e)
+
 module _ (i : List ℕ) where
+  abbrev x : ℕ
+  x = get_or i 0 0
+
+  abbrev y : ℕ
+  y = get_or i 1 0
+
   -- what the first two bytes tell
-  pub hall_told : get_or i 0 0 ≡ 1 → owner_at i ≡ some 0
-  unfolding owner_at
-  hall_told k = rw (eq-eqb (get_or i 0 0) 1 k)
+  pub hall_told : (long : Bool) → x ≡ pick long 2 1 → kind_at i ≡ some (kind 0 long)
+  unfolding kind_at
+  hall_told false k = rw (eq-eqb x 1 k)
+  hall_told true k =
+      let one : x ≡ 1 → ⊥ = λ z. omega (arith, k, z) in
+      rw (ne_eqb x 1 one, eq-eqb x 2 k)
 
-  pub owned_told : get_or i 0 0 ≡ 3 → (get_or i 1 0 ≡ 0 → ⊥) → owner_at i ≡ some (get_or i 1 0)
-  unfolding owner_at
-  owned_told k n =
-      let one : get_or i 0 0 ≡ 1 → ⊥ = λ z. omega (arith, k, z) in
-      let l : 1 ≤ get_or i 1 0 = omega (arith, n) in
-      rw (ne_eqb (get_or i 0 0) 1 one, eq-eqb (get_or i 0 0) 3 k, le-leb 1 (get_or i 1 0) l)
+  pub owned_told : (long : Bool) → x ≡ pick long 5 3 → (y ≡ 0 → ⊥) → kind_at i ≡ some (kind y long)
+  unfolding kind_at
+  owned_told false k n =
+      let one : x ≡ 1 → ⊥ = λ z. omega (arith, k, z) in
+      let two : x ≡ 2 → ⊥ = λ z. omega (arith, k, z) in
+      let l : 1 ≤ y = omega (arith, n) in
+      rw (ne_eqb x 1 one, ne_eqb x 2 two, eq-eqb x 3 k, le-leb 1 y l)
+  owned_told true k n =
+      let one : x ≡ 1 → ⊥ = λ z. omega (arith, k, z) in
+      let two : x ≡ 2 → ⊥ = λ z. omega (arith, k, z) in
+      let three : x ≡ 3 → ⊥ = λ z. omega (arith, k, z) in
+      let l : 1 ≤ y = omega (arith, n) in
+      rw (ne_eqb x 1 one, ne_eqb x 2 two, ne_eqb x 3 three, eq-eqb x 5 k, le-leb 1 y l)
 
-  other_told : (get_or i 0 0 ≡ 1 → ⊥) → (get_or i 0 0 ≡ 3 → ⊥) → owner_at i ≡ none
-  unfolding owner_at
-  other_told n m = rw (ne_eqb (get_or i 0 0) 1 n, ne_eqb (get_or i 0 0) 3 m)
+  other_told : (x ≡ 1 → ⊥) → (x ≡ 2 → ⊥) → (x ≡ 3 → ⊥) → (x ≡ 5 → ⊥) → kind_at i ≡ none
+  unfolding kind_at
+  other_told a b c d = rw (ne_eqb x 1 a, ne_eqb x 2 b, ne_eqb x 3 c, ne_eqb x 5 d)
 
-  zero_told : (get_or i 0 0 ≡ 1 → ⊥) → get_or i 1 0 ≡ 0 → owner_at i ≡ none
-  unfolding owner_at
-  zero_told n z = rw (ne_eqb (get_or i 0 0) 1 n, z) (go (eqb (get_or i 0 0) 3))
+  zero_told : (x ≡ 1 → ⊥) → (x ≡ 2 → ⊥) → y ≡ 0 → kind_at i ≡ none
+  unfolding kind_at
+  zero_told a b z = rw (ne_eqb x 1 a, ne_eqb x 2 b, z) (go (eqb x 3) (eqb x 5))
     where
-      go : (b : Bool) → pick {A = Option ℕ} (b && leb 1 0) (some 0) none ≡ none
-      go true = refl
-      go false = refl
+      go : (c d : Bool) → pick (c && leb 1 0) (some (kind 0 false)) (pick (d && leb 1 0) (some (kind 0 true)) none) ≡ none
+      go true true = refl
+      go true false = refl
+      go false true = refl
+      go false false = refl
+
+  -- a kind that is told stands there as a whole record, or no record does
+  tells : (k : Kind) → kind_at i ≡ some k → (b : Bool) → is_whole i k ≡ b → TellsRecord i b
+  tells k e b w = (λ t. record { kind = k; is = e; whole = w ∙ t }, λ f. head_cut i k e (w ∙ f))
+
+  tells_none : kind_at i ≡ none → TellsRecord i false
+  tells_none e = (λ t. absurd (true-false (sym t)), λ f. head_none i e)
 
   -- the exits of `stands`
-  pub stands_short : length i < 21 → no_head ≡ head_at i
-  stands_short l = go (owner_at i) refl
+  pub stands_short : length i < 21 → TellsRecord i false
+  stands_short l = go (kind_at i) refl
     where
-      go : (w : Option ℕ) → owner_at i ≡ w → no_head ≡ head_at i
-      go none e = head_none i e
-      go (some o) e = head_cut i o e (omega (arith, l, (size_least o).0))
+      go : (w : Option Kind) → kind_at i ≡ w → TellsRecord i false
+      go none e = tells_none e
+      go (some k) e =
+          let n : length i < size_by k.owner k.long = omega (arith, l, (size_least k.owner k.long).0) in
+          tells k e false (and_false_left _ _ (lt-leb _ _ n))
 
-  pub stands_hall : 21 ≤ length i → get_or i 0 0 ≡ 1 → HasRecord i
-  stands_hall l k = (0, (hall_told k, l))
+  pub stands_hall : 21 ≤ length i → x ≡ 1 → TellsRecord i true
+  stands_hall l e = tells (kind 0 false) (hall_told false e) true (and_both _ _ (le-leb 21 _ l) refl)
 
-  pub stands_other : (get_or i 0 0 ≡ 1 → ⊥) → (get_or i 0 0 ≡ 3 → ⊥) → no_head ≡ head_at i
-  stands_other n m = head_none i (other_told n m)
-
-  pub stands_cut : (get_or i 0 0 ≡ 1 → ⊥) → length i < 22 → no_head ≡ head_at i
-  stands_cut n l = go (owner_at i) refl
+  organiser : x ≡ 3 → (b : Bool) → leb 22 (length i) ≡ b → TellsRecord i (b && not (eqb y 0))
+  organiser e b l = go (eqb y 0) refl
     where
-      kind : (o : ℕ) → owner_at i ≡ some o → Kinds i o → no_head ≡ head_at i
-      kind o e (hall k z) = absurd (n k)
-      kind o e (owned k q z) =
-          head_cut i o e (subst (λ (x : ℕ). length i < x) (sym (ap (λ (b : Bool). pick b 21 22) (ne_eqb o 0 z))) l)
+      go : (c : Bool) → eqb y 0 ≡ c → TellsRecord i (b && not c)
+      go true p =
+          subst (TellsRecord i) (sym (and_false_right b false refl))
+          (tells_none (zero_told (λ z. omega (arith, e, z)) (λ z. omega (arith, e, z)) (eqb-true y 0 p)))
+      go false p =
+          let n : y ≡ 0 → ⊥ = eqb-false y 0 p in
+          tells (kind y false) (owned_told false e n) (b && true)
+          (ap (λ (s : ℕ). leb s (length i) && true) (size_owned y false n) ∙ ap (λ (c : Bool). c && true) l)
 
-      go : (w : Option ℕ) → owner_at i ≡ w → no_head ≡ head_at i
-      go none e = head_none i e
-      go (some o) e = kind o e (kinds i o e)
+  pub stands_cut : x ≡ 3 → length i < 22 → TellsRecord i false
+  stands_cut e l = organiser e false (lt-leb 22 _ l)
 
-  pub stands_owned : get_or i 0 0 ≡ 3 → 22 ≤ length i
-      → (not (eqb (get_or i 1 0) 0) ≡ true → HasRecord i) × (not (eqb (get_or i 1 0) 0) ≡ false → no_head ≡ head_at i)
-  stands_owned k l = go (eqb (get_or i 1 0) 0) refl
-    where
-      one : get_or i 0 0 ≡ 1 → ⊥
-      one z = omega (arith, k, z)
+  pub stands_owned : x ≡ 3 → 22 ≤ length i → TellsRecord i (not (eqb y 0))
+  stands_owned e l = organiser e true (le-leb 22 _ l)
 
-      go : (b : Bool) → eqb (get_or i 1 0) 0 ≡ b
-          → (not b ≡ true → HasRecord i) × (not b ≡ false → no_head ≡ head_at i)
-      go true e = (λ z. absurd (false-true z), λ z. head_none i (zero_told one (eqb-true _ 0 e)))
-        where
-          false-true : false ≡ true → ⊥
-          false-true z = let y : ◌≡◌ {A = ℕ} 0 1 = cc in omega arith
-      go false e =
-          let n : get_or i 1 0 ≡ 0 → ⊥ = eqb-false _ 0 e in (
-            λ z. (
-              get_or i 1 0,
-              (
-                owned_told k n,
-                subst (λ (x : ℕ). x ≤ length i) (sym (ap (λ (b : Bool). pick b 21 22) (ne_eqb (get_or i 1 0) 0 n))) l,
-              ),
-            ),
-            λ z. absurd (true-false z),
-          )
-        where
-          true-false : true ≡ false → ⊥
-          true-false z = let y : ◌≡◌ {A = ℕ} 0 1 = cc in omega arith
+  -- the exits of `long_stands`
+  module _ (short : NotShort i) (n : x ≡ 2 → ⊥) where
+    pub long_other : (x ≡ 5 → ⊥) → TellsRecord i false
+    long_other m = tells_none (other_told short.0 n short.1 m)
 
-  -- what `owner_in` and `whole_head` read
-  module _ (s : HasRecord i) where
-    pub front_long : 21 ≤ length i
-    front_long = omega (arith, s.1.1, (size_least s.0).0)
+    pub long_zero : y ≡ 0 → TellsRecord i false
+    long_zero z = tells_none (zero_told short.0 n z)
 
-    pub owned_front : (get_or i 0 0 ≡ 1 → ⊥) → (get_or i 0 0 ≡ 3) × ((get_or i 1 0 ≡ 0 → ⊥) × (22 ≤ length i))
-    owned_front n = go (kinds i s.0 s.1.0)
+  -- and of `holds_long`
+  module _ (o : ℕ) (e : kind_at i ≡ some (kind o true)) where
+    pub long_cut : length i < size_by o true → TellsRecord i false
+    long_cut l = tells (kind o true) e false (and_false_left _ _ (lt-leb _ _ l))
+
+    pub long_holds : size_by o true ≤ length i → (start : ℕ) → Starts o start → (q : List ℕ) → q ≡ drop start i
+        → (off : ℕ) → off ≡ offset_at true q → TellsRecord i (is_long off)
+    long_holds l start st q eq off eo =
+        tells (kind o true) e (is_long off)
+        (ap (λ (b : Bool). b && is_long (body_of i (kind o true)).off) (le-leb _ _ l)
+        ∙ ap is_long (offset_of_body true (drop (kind_size o true) i)
+        ∙ ap (λ (n : ℕ). offset_at true (drop n i)) (sym (st true)) ∙ ap (offset_at true) (sym eq) ∙ sym eo))
+
+  -- a record that stands there, which is long or not
+  module _ (long : Bool) (h : HasKind i long) where
+    abbrev k : Kind
+    k = h.0.kind
+
+    pub owned_in : (x ≡ pick long 2 1 → ⊥) → kind_at i ≡ some (kind y long)
+    owned_in n = h.0.is ∙ go (kinds i k h.0.is)
       where
-        go : Kinds i s.0 → (get_or i 0 0 ≡ 3) × ((get_or i 1 0 ≡ 0 → ⊥) × (22 ≤ length i))
-        go (hall k z) = absurd (n k)
-        go (owned k q z) = (
-          k,
-          (
-            λ y. z (q ∙ y),
-            subst (λ (x : ℕ). x ≤ length i) (ap (λ (b : Bool). pick b 21 22) (ne_eqb s.0 0 z)) s.1.1,
-          ),
-        )
-
-    -- whose it is, where it is not the hall's
-    pub other_owns : (get_or i 0 0 ≡ 1 → ⊥) → owner_at i ≡ some (get_or i 1 0)
-    other_owns n = owned_told (owned_front n).0 (owned_front n).1.0
+        go : Kinds i k → some k ≡ some (kind y long)
+        go (hall a z) = absurd (n (a ∙ ap (λ (b : Bool). pick b 2 1) h.1))
+        go (owned a q z) = ap₂ (λ (o : ℕ) (b : Bool). some (kind o b)) q h.1
 
     -- the body lies whole behind the kind
-    pub body_long : (o : ℕ) → owner_at i ≡ some o → record_size o ≤ length i
-    body_long o t = subst (λ (x : ℕ). record_size x ≤ length i) (some_is s.0 o (sym s.1.0 ∙ t)) s.1.1
+    module _ (o : ℕ) (e : kind_at i ≡ some (kind o long)) where
+      whole_in : is_whole i (kind o long) ≡ true
+      whole_in = subst (λ (n : Kind). is_whole i n ≡ true) (some_is k (kind o long) (sym h.0.is ∙ e)) h.0.whole
 
-    pub whole_is : (o n : ℕ) → owner_at i ≡ some o → n ≡ kind_size o → (b : Body) → b ≡ body_at (drop n i)
-        → record { size = n + body_size; key = record { owner = o; uuid = b.uuid }; off = b.off; len = b.len }
-        ≡ head_at i
-    whole_is o n t e b f =
-        ap₂ (λ (x : ℕ) (y : Body). record
-        { size = x; key = record { owner = o; uuid = y.uuid }; off = y.off; len = y.len })
-        (ap (λ (x : ℕ). x + body_size) e ∙ kind_size_lem o) (f ∙ ap (λ (x : ℕ). body_at (drop x i)) e)
-        ∙ sym (head_whole i o t (body_long o t))
+      pub body_long : kind_size o long + body_size long ≤ length i
+      body_long = omega (arith, whole_long i (kind o long) whole_in, kind_size_lem o long)
 
-pub whole_size : (i : List ℕ) → HasRecord i → (h : Head) → h ≡ head_at i → h.size ≡ record_size h.key.owner
-whole_size i s h e =
-    let w : h ≡ head_with s.0 _ = e ∙ head_whole i s.0 s.1.0 s.1.1 in
-    ap (λ (x : Head). x.size) w ∙ sym (ap (λ (x : Head). record_size x.key.owner) w)
+      pub whole_is : (n start : ℕ) → Starts o start → n ≡ size_by o long
+          → (b : Body) → b ≡ body_at long (drop start i)
+          → record { size = n; key = record { owner = o; uuid = b.uuid }; off = b.off; len = b.len } ≡ head_at i
+      whole_is n start st en b eb =
+          ap₂ (λ (m : ℕ) (c : Body). record
+          { size = m; key = record { owner = o; uuid = c.uuid }; off = c.off; len = c.len })
+          en (eb ∙ ap (λ (m : ℕ). body_at long (drop m i)) (st long))
+          ∙ sym (head_whole i (kind o long) e whole_in)
+
+  -- `whole_head`: the first byte tells which
+  module _ (s : HasRecord i) where
+    pub kind_short : (long : Bool) → x ≡ pick long 3 1 → HasKind i false
+    kind_short long e = (s, go (kinds i s.kind s.is))
+      where
+        by : (a c : Bool) → x ≡ pick c (pick a 2 1) (pick a 5 3) → a ≡ false
+        by false c q = refl
+        by true true q = absurd (apart long (sym e ∙ q))
+        by true false q = absurd (five long (sym e ∙ q))
+
+        go : Kinds i s.kind → s.kind.long ≡ false
+        go (hall a z) = by s.kind.long true a
+        go (owned a q z) = by s.kind.long false a
+
+    pub kind_long : (x ≡ 1 → ⊥) → (x ≡ 3 → ⊥) → HasKind i true
+    kind_long n m = (s, go (kinds i s.kind s.is))
+      where
+        by : (a c : Bool) → x ≡ pick c (pick a 2 1) (pick a 5 3) → a ≡ true
+        by true c q = refl
+        by false true q = absurd (n q)
+        by false false q = absurd (m q)
+
+        go : Kinds i s.kind → s.kind.long ≡ true
+        go (hall a z) = by s.kind.long true a
+        go (owned a q z) = by s.kind.long false a
+
+-- a whole record has some bytes
+pub whole_some : (i : List ℕ) → HasRecord i → (h : Head) → h ≡ head_at i → 21 ≤ h.size
+whole_some i s h e =
+    omega (
+      arith,
+      ap (λ (g : Head). g.size) (e ∙ head_whole i s.kind s.is s.whole),
+      (size_least s.kind.owner s.kind.long).0,
+    )

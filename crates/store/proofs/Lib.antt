@@ -15,12 +15,15 @@ pub mod HeadLaws
 pub mod RowLaws
 pub mod DecodeLaws
 pub mod SoundLaws
+pub mod ShareRecordLaws
 pub mod ShareLaws
 pub mod ShareBufferLaws
 pub mod ClaimLaws
 pub mod RoomLaws
 pub mod FilingLaws
 pub mod LivingLaws
+pub mod BorderLaws
+pub mod MovedLaws
 pub mod UseLaws
 pub mod SettleLaws
 pub mod ClosingLaws
@@ -37,6 +40,7 @@ pub mod LookLaws
 pub mod SettingLaws
 pub mod ShareCallLaws
 pub mod StruckLaws
+pub mod StandingLaws
 pub mod FileRowLaws
 pub mod PartLaws
 pub mod InsertLaws
@@ -67,3 +71,5 @@ mod History
 mod NearSamples
 mod PartySamples
 mod ShareSamples
+mod RoomSamples
+mod FarSamples

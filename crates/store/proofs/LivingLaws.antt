@@ -123,9 +123,9 @@ module _ {i t s : List ℕ} {a : List Row} {old c : ℕ} {hs : List Held} (T : T
         ∙ ap (λ (x : List ℕ). texts (living S k) ++ x) (unfold texts in (append-nil h.line))
 
     -- how much they take
-    pub place_more : (size : ℕ) → Sized (key_in a k) size
+    pub place_more : (size : ℕ) → Sized (key_in a k) (length (texts (living (line_at t s a old) k))) size
         → sizes 0 (living (line_at t s a old) k) + size ≡ sizes 0 (living (line_at t s a old) (k + 1))
-    place_more size z = ap (λ (m : ℕ). sizes 0 (living S k) + m) (z off len)
+    place_more size z = ap (λ (m : ℕ). sizes 0 (living S k) + m) (z len)
         ∙ sym (ap length records_more ∙ length-append (records 0 (living S k)) new)
 
     pub used_more : length (texts (living (line_at t s a old) k)) + len_in a k

@@ -5,6 +5,7 @@ use mathlib.Core.List.{List, [], ◌∷◌, ◌++◌, append_assoc, append-nil}
 use mathlib.Core.Option.{some}
 use mathlib.Core.Path.{◌≡◌, refl, sym, ap, ap₂, ◌∙◌, subst}
 use Prim.Native.Nat.{ℕ, ◌+◌, ◌-◌, ◌*◌, ◌≤◌, ◌<◌}
+use native.Mathlib.Nat.{zero-add}
 use native.Mathlib.Numerals.{add-one}
 use native.Mathlib.Omega.{arith}
 use lib.ListN.{length, take, drop}
@@ -26,7 +27,7 @@ use Rattle.store.specs.Table.{living, line_at, Extends, InRows, Loads}
 use Rattle.store.proofs.DecodeLaws.{Laid, laid, good}
 use Rattle.store.proofs.HeldLaws.{texts-append}
 use Rattle.store.proofs.OnceLaws.{Listing, list_first, list_end, list_turn, twice_once}
-use Rattle.store.proofs.RecordLaws.{head_least, size_move}
+use Rattle.store.proofs.RecordLaws.{head_least}
 use Rattle.store.proofs.RowLaws.{Rest, first, Onward, ended, stands, onward, size_not}
 use Rattle.store.proofs.RowLaws.{sizes-append, sizes_cons, sizes-none}
 use Rattle.store.proofs.RowLaws.{texts_sum, texts_cons, texts-none, texts-first}
@@ -222,7 +223,7 @@ module _ (i : List ℕ) (at : ℕ) (a : List Row) (heads next : List ℕ) (n use
             len_is = ap (λ (v : Head). v.len) y
 
             size_is : head.size ≡ size_of (0 + length (texts x.front)) h
-            size_is = ap (λ (v : Head). v.size) y ∙ size_move h.key _ _ _ _
+            size_is = ap (λ (v : Head). v.size) y ∙ ap (λ (o : ℕ). size_of o h) (x.off ∙ sym (zero-add _))
 
             longer : length (texts (x.front ++ (h ∷ []))) ≡ length (texts x.front) + length h.line
             longer = texts_sum x.front (h ∷ []) ∙ omega (arith, texts_cons h [], texts-none)

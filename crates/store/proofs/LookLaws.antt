@@ -23,8 +23,8 @@ use Rattle.store.specs.Shares.{Content}
 use Rattle.store.specs.Held.{Key, Held, same_key, find}
 use Rattle.store.specs.Inner.{known}
 use Rattle.store.specs.Keys.{Sought}
-use Rattle.store.specs.Rows.{row_in, key_in, start_in, len_in, row_put}
-use Rattle.store.specs.Table.{living, held_at, line_at, InRows, Stocks, len_before}
+use Rattle.store.specs.Rows.{row_in, key_in, start_in, len_in, row_put, len_before}
+use Rattle.store.specs.Table.{living, held_at, line_at, InRows, Stocks}
 use Rattle.store.specs.Sights.{Ready, Agree, Spot, Spots, nowhere, there, Sees}
 use Rattle.store.specs.Store.{Looked, nothing, unsound, looked_in, looked_at, look_by}
 use Rattle.store.specs.Store as store

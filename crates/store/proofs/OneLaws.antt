@@ -12,7 +12,10 @@ use lib.Seq.{take-length}
 use Rattle.store.specs.declared.rows.Row.{Row}
 use Rattle.store.specs.declared.claims.Dues.{Dues}
 use Rattle.store.specs.declared.table.Fill.{Fill}
+use Rattle.store.specs.declared.border.Border.{Border}
+use Rattle.store.specs.declared.border.Standing.{Standing}
 use Rattle.store.specs.Book.{room_for, by_room}
+use Rattle.store.specs.Border.{Bordered}
 use Rattle.store.specs.Claims.{Owed}
 use Rattle.store.specs.Decode.{decode}
 use Rattle.store.specs.Held.{Key, Held, file, line_max}
@@ -25,84 +28,88 @@ use Rattle.store.specs.declared.table.Full.TheVariants as R
 use Rattle.store.specs.declared.table.Full.{Full}
 
 module _ (d : Dues) (i t s : List ℕ) (a : List Row) (heads next : List ℕ) (f : Fill) (loads : Loads i a heads next f)
-    (k : Key) (some_byte : 1 ≤ length s) (most : length s ≤ line_max) where
-  whole : take (length s) (drop 0 s) ≡ s
-  whole = take-length s
+    (b₀ : Border) (bordered : Bordered a f.count b₀) (k : Key) (some_byte : 1 ≤ length s) (most : length s ≤ line_max)
+  where
+    abbrev w₀ : Standing
+    w₀ = record { fill = f; border = b₀ }
 
-  ready : (g : List ℕ) (hs : List Held) → decode i t ≡ some hs → Owed g k.owner hs d
-      → Files' g d i t s a heads next f.count f k 0 (length s) hs
-  ready g hs e o = record {
-    owed = o;
-    in_rows = loads t s hs e;
-    inside = omega arith;
-    shape = record {
-      some = subst (λ (l : List ℕ). 1 ≤ length l) (sym whole) some_byte;
-      most = subst (λ (l : List ℕ). length l ≤ line_max) (sym whole) most;
-    };
-  }
+    whole : take (length s) (drop 0 s) ≡ s
+    whole = take-length s
 
-  pub one_files : known (decode i t) ≡ true → SomeDues d k.owner i t → Fileable d i t a heads next f k 0 (length s)
-  one_files e (g, o) =
-      let q : (hs : List Held) × (decode i t ≡ some hs) = lines_of_lem (decode i t) e in
-      (g, s, (f.count, (q.0, ready g q.0 q.1 (o q.0 q.1))))
+    ready : (g : List ℕ) (hs : List Held) → decode i t ≡ some hs → Owed g k.owner hs d
+        → Files' g d i t s a heads next f.count w₀ k 0 (length s) hs
+    ready g hs e o = record {
+      owed = o;
+      standing = record { in_rows = loads t s hs e; bordered = bordered };
+      inside = omega arith;
+      shape = record {
+        some = subst (λ (l : List ℕ). 1 ≤ length l) (sym whole) some_byte;
+        most = subst (λ (l : List ℕ). length l ≤ line_max) (sym whole) most;
+      };
+    }
 
-  module _ (b : List Row) (heads' next' : List ℕ) (r : Result Fill Full)
-      (w : FilesRow d i t a heads next f k 0 (length s) b heads' next' r) where
-    abbrev h : Held
-    h = record { key = k; line = s }
+    pub one_files : known (decode i t) ≡ true → SomeDues d k.owner i t → Fileable d i t a heads next (record { fill = f; border = b₀ }) k 0 (length s)
+    one_files e (g, o) =
+        let q : (hs : List Held) × (decode i t ≡ some hs) = lines_of_lem (decode i t) e in
+        (g, s, (f.count, (q.0, ready g q.0 q.1 (o q.0 q.1))))
 
-    abbrev By : List ℕ → List Held → Type 0
-    By g hs = Filed g i t s b heads' next' f.count f (record { key = k; line = take (length s) (drop 0 s) }) hs r
+    module _ (b : List Row) (heads' next' : List ℕ) (r : Result Standing Full)
+        (w : FilesRow d i t a heads next (record { fill = f; border = b₀ }) k 0 (length s) b heads' next' r) where
+      abbrev h : Held
+      h = record { key = k; line = s }
 
-    filed : (g : List ℕ) (hs : List Held) → decode i t ≡ some hs → Owed g k.owner hs d → By g hs
-    filed g hs e o = w g s f.count hs (ready g hs e o)
+      abbrev By : List ℕ → List Held → Type 0
+      By g hs = Filed g i t s b heads' next' f.count w₀ (record { key = k; line = take (length s) (drop 0 s) }) hs r
 
-    same : (g : List ℕ) (hs : List Held)
-        → room_for (behind g i t k.owner) (record { key = k; line = take (length s) (drop 0 s) }) hs
-        ≡ room_for (behind g i t k.owner) (record { key = k; line = s }) hs
-    same g hs = ap (λ (l : List ℕ). room_for (behind g i t k.owner) (record { key = k; line = l }) hs) whole
+      filed : (g : List ℕ) (hs : List Held) → decode i t ≡ some hs → Owed g k.owner hs d → By g hs
+      filed g hs e o = w g s f.count hs (ready g hs e o)
 
-    -- without room
-    stays : (x : Full) (ks hs : List Held) → by_room (Err x) hs hs ks ≡ hs
-    stays R.Index ks hs = refl
-    stays R.Text ks hs = refl
+      same : (g : List ℕ) (hs : List Held)
+          → room_for (behind g i t k.owner) (record { key = k; line = take (length s) (drop 0 s) }) hs
+          ≡ room_for (behind g i t k.owner) (record { key = k; line = s }) hs
+      same g hs = ap (λ (l : List ℕ). room_for (behind g i t k.owner) (record { key = k; line = l }) hs) whole
 
-    pub one_full : (x : Full) → r ≡ Err x → Bytes i → FilesLine d i t (record { key = k; line = s }) (Err x) i t
-    one_full x e b g hs q o = go (filed g hs q o)
-      where
-        go : By g hs → (Err x ≡ room_for (behind g i t k.owner) (record { key = k; line = s }) hs)
-            × Encoded (length i) (length t) i t (by_room (Err x) hs hs (file (record { key = k; line = s }) hs))
-        go (fits f' p c y) = let z : ◌≡◌ {A = ℕ} 0 1 = cc in absurd (omega arith)
-        go (full v p c y) =
-            let z : x ≡ v = cc in (
-              ap (λ (w : Full). Err w) z ∙ sym p ∙ same g hs,
-              subst (λ (ks : List Held). Encoded (length i) (length t) i t ks) (sym (stays x _ hs))
-                  (record { index = index_kept i t hs (laid i t hs b q); text = text_kept i t hs (laid i t hs b q) }),
+      -- without room
+      stays : (x : Full) (ks hs : List Held) → by_room (Err x) hs hs ks ≡ hs
+      stays R.Index ks hs = refl
+      stays R.Text ks hs = refl
+
+      pub one_full : (x : Full) → r ≡ Err x → Bytes i → FilesLine d i t (record { key = k; line = s }) (Err x) i t
+      one_full x e b g hs q o = go (filed g hs q o)
+        where
+          go : By g hs → (Err x ≡ room_for (behind g i t k.owner) (record { key = k; line = s }) hs)
+              × Encoded (length i) (length t) i t (by_room (Err x) hs hs (file (record { key = k; line = s }) hs))
+          go (fits w' p c y) = let z : ◌≡◌ {A = ℕ} 0 1 = cc in absurd (omega arith)
+          go (full v p c y) =
+              let z : x ≡ v = cc in (
+                ap (λ (w : Full). Err w) z ∙ sym p ∙ same g hs,
+                subst (λ (ks : List Held). Encoded (length i) (length t) i t ks) (sym (stays x _ hs))
+                    (record { index = index_kept i t hs (laid i t hs b q); text = text_kept i t hs (laid i t hs b q) }),
+              )
+
+      -- with room
+      module _ (w' : Standing) (e : r ≡ Ok w') where
+        there : (g : List ℕ) (hs : List Held) → By g hs
+            → ((Ok tt) ≡ room_for (behind g i t k.owner) (record { key = k; line = s }) hs)
+            × Tabled i t s b f.count w'.fill.count (file (record { key = k; line = s }) hs)
+        there g hs (full v p c y) = let z : ◌≡◌ {A = ℕ} 0 1 = cc in absurd (omega arith)
+        there g hs (fits w'' p c y) =
+            let z : w'' ≡ w' = cc in (
+              sym p ∙ same g hs,
+              subst (λ (v : Standing). Tabled i t s b f.count v.fill.count (file (record { key = k; line = s }) hs)) z
+                  (subst (λ (l : List ℕ). Tabled i t s b f.count w''.fill.count
+                  (file (record { key = k; line = l }) hs)) whole
+                  y.in_rows.tabled),
             )
 
-    -- with room
-    module _ (f' : Fill) (e : r ≡ Ok f') where
-      there : (g : List ℕ) (hs : List Held) → By g hs
-          → ((Ok tt) ≡ room_for (behind g i t k.owner) (record { key = k; line = s }) hs)
-          × Tabled i t s b f.count f'.count (file (record { key = k; line = s }) hs)
-      there g hs (full v p c y) = let z : ◌≡◌ {A = ℕ} 0 1 = cc in absurd (omega arith)
-      there g hs (fits f'' p c y) =
-          let z : f'' ≡ f' = cc in (
-            sym p ∙ same g hs,
-            subst (λ (w : Fill). Tabled i t s b f.count w.count (file (record { key = k; line = s }) hs)) z
-                (subst (λ (l : List ℕ). Tabled i t s b f.count f''.count
-                (file (record { key = k; line = l }) hs)) whole
-                y.tabled),
-          )
+        pub one_settles : known (decode i t) ≡ true → SomeDues d k.owner i t → Settles i t s b f w'.fill.count
+        one_settles z (g, o) =
+            let q : (hs : List Held) × (decode i t ≡ some hs) = lines_of_lem (decode i t) z in
+            (file (record { key = k; line = s }) q.0, (there g q.0 (filed g q.0 q.1 (o q.0 q.1))).1)
 
-      pub one_settles : known (decode i t) ≡ true → SomeDues d k.owner i t → Settles i t s b f f'.count
-      one_settles z (g, o) =
-          let q : (hs : List Held) × (decode i t ≡ some hs) = lines_of_lem (decode i t) z in
-          (file (record { key = k; line = s }) q.0, (there g q.0 (filed g q.0 q.1 (o q.0 q.1))).1)
-
-      pub one_filed : (i' t' : List ℕ) → Settled i t s b f f'.count i' t'
-          → FilesLine d i t (record { key = k; line = s }) (Ok tt) i' t'
-      one_filed i' t' z g hs q o =
-          let x = there g hs (filed g hs q o) in
-          let y = z (file (record { key = k; line = s }) hs) x.1 in
-          (x.0, record { index = y.0; text = y.1 })
+        pub one_filed : (i' t' : List ℕ) → Settled i t s b f w'.fill.count i' t'
+            → FilesLine d i t (record { key = k; line = s }) (Ok tt) i' t'
+        one_filed i' t' z g hs q o =
+            let x = there g hs (filed g hs q o) in
+            let y = z (file (record { key = k; line = s }) hs) x.1 in
+            (x.0, record { index = y.0; text = y.1 })

@@ -1,6 +1,5 @@
--- Document 01's and 02's sums: there is room exactly when the records of the shares and of the filed list fit in
--- the index, and what all parties then claim fits in the text. What a record takes depends on its owner alone, so
--- the records of a list are added up here, and nowhere else.
+-- Document 01's and 02's sums: there is room exactly when the records of the shares and of the filed list, as they would
+-- then stand, fit in the index, and what all parties then claim fits in the text.
 -- Assumes nothing.
 use Rattle.std.specs.Prelude.{Result, Ok, Err, ⊤}
 use mathlib.Core.Bool.{Bool, true, false}
@@ -14,7 +13,7 @@ use borrow.Author.Tests.{ltb-false, lt-ltb, le-ltb}
 use Rattle.text.specs.Bytes.{pick}
 use Rattle.store.specs.Book.{Caller, record_sizes, no_index_of, no_text, room_for, by_room}
 use Rattle.store.specs.Inner.{sizes}
-use Rattle.store.specs.Held.{Held, strike, file, record_size}
+use Rattle.store.specs.Held.{Held, file}
 use Rattle.store.specs.Shares.{claims, share_sizes}
 use Rattle.store.specs.Layout.{share_records, records}
 use Rattle.store.proofs.RecordLaws.{length-record}
@@ -23,24 +22,13 @@ use Rattle.store.proofs.ShareLaws.{length_shares}
 use Rattle.store.specs.declared.table.Full.TheVariants as R
 use Rattle.store.specs.declared.table.Full.{Full}
 
-pub sizes_sum : (hs : List Held) (off : ℕ) → sizes off hs ≡ record_sizes hs
+pub sizes_sum : (hs : List Held) (off : ℕ) → sizes off hs ≡ record_sizes off hs
 unfolding record_sizes
 sizes_sum [] off = sizes-none off
 sizes_sum (h ∷ hs) off =
     sizes_cons off h hs
     ∙ ap₂ (λ (x y : ℕ). x + y) (length-record h.key off (length h.line))
     (sizes_sum hs (off + length h.line))
-
-sizes_snoc : (hs : List Held) (h : Held) → record_sizes (hs ++ (h ∷ [])) ≡ record_sizes hs + record_size h.key.owner
-unfolding record_sizes
-sizes_snoc [] h = omega arith
-sizes_snoc (k ∷ hs) h =
-    let ih : record_sizes (hs ++ (h ∷ [])) ≡ record_sizes hs + record_size h.key.owner = sizes_snoc hs h in
-    ap (λ (x : ℕ). record_size k.key.owner + x) ih ∙ omega arith
-
-pub sizes-file : (h : Held) (hs : List Held)
-    → sizes 0 (file h hs) ≡ record_sizes (strike h.key hs) + record_size h.key.owner
-sizes-file h hs = sizes_sum (file h hs) 0 ∙ unfold file in (sizes_snoc (strike h.key hs) h)
 
 -- ---- what there is room for fits
 
@@ -60,7 +48,7 @@ module _ (c : Caller) (h : Held) (hs : List Held) where
   unfolding room_for no_index_of
   fits_index e = omega (
     arith,
-    sizes-file h hs,
+    sizes_sum (file h hs) 0,
     ltb-false c.index _ (both_false _ (no_text c h hs) e).0,
   )
 
@@ -72,12 +60,12 @@ module _ (c : Caller) (h : Held) (hs : List Held) where
   pub index_full : c.index < share_sizes c.shares + sizes 0 (file h hs) → room_for c h hs ≡ Err R.Index
   unfolding room_for no_index_of
   index_full l = ap (λ (b : Bool). pick b (Err R.Index) (pick (no_text c h hs) (Err R.Text) (Ok tt)))
-      (lt-ltb c.index _ (omega (arith, sizes-file h hs)))
+      (lt-ltb c.index _ (omega (arith, sizes_sum (file h hs) 0)))
 
   module _ (l : share_sizes c.shares + sizes 0 (file h hs) ≤ c.index) where
     within : no_index_of c h hs ≡ false
     unfolding no_index_of
-    within = le-ltb c.index _ (omega (arith, sizes-file h hs))
+    within = le-ltb c.index _ (omega (arith, sizes_sum (file h hs) 0))
 
     pub text_full : c.text < claims c.shares (file h hs) → room_for c h hs ≡ Err R.Text
     unfolding room_for no_text
@@ -102,7 +90,7 @@ room_fits c h hs =
     (pick (ltb c.text (claims c.shares (file h hs))) (Err R.Text) (Ok tt))) (sym long)
   where
     long : length (share_records 0 c.shares ++ records 0 (file h hs))
-        ≡ share_sizes c.shares + (record_sizes (strike h.key hs) + record_size h.key.owner)
+        ≡ share_sizes c.shares + record_sizes 0 (file h hs)
     long =
         length-append (share_records 0 c.shares) (records 0 (file h hs))
-        ∙ ap₂ (λ (x y : ℕ). x + y) (length_shares 0 c.shares) (sizes-file h hs)
+        ∙ ap₂ (λ (x y : ℕ). x + y) (length_shares 0 c.shares) (sizes_sum (file h hs) 0)

@@ -13,7 +13,7 @@ use Rattle.store.specs.Held.{Held}
 use Rattle.store.specs.Inner.{head_of, Lies, size_of, sizes}
 use Rattle.store.specs.Layout.{record_of, records, texts, padded}
 use Rattle.store.proofs.HeldLaws.{texts-append}
-use Rattle.store.proofs.RecordLaws.{size_move, head_record, drop-record, size_some, head_zeros, head_within}
+use Rattle.store.proofs.RecordLaws.{head_record, drop-record, size_some, head_zeros, head_within}
 
 -- sizes of lists of lines
 pub records-append : (fs bs : List Held) (off : ℕ)
@@ -96,13 +96,6 @@ sizes-append fs bs off = ap length (records-append fs bs off)
 
 pub texts_sum : (fs bs : List Held) → length (texts (fs ++ bs)) ≡ length (texts fs) + length (texts bs)
 texts_sum fs bs = ap length (texts-append fs bs) ∙ length-append (texts fs) (texts bs)
-
--- a record's size does not depend on the offset
-pub sizes-move : (hs : List Held) (a b : ℕ) → sizes a hs ≡ sizes b hs
-sizes-move [] a b = sizes-none a ∙ sym (sizes-none b)
-sizes-move (h ∷ hs) a b =
-    sizes_cons a h hs ∙ ap₂ (λ (x y : ℕ). x + y) (size_move h.key a b (length h.line) (length h.line))
-    (sizes-move hs (a + length h.line) (b + length h.line)) ∙ sym (sizes_cons b h hs)
 
 pub padded-append : (n : ℕ) (r s : List ℕ) → r ++ padded (n - length r) s ≡ padded n (r ++ s)
 unfolding padded

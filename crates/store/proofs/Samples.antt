@@ -15,11 +15,13 @@ use Rattle.store.specs.declared.parties.Party.TheVariants as P
 use Rattle.store.specs.Held.{Held, key_by, same_key, strike, file, holds, distinct}
 use Rattle.store.specs.Shares.{no_shares, Content, nothing_held, use_of, claims_from, share_sizes}
 use Rattle.store.specs.Layout.{record_bytes, records, texts, padded, share_records, encode_index, encode_text}
-use Rattle.store.specs.Decode.{body_at, owner_at, head_at, head_fits, zeroes, walk, decode, is_share_of, shares_at}
+use Rattle.store.specs.Decode.{body_at, kind_at, head_at, head_fits, zeroes, walk, decode, front_share, is_share_of}
+use Rattle.store.specs.Decode.{is_long_share_of, shares_at}
 use Rattle.store.specs.Decode.{content}
 use Rattle.store.specs.Lines.{lines_of, for_platform, wanted}
 use Rattle.text.specs.Search.{first_text}
-use Rattle.store.specs.Book.{caller, under, record_sizes, no_index_of, no_text, room_for, reach, insert_lines, book_walk}
+use Rattle.store.specs.Book.{caller, under, record_sizes, no_index_of, no_text, room_for, reach, insert_lines}
+use Rattle.store.specs.Book.{book_walk}
 use Rattle.store.specs.Book.{other_spellings}
 use Rattle.store.specs.Store.{store_clear, store_walk, own_insert, store_insert}
 use Rattle.store.specs.declared.calls.StoreError.TheVariants as E
@@ -156,89 +158,90 @@ rec k off len = record_bytes (key_by 0 k) off len
 
 module _ where
   fresh_store : content (replicate 22 0) (replicate 3 0) ≡ some nothing_held
-  unfolding content shares_at is_share_of decode walk head_at owner_at zeroes distinct
+  unfolding content shares_at front_share is_share_of is_long_share_of decode walk head_at kind_at zeroes distinct
   fresh_store = refl
 
   one_line : content (rec one 0 5 ++ replicate 2 0) (ascii "hello" ++ replicate 2 0)
       ≡ some (lines (under 0 one (ascii "hello") ∷ []))
-  unfolding content shares_at is_share_of decode walk head_at owner_at head_fits body_at zeroes distinct holds record_bytes
-      big_endian rec one lines
+  unfolding content shares_at front_share is_share_of is_long_share_of decode walk head_at kind_at head_fits body_at
+      zeroes distinct holds record_bytes big_endian rec one lines
   one_line = refl
 
   two_lines : content (rec one 0 2 ++ rec nil 2 1) (ascii "abc")
       ≡ some (lines (under 0 one (ascii "ab") ∷ under 0 nil (ascii "c") ∷ []))
-  unfolding content shares_at is_share_of decode walk head_at owner_at head_fits body_at zeroes distinct holds same_key
-      record_bytes big_endian rec one nil lines
+  unfolding content shares_at front_share is_share_of is_long_share_of decode walk head_at kind_at head_fits body_at
+      zeroes distinct holds same_key record_bytes big_endian rec one nil lines
   two_lines = refl
 
   -- a line may end with zero bytes
   zero-byte : content (rec one 0 2) (97 ∷ 0 ∷ []) ≡ some (lines (under 0 one (97 ∷ 0 ∷ []) ∷ []))
-  unfolding content shares_at is_share_of decode walk head_at owner_at head_fits body_at zeroes distinct holds record_bytes
-      big_endian rec one lines
+  unfolding content shares_at front_share is_share_of is_long_share_of decode walk head_at kind_at head_fits body_at
+      zeroes distinct holds record_bytes big_endian rec one lines
   zero-byte = refl
 
   -- document 01: "index byte 9 first"
   kind_nine : content (9 ∷ replicate 20 0) [] ≡ none
-  unfolding content shares_at is_share_of decode walk head_at owner_at zeroes
+  unfolding content shares_at front_share is_share_of is_long_share_of decode walk head_at kind_at zeroes
   kind_nine = refl
 
   kind_zero_first : content (0 ∷ rec one 0 1) (ascii "a") ≡ none
-  unfolding content shares_at is_share_of decode walk head_at owner_at zeroes record_bytes big_endian rec one
+  unfolding content shares_at front_share is_share_of is_long_share_of decode walk head_at kind_at zeroes record_bytes
+      big_endian rec one
   kind_zero_first = refl
 
   truncated : content (1 ∷ replicate 19 0) [] ≡ none
-  unfolding content shares_at is_share_of decode walk head_at owner_at zeroes
+  unfolding content shares_at front_share is_share_of is_long_share_of decode walk head_at kind_at zeroes
   truncated = refl
 
   gap : content (rec one 1 1) (ascii "ab") ≡ none
-  unfolding content shares_at is_share_of decode walk head_at owner_at head_fits body_at zeroes distinct record_bytes big_endian
-      rec one
+  unfolding content shares_at front_share is_share_of is_long_share_of decode walk head_at kind_at head_fits body_at
+      zeroes distinct record_bytes big_endian rec one
   gap = refl
 
   overlap : content (rec one 0 2 ++ rec nil 1 1) (ascii "ab") ≡ none
-  unfolding content shares_at is_share_of decode walk head_at owner_at head_fits body_at zeroes distinct holds same_key
-      record_bytes big_endian rec one nil
+  unfolding content shares_at front_share is_share_of is_long_share_of decode walk head_at kind_at head_fits body_at
+      zeroes distinct holds same_key record_bytes big_endian rec one nil
   overlap = refl
 
   swapped : content (rec one 1 1 ++ rec nil 0 1) (ascii "ab") ≡ none
-  unfolding content shares_at is_share_of decode walk head_at owner_at head_fits body_at zeroes distinct holds same_key
-      record_bytes big_endian rec one nil
+  unfolding content shares_at front_share is_share_of is_long_share_of decode walk head_at kind_at head_fits body_at
+      zeroes distinct holds same_key record_bytes big_endian rec one nil
   swapped = refl
 
   past_the_text : content (rec one 0 2) (ascii "a") ≡ none
-  unfolding content shares_at is_share_of decode walk head_at owner_at head_fits body_at zeroes distinct record_bytes big_endian
-      rec one
+  unfolding content shares_at front_share is_share_of is_long_share_of decode walk head_at kind_at head_fits body_at
+      zeroes distinct record_bytes big_endian rec one
   past_the_text = refl
 
   index_tail : content (rec one 0 1 ++ (0 ∷ 7 ∷ [])) (ascii "a") ≡ none
-  unfolding content shares_at is_share_of decode walk head_at owner_at head_fits body_at zeroes distinct record_bytes big_endian
-      rec one
+  unfolding content shares_at front_share is_share_of is_long_share_of decode walk head_at kind_at head_fits body_at
+      zeroes distinct record_bytes big_endian rec one
   index_tail = refl
 
   text_tail : content (rec one 0 1) (ascii "ab") ≡ none
-  unfolding content shares_at is_share_of decode walk head_at owner_at head_fits body_at zeroes distinct record_bytes big_endian
-      rec one
+  unfolding content shares_at front_share is_share_of is_long_share_of decode walk head_at kind_at head_fits body_at
+      zeroes distinct record_bytes big_endian rec one
   text_tail = refl
 
   same_uuid_twice : content (rec one 0 1 ++ rec one 1 1) (ascii "ab") ≡ none
-  unfolding content shares_at is_share_of decode walk head_at owner_at head_fits body_at zeroes distinct holds same_key
-      record_bytes big_endian rec one
+  unfolding content shares_at front_share is_share_of is_long_share_of decode walk head_at kind_at head_fits body_at
+      zeroes distinct holds same_key record_bytes big_endian rec one
   same_uuid_twice = refl
 
   length-zero : content (rec one 0 0) (ascii "") ≡ none
-  unfolding content shares_at is_share_of decode walk head_at owner_at head_fits body_at zeroes distinct record_bytes big_endian
-      rec one
+  unfolding content shares_at front_share is_share_of is_long_share_of decode walk head_at kind_at head_fits body_at
+      zeroes distinct record_bytes big_endian rec one
   length-zero = refl
 
   length_16385 : content (rec one 0 16385) (replicate 16385 97) ≡ none
-  unfolding content shares_at is_share_of decode walk head_at owner_at head_fits body_at zeroes distinct record_bytes big_endian
-      rec one
+  unfolding content shares_at front_share is_share_of is_long_share_of decode walk head_at kind_at head_fits body_at
+      zeroes distinct record_bytes big_endian rec one
   length_16385 = refl
 
   -- one byte more than the first hub took
   length_4097 : content (rec one 0 4097) (replicate 4097 97) ≡ some (lines (under 0 one (replicate 4097 97) ∷ []))
-  unfolding content shares_at is_share_of decode walk head_at owner_at head_fits body_at zeroes distinct holds record_bytes
-      big_endian rec one lines
+  unfolding content shares_at front_share is_share_of is_long_share_of decode walk head_at kind_at head_fits body_at
+      zeroes distinct holds record_bytes big_endian rec one lines
   length_4097 = refl
 
 -- ---- inserts
@@ -247,16 +250,16 @@ module _ where
   -- 19 comes before 10
   unsound_first : store_insert (9 ∷ []) [] P.Hall (255 ∷ [])
       ≡ record { answer = record { answer = Err E.Unsound; count = 0; not_simple = 0 }; index = 9 ∷ []; text = [] }
-  unfolding store_insert own_insert store_walk other_spellings content shares_at is_share_of decode walk head_at owner_at zeroes
-      lines_of
+  unfolding store_insert own_insert store_walk other_spellings content shares_at front_share is_share_of
+      is_long_share_of decode walk head_at kind_at zeroes lines_of
   unsound_first = refl
 
   -- 10 at the length of the valid run, and nothing filed
   not_utf8 : store_insert (0 ∷ []) [] P.Hall (65 ∷ 195 ∷ [])
       ≡ record { answer = record { answer = Err (E.NotUtf8 1); count = 0; not_simple = 0 }; index = 0 ∷ []; text = [] }
-  unfolding store_insert own_insert store_walk other_spellings content shares_at is_share_of decode walk head_at owner_at zeroes
-      distinct book_walk is_utf8 valid_run run_of char_length first_length begins encode_index share_records encode_text
-      records texts padded
+  unfolding store_insert own_insert store_walk other_spellings content shares_at front_share is_share_of
+      is_long_share_of decode walk head_at kind_at zeroes distinct book_walk is_utf8 valid_run run_of char_length
+      first_length begins encode_index share_records encode_text records texts padded
   not_utf8 = refl
 
   -- an unwanted line is counted, a wanted one filed without its CR
@@ -267,10 +270,11 @@ module _ where
         text =
             u ++ (0 ∷ []);
       }
-  unfolding store_insert own_insert store_walk other_spellings content shares_at is_share_of decode walk head_at owner_at zeroes
-      distinct book_walk is_utf8 valid_run run_of char_length first_length begins encode_index share_records encode_text
-      records texts padded lines_of insert_lines reach wanted for_platform first_text uuid_of read_hex hex_digit first_of same
-      room_for no_index_of no_text share_sizes claims_from use_of record_sizes strike file record_bytes big_endian rec u nil
+  unfolding store_insert own_insert store_walk other_spellings content shares_at front_share is_share_of
+      is_long_share_of decode walk head_at kind_at zeroes distinct book_walk is_utf8 valid_run run_of char_length
+      first_length begins encode_index share_records encode_text records texts padded lines_of insert_lines reach wanted
+      for_platform first_text uuid_of read_hex hex_digit first_of same room_for no_index_of no_text share_sizes
+      claims_from use_of record_sizes strike file record_bytes big_endian rec u nil
   filed = refl
 
   -- "index of 20 bytes": 21, after one line
@@ -280,10 +284,11 @@ module _ where
         index = replicate 20 0;
         text = replicate 33 0;
       }
-  unfolding store_insert own_insert store_walk other_spellings content shares_at is_share_of decode walk head_at owner_at zeroes
-      distinct book_walk is_utf8 valid_run run_of char_length first_length begins encode_index share_records encode_text
-      records texts padded lines_of insert_lines reach wanted for_platform first_text uuid_of read_hex hex_digit first_of same
-      room_for no_index_of no_text share_sizes claims_from use_of record_sizes strike u nil file
+  unfolding store_insert own_insert store_walk other_spellings content shares_at front_share is_share_of
+      is_long_share_of decode walk head_at kind_at zeroes distinct book_walk is_utf8 valid_run run_of char_length
+      first_length begins encode_index share_records encode_text records texts padded lines_of insert_lines reach wanted
+      for_platform first_text uuid_of read_hex hex_digit first_of same room_for no_index_of no_text share_sizes
+      claims_from use_of record_sizes strike u nil file
   full = refl
 
   -- request P11: of the lines that are filed those in another form than 32 digits; one is replaced, one is not wanted,
@@ -293,10 +298,11 @@ module _ where
       ++ ascii "00000000-0000-0000-0000-000000000001"))))))))
       ).answer
       ≡ record { answer = Err E.NoRoom; count = 5; not_simple = 2 }
-  unfolding store_insert own_insert store_walk other_spellings content shares_at is_share_of decode walk head_at owner_at zeroes
-      distinct book_walk is_utf8 valid_run run_of char_length first_length begins lines_of insert_lines reach wanted
-      for_platform first_text uuid_of hyphenated read_hex hex_digit first_of same room_for no_index_of no_text share_sizes
-      claims_from use_of record_sizes strike file same_key h u nil
+  unfolding store_insert own_insert store_walk other_spellings content shares_at front_share is_share_of
+      is_long_share_of decode walk head_at kind_at zeroes distinct book_walk is_utf8 valid_run run_of char_length
+      first_length begins lines_of insert_lines reach wanted for_platform first_text uuid_of hyphenated read_hex
+      hex_digit first_of same room_for no_index_of no_text share_sizes claims_from use_of record_sizes strike file
+      same_key h u nil
   forms = refl
 
   cleared : store_clear (9 ∷ []) (1 ∷ 2 ∷ []) ≡ record { answer = Ok tt; index = 0 ∷ []; text = 0 ∷ 0 ∷ [] }

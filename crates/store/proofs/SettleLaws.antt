@@ -195,7 +195,7 @@ module _ {i t s : List ℕ} {a : List Row} {old c : ℕ} {i' t' : List ℕ} {at 
             λ x. sym (drop-drop (start - off) off x ∙ ap (λ (m : ℕ). drop m x) d) in
             ap (take len) (f t' ∙ ap (drop (start - off)) w.text_rest ∙ sym (f t))
 
-    pub settle_turn : (size : ℕ) → Sized (key_in a k) size → (i'' t'' : List ℕ)
+    pub settle_turn : (size : ℕ) → Sized (key_in a k) off size → (i'' t'' : List ℕ)
         → i'' ≡ written i' at (record_bytes (key_in a k) off (len_in a k))
         → t'' ≡ written t' off (take (len_in a k) (drop (start_in a k) (pick (ltb k old) t' s)))
         → Settling i t s a old c i'' t'' (at + size) (off + len_in a k) (k + 1)
@@ -204,7 +204,7 @@ module _ {i t s : List ℕ} {a : List Row} {old c : ℕ} {i' t' : List ℕ} {at 
         let e : t'' ≡ written t' off line = et ∙ ap (written t' off) line_is in
         let f : off + length line ≤ length t' = omega (arith, fits_text, line_long w.tabled k l n) in
         let o : off + len ≡ off + length line = omega (arith, line_long w.tabled k l n) in
-        let p : at + size ≡ at + length new = ap (λ (m : ℕ). at + m) (z off len) in record {
+        let p : at + size ≡ at + length new = ap (λ (m : ℕ). at + m) (z len) in record {
           hs = w.hs;
           tabled = w.tabled;
           most = omega arith;

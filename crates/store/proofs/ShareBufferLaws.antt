@@ -6,107 +6,47 @@ use mathlib.Core.Path.{◌≡◌, refl, sym, ap, ap₂, ◌∙◌}
 use Prim.Native.Nat.{ℕ, zero, suc, ◌+◌, ◌-◌, ◌*◌, ◌≤◌, ◌<◌}
 use native.Mathlib.Numerals.{add-one}
 use native.Mathlib.Omega.{arith}
-use lib.Dec.{eqb, leb}
+use lib.Dec.{leb}
 use borrow.Rule.Slice.PartMut.{mid_of}
 use Rattle.text.proofs.LentLaws.{tail_part}
 use lib.ListN.{length, get_or, set, take, drop, replicate, length-append, length-replicate, length-drop}
 use lib.ListN.{replicate-append-replicate}
+use Rattle.std.proofs.lemmas.List.{drop-take, drop-append-le}
 use lib.Seq.{drop-drop, take_at, drop_at, set_at, length-take-le}
 use lib.Seq.{append_snoc}
-use borrow.Author.Tests.{eq-eqb, ne_eqb, lt-leb, leb-true, leb-false, eqb-true, eqb-false}
+use borrow.Author.Tests.{ne_eqb}
 use Rattle.std.specs.Bool.{MatchBool}
 use Rattle.std.specs.List.{All, AllWithin, HoldsAt}
 use Rattle.std.proofs.lemmas.List.Elements.{All-from_all_within}
-use Rattle.text.specs.Bytes.{pick, written}
+use Rattle.text.specs.Bytes.{written}
 use Rattle.text.specs.Uuid.{big_endian}
-use Rattle.store.specs.Decode.{word, is_share_of, Fronted, and_share, shares_at, fronted}
-use Rattle.store.specs.Fronts.{starts_share, front_share, Fronts, Changes, Changed}
-use Rattle.store.specs.Inner.{be2}
-use Rattle.store.specs.Layout.{share_bytes}
+use Rattle.store.specs.Decode.{front_share, Fronted, and_share, shares_at, fronted}
+use Rattle.store.specs.Fronts.{starts_share, Fronts, Moved, Changes, Changed}
+use Rattle.store.specs.Held.{short_max}
+use Rattle.store.specs.Inner.{be2, be4}
+use Rattle.store.specs.Layout.{Bytes, share_bytes}
 use Rattle.store.specs.Shares.{owners, no_shares, share_size, share_sizes}
-use Rattle.store.proofs.BoolLaws.{true-false, and_left, and_right, and_both, and_false_left}
-use Rattle.store.proofs.ShareLaws.{shares_take, shares_pass, shares_done, other_kind, other_owner, is_share_of_lem}
-use Rattle.store.proofs.ShareLaws.{is_share, share_none, share_some, share_drop, length_share}
-
--- ---- what stands at the front
-
-pub starts_long : (i : List ℕ) → starts_share i ≡ true → 4 ≤ length i
-starts_long i e = leb-true 4 (length i) (and_left _ _ e)
-
-starts_kind : (i : List ℕ) → starts_share i ≡ true → get_or i 0 0 ≡ 4
-starts_kind i e = eqb-true _ 4 (and_right (leb 4 (length i)) _ e)
-
--- `front_share`
-pub front_other : (o : ℕ) (i : List ℕ) → (get_or i 1 0 ≡ o → ⊥) → 0 ≡ front_share o i
-front_other o i n = sym (ap (λ (c : Bool). pick c (word i 2) 0) (other_owner o i n))
-
-pub front_own : (o : ℕ) (i : List ℕ) → starts_share i ≡ true → get_or i 1 0 ≡ o → word i 2 ≡ front_share o i
-front_own o i s e = go (is_share_of o i) refl
-  where
-    go : (c : Bool) → is_share_of o i ≡ c → word i 2 ≡ pick c (word i 2) 0
-    go true q = refl
-    go false q = none (leb 1 (word i 2)) refl
-      where
-        none : (b : Bool) → leb 1 (word i 2) ≡ b → word i 2 ≡ 0
-        none true p = absurd (true-false (sym (is_share o i (record {
-          long = starts_long i s;
-          kind = starts_kind i s;
-          owner = e;
-          some = leb-true 1 (word i 2) p;
-        })) ∙ q))
-        none false p = omega (arith, leb-false 1 (word i 2) p)
-
--- `share_size`
-pub size_none : (b : ℕ) → b ≡ 0 → 0 ≡ share_size b
-size_none b e = sym (ap (λ (c : Bool). pick c 0 4) (eq-eqb b 0 e))
-
-pub size_some : (b : ℕ) → (b ≡ 0 → ⊥) → 4 ≡ share_size b
-size_some b n = sym (ap (λ (c : Bool). pick c 0 4) (ne_eqb b 0 n))
-
-pub size_most : (b : ℕ) → share_size b ≤ 4
-size_most b = go (eqb b 0)
-  where
-    go : (c : Bool) → pick c 0 4 ≤ 4
-    go true = omega arith
-    go false = omega arith
+use Rattle.store.proofs.BodyLaws.{bytes_behind, be4_is}
+use Rattle.store.proofs.BoolLaws.{true-false, and_false_right, or_false}
+use Rattle.store.proofs.ShareRecordLaws.{share_none, share_short, share_long, size_none, size_short, size_long}
+use Rattle.store.proofs.ShareRecordLaws.{size_most, length_share, front_stop, front_read, share_drop}
+use Rattle.store.proofs.ShareRecordLaws.{shares_more, shares_done}
 
 -- ---- `read_shares`
 
--- one more owner, whether its share stands there or not
-shares_step : (k o : ℕ) (i : List ℕ)
-    → shares_at (suc k) o i ≡ and_share (front_share o i) (shares_at k (suc o) (drop (share_size (front_share o i)) i))
-shares_step k o i = go (is_share_of o i) refl
-  where
-    go : (c : Bool) → is_share_of o i ≡ c → shares_at (suc k) o i
-        ≡ and_share (pick c (word i 2) 0) (shares_at k (suc o) (drop (share_size (pick c (word i 2) 0)) i))
-    go true e =
-        let l : 1 ≤ word i 2 = (is_share_of_lem o i e).some in
-        shares_take k o i e
-        ∙ ap (λ (n : ℕ). and_share (word i 2) (shares_at k (suc o) (drop n i)))
-        (size_some (word i 2) (λ z. omega (arith, l, z)))
-    go false e = shares_pass k o i e
-
 -- no share stands there
-pub shares_none : (k o : ℕ) (i : List ℕ) → (get_or i 0 0 ≡ 4 → ⊥)
-    → shares_at k o i ≡ record { shares = replicate k 0; rest = i }
-shares_none zero o i n = shares_done o i
-shares_none (suc k) o i n = shares_pass k o i (other_kind o i n) ∙ ap (and_share 0) (shares_none k (suc o) i n)
-
-shares_short : (k o : ℕ) (i : List ℕ) → length i < 4 → shares_at k o i ≡ record { shares = replicate k 0; rest = i }
-shares_short zero o i l = shares_done o i
-shares_short (suc k) o i l =
-    shares_pass k o i (unfold is_share_of in (and_false_left _ _ (lt-leb 4 (length i) l)))
-    ∙ ap (and_share 0) (shares_short k (suc o) i l)
-
 shares_stop : (k o : ℕ) (i : List ℕ) → starts_share i ≡ false
     → shares_at k o i ≡ record { shares = replicate k 0; rest = i }
-shares_stop k o i e = go (leb 4 (length i)) refl (eqb (get_or i 0 0) 4) refl
-  where
-    go : (b : Bool) → leb 4 (length i) ≡ b → (c : Bool) → eqb (get_or i 0 0) 4 ≡ c
-        → shares_at k o i ≡ record { shares = replicate k 0; rest = i }
-    go false p c q = shares_short k o i (leb-false 4 (length i) p)
-    go true p false q = shares_none k o i (eqb-false _ 4 q)
-    go true p true q = absurd (true-false (sym (and_both _ _ p q) ∙ e))
+shares_stop zero o i e = shares_done o i
+shares_stop (suc k) o i e =
+    shares_more k o i ∙ ap (λ (b : ℕ). and_share b (shares_at k (suc o) (drop (share_size b) i))) (front_stop o i e)
+    ∙ ap (and_share 0) (shares_stop k (suc o) i e)
+
+pub shares_none : (k o : ℕ) (i : List ℕ) → (get_or i 0 0 ≡ 4 → ⊥) → (get_or i 0 0 ≡ 6 → ⊥)
+    → shares_at k o i ≡ record { shares = replicate k 0; rest = i }
+shares_none k o i m n =
+    shares_stop k o i (or_false _ _ (and_false_right (leb 4 (length i)) _ (ne_eqb _ 4 m))
+    (and_false_right (leb 6 (length i)) _ (ne_eqb _ 6 n)))
 
 abbrev onto : List ℕ → Fronted → Fronted
 onto s f = record { shares = s ++ f.shares; rest = f.rest }
@@ -128,8 +68,7 @@ module _ {i g : List ℕ} {at o : ℕ} (w : Reading i g at o) where
   abbrev rest : List ℕ
   rest = mid_of at (length i - at) i
 
-  module _ (l : o < owners) (s : starts_share rest ≡ true) {b n : ℕ} (e : b ≡ front_share o rest)
-      (en : n ≡ share_size b) where
+  module _ (y : Bytes i) (l : o < owners) {b n : ℕ} (e : b ≡ front_share o rest) (en : n ≡ share_size b) where
     share_is : b ≡ front_share o (drop at i)
     share_is = e ∙ ap (front_share o) (tail_part at i)
 
@@ -138,9 +77,8 @@ module _ {i g : List ℕ} {at o : ℕ} (w : Reading i g at o) where
         omega (
           arith,
           w.within,
-          en,
-          size_most b,
-          starts_long (drop at i) (ap starts_share (sym (tail_part at i)) ∙ s),
+          en ∙ ap share_size share_is,
+          (front_read o (drop at i) (bytes_behind i at y)).within,
           length-drop at i,
         )
 
@@ -150,7 +88,7 @@ module _ {i g : List ℕ} {at o : ℕ} (w : Reading i g at o) where
         let one : owners - o ≡ suc k = omega (arith, l) in
         let up : suc o ≡ o + 1 = omega arith in
         let step : shares_at (owners - o) o (drop at i) ≡ and_share b (shares_at k (o + 1) (drop (at + n) i))
-        = ap (λ (m : ℕ). shares_at m o (drop at i)) one ∙ shares_step k o (drop at i)
+        = ap (λ (m : ℕ). shares_at m o (drop at i)) one ∙ shares_more k o (drop at i)
         ∙ ap₂ (λ (x m : ℕ). and_share x (shares_at k m (drop (share_size x) (drop at i)))) (sym share_is) up
         ∙ ap (λ (q : List ℕ). and_share b (shares_at k (o + 1) q))
         (drop-drop (share_size b) at i ∙ ap (λ (m : ℕ). drop (at + m) i) (sym en)) in
@@ -218,7 +156,7 @@ place-turn s o = go s o ∙ ap (λ (k : ℕ). share_sizes (take k s)) (sym (add-
         let ih : share_sizes (take o s) + share_size (get_or s o 0) ≡ share_sizes (take (suc o) s) = go s o in
         omega (arith, ih)
 
-pub place_most : (s : List ℕ) (o : ℕ) → share_sizes (take o s) ≤ 4 * o
+pub place_most : (s : List ℕ) (o : ℕ) → share_sizes (take o s) ≤ 6 * o
 unfolding share_sizes
 place_most s zero = omega arith
 place_most [] (suc o) = omega arith
@@ -226,70 +164,134 @@ place_most (b ∷ s) (suc o) = omega (arith, place_most s o, size_most b)
 
 -- ---- `put_share`
 
-pub share_put : (d : List ℕ) (o b : ℕ) → 4 ≤ length d → (b ≡ 0 → ⊥)
-    → written (set (set d 0 4) 1 o) 2 (be2 b) ≡ share_bytes o b ++ drop 4 d
-unfolding written big_endian
-share_put [] o b l n = absurd (omega (arith, l))
-share_put (x ∷ []) o b l n = absurd (omega (arith, l))
-share_put (x ∷ y ∷ []) o b l n = absurd (omega (arith, l))
-share_put (x ∷ y ∷ z ∷ []) o b l n = absurd (omega (arith, l))
-share_put (x ∷ y ∷ z ∷ w ∷ d) o b l n = ap (λ (q : List ℕ). q ++ d) (sym (share_some o b n))
+module _ (o b : ℕ) where
+  pub put_none : (d : List ℕ) → b ≡ 0 → d ≡ share_bytes o b ++ drop (share_size b) d
+  put_none d e = sym (ap₂ (λ (p : List ℕ) (n : ℕ). p ++ drop n d) (share_none o b e) (size_none b e))
 
-pub put_long : (d : List ℕ) (o b : ℕ) → 4 ≤ length d → (b ≡ 0 → ⊥) → length (share_bytes o b ++ drop 4 d) ≡ length d
-put_long d o b l n =
-    length-append (share_bytes o b) (drop 4 d)
-    ∙ ap₂ (λ (x y : ℕ). x + y) (length_share o b ∙ sym (size_some b n)) (length-drop 4 d) ∙ omega (arith, l)
+  pub put_short : (d : List ℕ) → (b ≡ 0 → ⊥) → b ≤ short_max → share_size b ≤ length d
+      → written (set (set d 1 o) 0 4) 2 (be2 b) ≡ share_bytes o b ++ drop (share_size b) d
+  unfolding written big_endian
+  put_short d n l m =
+      at d (omega (arith, m, size_short b n l))
+      ∙ sym (ap₂ (λ (p : List ℕ) (k : ℕ). p ++ drop k d) (share_short o b n l) (size_short b n l))
+    where
+      at : (d : List ℕ) → 4 ≤ length d
+          → written (set (set d 1 o) 0 4) 2 (be2 b) ≡ (4 ∷ o ∷ big_endian 2 b) ++ drop 4 d
+      at [] m = absurd (omega (arith, m))
+      at (x ∷ []) m = absurd (omega (arith, m))
+      at (x ∷ y ∷ d) m = refl
+
+  pub put_long : (d : List ℕ) → short_max < b → share_size b ≤ length d
+      → written (set (set d 1 o) 0 6) 2 (be4 b) ≡ share_bytes o b ++ drop (share_size b) d
+  unfolding written
+  put_long d l m =
+      at d (omega (arith, m, size_long b l))
+      ∙ ap (λ (q : List ℕ). (6 ∷ o ∷ q) ++ drop 6 d) (be4_is b)
+      ∙ sym (ap₂ (λ (p : List ℕ) (k : ℕ). p ++ drop k d) (share_long o b l) (size_long b l))
+    where
+      at : (d : List ℕ) → 6 ≤ length d → written (set (set d 1 o) 0 6) 2 (be4 b) ≡ (6 ∷ o ∷ be4 b) ++ drop 6 d
+      at [] m = absurd (omega (arith, m))
+      at (x ∷ []) m = absurd (omega (arith, m))
+      at (x ∷ y ∷ d) m = refl
+
+-- ---- `fit_record`
+
+zeros_cut : (b : List ℕ) (m more k : ℕ) → m ≡ more + k
+    → b ++ replicate m 0 ≡ (b ++ replicate more 0) ++ replicate k 0
+zeros_cut b m more k e =
+    ap (λ (n : ℕ). b ++ replicate n 0) e ∙ ap (λ (q : List ℕ). b ++ q) (sym (replicate-append-replicate more k 0))
+    ∙ sym (append_assoc b (replicate more 0) (replicate k 0))
+
+-- without the zeros at its end
+cut : (s b : List ℕ) (k n : ℕ) → s ≡ b ++ replicate k 0 → length s ≡ n + k → take n s ≡ b
+cut s b k n e l =
+    ap (take n) e
+    ∙ take_at b (replicate k 0) n
+    (omega (arith, l, ap length e, length-append b (replicate k 0), length-replicate {A = ℕ} k 0))
+
+module _ (part : List ℕ) (was size : ℕ) (lw : was ≤ length part) (ls : size ≤ length part) where
+  abbrev n : ℕ
+  n = length part
+
+  pub moved_up : was < size → (p : List ℕ) → p ≡ take (size - was) part ++ take (n - (size - was)) part
+      → Moved part was size p
+  moved_up l p e = record { long = long; rest = rest }
+    where
+      k : ℕ
+      k = size - was
+
+      long : length p ≡ n
+      long =
+          ap length e ∙ length-append (take k part) (take (n - k) part)
+          ∙ ap₂ (λ (x y : ℕ). x + y) (length-take-le k part (omega arith)) (length-take-le (n - k) part (omega arith))
+          ∙ omega arith
+
+      rest : (behind : List ℕ) (zeros more : ℕ) → drop was part ≡ behind ++ replicate zeros 0
+          → size + more ≡ was + zeros → drop size p ≡ behind ++ replicate more 0
+      rest behind zeros more d m =
+          let z : zeros ≡ more + k = omega arith in
+          let s : size ≡ k + was = omega arith in
+          let r : n - k ≡ was + (n - size) = omega arith in
+          let b : List ℕ = behind ++ replicate more 0 in
+          let tail : drop was part ≡ b ++ replicate k 0 = d ∙ zeros_cut behind zeros more k z in
+          let up : List ℕ = take k part ++ take (n - k) part in
+          let kept : drop k up ≡ take (was + (n - size)) part
+          = drop_at (take k part) (take (n - k) part) k (length-take-le k part (omega arith))
+          ∙ ap (λ (x : ℕ). take x part) r in
+          ap₂ drop s e ∙ sym (drop-drop was k up)
+          ∙ ap (drop was) kept ∙ drop-take was (n - size) part
+          ∙ cut (drop was part) b k (n - size) tail (omega (arith, length-drop was part))
+
+  pub moved_down : size < was → (p : List ℕ) → p ≡ drop (was - size) part ++ replicate (was - size) 0
+      → Moved part was size p
+  moved_down l p e = record { long = long; rest = rest }
+    where
+      k : ℕ
+      k = was - size
+
+      long : length p ≡ n
+      long =
+          ap length e ∙ length-append (drop k part) (replicate k 0)
+          ∙ ap₂ (λ (x y : ℕ). x + y) (length-drop k part) (length-replicate {A = ℕ} k 0) ∙ omega arith
+
+      rest : (behind : List ℕ) (zeros more : ℕ) → drop was part ≡ behind ++ replicate zeros 0
+          → size + more ≡ was + zeros → drop size p ≡ behind ++ replicate more 0
+      rest behind zeros more d m =
+          let z : zeros + k ≡ more = omega arith in
+          let s : k + size ≡ was = omega arith in
+          ap (drop size) e ∙ drop-append-le size (drop k part) (replicate k 0) (omega (arith, length-drop k part))
+          ∙ ap (λ (x : List ℕ). x ++ replicate k 0)
+          (drop-drop size k part ∙ ap (λ (x : ℕ). drop x part) s ∙ d)
+          ∙ sym (zeros_cut behind more zeros k (sym z))
+
+  pub moved_none : size ≤ was → was ≤ size → Moved part was size part
+  moved_none l m = record {
+    long = refl;
+    rest = λ behind zeros more d e.
+        let s : size ≡ was = omega arith in
+        let z : zeros ≡ more = omega arith in
+        ap (λ (x : ℕ). drop x part) s ∙ d ∙ ap (λ (x : ℕ). behind ++ replicate x 0) z;
+  }
 
 -- ---- `change_share`
 
-module _ (part : List ℕ) (o had share : ℕ) where
-  module _ (w : Changes part o had share) where
-    pub change_long : (had ≡ 0 → share ≡ 0 → ⊥) → 4 ≤ length part
-    change_long n =
-        let long : length part ≡ share_size had + (length w.behind + w.zeros)
-        = ap length w.is ∙ length-append (share_bytes o had) (w.behind ++ replicate w.zeros 0)
-        ∙ ap₂ (λ (x y : ℕ). x + y) (length_share o had) (length-append w.behind (replicate w.zeros 0)
-        ∙ ap (λ (y : ℕ). length w.behind + y) (length-replicate w.zeros 0)) in
-        go (eqb had 0) refl (eqb share 0) refl long
-      where
-        go : (a : Bool) → eqb had 0 ≡ a → (b : Bool) → eqb share 0 ≡ b
-            → length part ≡ share_size had + (length w.behind + w.zeros) → 4 ≤ length part
-        go true p true q long = absurd (n (eqb-true had 0 p) (eqb-true share 0 q))
-        go true p false q long =
-            omega (arith, long, w.room, size_none had (eqb-true had 0 p), size_some share (eqb-false share 0 q))
-        go false p b q long = omega (arith, long, size_some had (eqb-false had 0 p))
+module _ {part : List ℕ} {o had share : ℕ} (w : Changes part o had share) where
+  long : length part ≡ share_size had + (length w.behind + w.zeros)
+  long =
+      ap length w.is ∙ length-append (share_bytes o had) (w.behind ++ replicate w.zeros 0)
+      ∙ ap₂ (λ (x y : ℕ). x + y) (length_share o had) (length-append w.behind (replicate w.zeros 0)
+      ∙ ap (λ (y : ℕ). length w.behind + y) (length-replicate w.zeros 0))
 
-  pub change_new : (p q : List ℕ) → had ≡ 0 → (share ≡ 0 → ⊥) → p ≡ take 4 part ++ take (length part - 4) part
-      → q ≡ share_bytes o share ++ drop 4 p → Changed part o had share q
-  change_new p q h s ep eq behind zeros more e m =
-      let k : zeros ≡ more + 4 = omega (arith, m, size_none had h, size_some share s) in
-      let is : part ≡ (behind ++ replicate more 0) ++ replicate 4 0
-      = e ∙ ap₂ (λ (x : List ℕ) (n : ℕ). x ++ (behind ++ replicate n 0)) (share_none o had h) k
-      ∙ ap (λ (x : List ℕ). behind ++ x) (sym (replicate-append-replicate more 4 0))
-      ∙ sym (append_assoc behind (replicate more 0) (replicate 4 0)) in
-      let long : length part ≡ length (behind ++ replicate more 0) + 4
-      = ap length is ∙ length-append (behind ++ replicate more 0) (replicate 4 0) in
-      let cut : take (length part - 4) part ≡ behind ++ replicate more 0
-      = ap (take (length part - 4)) is
-      ∙ take_at (behind ++ replicate more 0) (replicate 4 0) (length part - 4) (omega (arith, long)) in
-      let rest : drop 4 p ≡ behind ++ replicate more 0
-      = ap (drop 4) ep
-      ∙ drop_at (take 4 part) (take (length part - 4) part) 4 (length-take-le 4 part (omega (arith, long))) ∙ cut in
-      eq ∙ ap (λ (x : List ℕ). share_bytes o share ++ x) rest
+  pub change_fits : {x y : ℕ} → x ≡ share_size had → y ≡ share_size share → (x ≤ length part) × (y ≤ length part)
+  change_fits e f = (omega (arith, e, long), omega (arith, f, long, w.room))
 
-  pub change_none : (q : List ℕ) → (had ≡ 0 → ⊥) → share ≡ 0 → q ≡ drop 4 part ++ replicate 4 0
-      → Changed part o had share q
-  change_none q h s eq behind zeros more e m =
-      let k : zeros + 4 ≡ more = omega (arith, m, size_some had h, size_none share s) in
-      eq ∙ ap (λ (x : List ℕ). x ++ replicate 4 0) (ap (drop 4) e ∙ share_drop o had (behind ++ replicate zeros 0) h)
-      ∙ append_assoc behind (replicate zeros 0) (replicate 4 0)
-      ∙ ap (λ (x : List ℕ). behind ++ x) (replicate-append-replicate zeros 4 0)
-      ∙ ap (λ (n : ℕ). behind ++ replicate n 0) k
-      ∙ ap (λ (x : List ℕ). x ++ (behind ++ replicate more 0)) (sym (share_none o share s))
+  pub change_long : {x y : ℕ} {p : List ℕ} → y ≡ share_size share → Moved part x y p → share_size share ≤ length p
+  change_long f m = omega (arith, m.long, long, w.room)
 
-  pub change_other : (q : List ℕ) → (had ≡ 0 → ⊥) → (share ≡ 0 → ⊥) → q ≡ share_bytes o share ++ drop 4 part
-      → Changed part o had share q
-  change_other q h s eq behind zeros more e m =
-      let k : zeros ≡ more = omega (arith, m, size_some had h, size_some share s) in
-      eq ∙ ap (λ (x : List ℕ). share_bytes o share ++ x)
-      (ap (drop 4) e ∙ share_drop o had (behind ++ replicate zeros 0) h ∙ ap (λ (n : ℕ). behind ++ replicate n 0) k)
+  pub change_done : {x y : ℕ} {p q : List ℕ} → x ≡ share_size had → y ≡ share_size share → Moved part x y p
+      → q ≡ share_bytes o share ++ drop (share_size share) p → Changed part o had share q
+  change_done {x} {y} {p} e f m g behind zeros more is k =
+      g ∙ ap (λ (r : List ℕ). share_bytes o share ++ r)
+      (ap (λ (n : ℕ). drop n p) (sym f)
+      ∙ m.rest behind zeros more
+      (ap₂ drop e is ∙ share_drop o had (behind ++ replicate zeros 0)) (omega (arith, e, f, k)))

@@ -31,7 +31,7 @@ use Rattle.store.proofs.EncodesLaws.{content_encodes}
 use Rattle.store.proofs.PartLaws.{ends}
 use Rattle.store.proofs.RoomLaws.{sizes_sum}
 use Rattle.store.proofs.SettingLaws.{sizes-set}
-use Rattle.store.proofs.ShareBufferLaws.{size_most}
+use Rattle.store.proofs.ShareRecordLaws.{size_most}
 use Rattle.store.proofs.ShareLaws.{given_front}
 use Rattle.store.proofs.SurveyLaws.{Holds, stock_holds, stock_rows}
 use Rattle.store.proofs.UseLaws.{tabled_use, tabled_addable}
@@ -112,7 +112,7 @@ module _ (i t : List ℕ) (y : Bytes i) (c : Content) (e : content i t ≡ some 
   abbrev later : List ℕ
   later = set c.shares o b
 
-  share_by : (end : ℕ) → end ≡ share_sizes later + record_sizes c.held → (r : Result ⊤ StoreError)
+  share_by : (end : ℕ) → end ≡ share_sizes later + record_sizes 0 c.held → (r : Result ⊤ StoreError)
       → r ≡ pick (ltb (length t) (claims later c.held)) (Err E.ShareTooLarge)
       (pick (ltb (length i) end) (Err E.NoRoom) (Ok tt))
       → leaves i t (encode_index (length i) later c.held) r ≡ store_share i t o b
@@ -121,7 +121,7 @@ module _ (i t : List ℕ) (y : Bytes i) (c : Content) (e : content i t ≡ some 
       ap (leaves i t (encode_index (length i) later c.held))
       (q ∙ ap (λ (k : ℕ). pick (ltb (length t) (claims later c.held)) (Err E.ShareTooLarge)
       (pick (ltb (length i) k) (Err E.NoRoom) (Ok tt))) n)
-      ∙ go (ltb (length t) (claims later c.held)) (ltb (length i) (share_sizes later + record_sizes c.held))
+      ∙ go (ltb (length t) (claims later c.held)) (ltb (length i) (share_sizes later + record_sizes 0 c.held))
       ∙ sym (ap (λ (x : Option Content). on_shares i t x (λ d. book_share (length i) (length t) d o b)) e)
     where
       -- the buffers encode what is held
@@ -166,7 +166,7 @@ module _ {N : ℕ} {i t : List ℕ} {l : Ledger N} {r : Stock} (y : Bytes i) (s 
       ) in
       share_by i t y c w.is o b _ refl (Err E.ShareTooLarge)
       (sym (ap (λ (x : Bool). pick x (Err E.ShareTooLarge)
-      (pick (ltb (length i) (share_sizes later + record_sizes c.held)) (Err E.NoRoom) (Ok tt)))
+      (pick (ltb (length i) (share_sizes later + record_sizes 0 c.held)) (Err E.NoRoom) (Ok tt)))
       (lt-ltb (length t) (claims later c.held) k)))
 
 -- a share within the text, in a store of which stock is taken
@@ -192,15 +192,15 @@ module _ {N : ℕ} {i t : List ℕ} {l : Ledger N} {r : Stock} {o b : ℕ} (s : 
   pub set_addable : Addable l.table.rows r.fill.count
   set_addable = w.addable
 
-  pub set_two : b ≤ 65535
-  set_two = omega (arith, s.fits, w.text_most)
+  pub set_four : b ≤ 4294967295
+  set_four = omega (arith, s.fits, w.text_most)
 
   -- the place behind all records, once the share is set
   module _ {p q : ℕ} (ep : p ≡ share_size b) (eq : q ≡ share_size (get_or g o 0)) where
     abbrev end : ℕ
     end = r.front + r.fill.end + p - q
 
-    pub end_most : r.front + r.fill.end + p ≤ 65539
+    pub end_most : r.front + r.fill.end + p ≤ index_max + 6
     end_most = omega (arith, w.front, w.end, w.fits, w.index_most, ep, size_most b)
 
     pub end_less : q ≤ r.front + r.fill.end + p
@@ -240,7 +240,7 @@ module _ {N : ℕ} {i t : List ℕ} {l : Ledger N} {r : Stock} {o b : ℕ} (s : 
             later = refl;
             fits = w.fits;
             room = omega (arith, ltb-false (length i) end z, end_sizes);
-            most = set_two;
+            most = set_four;
           }
 
       pub set_writes : m ≡ Ok tt → {had : ℕ} → had ≡ get_or g o 0 → Writable i g' o had b

@@ -1,118 +1,27 @@
 -- The shares at an index's front are those that were written there, and the lines behind them are not touched.
 -- Assumes nothing.
-use mathlib.Core.Bool.{Bool, true, false, ◌&&◌}
+use mathlib.Core.Bool.{Bool, true, false}
 use mathlib.Core.List.{List, [], ◌∷◌, ◌++◌, append_assoc}
 use mathlib.Core.Option.{Option, none, some}
 use mathlib.Core.Path.{◌≡◌, refl, sym, ap, ap₂, ◌∙◌, subst}
-use Prim.Native.Nat.{ℕ, zero, suc, ◌+◌, ◌-◌, ◌*◌, ◌≤◌, ◌<◌}
+use Prim.Native.Nat.{ℕ, zero, suc, ◌+◌, ◌-◌, ◌≤◌, ◌<◌}
 use native.Mathlib.Omega.{arith}
 use lib.Dec.{eqb, leb}
 use lib.ListN.{length, get_or, drop, replicate, length-append}
-use lib.Seq.{drop-cons}
-use borrow.Author.Tests.{eq-eqb, ne_eqb, le-leb, leb-true, eqb-true, eqb-false}
+use borrow.Author.Tests.{le-leb, leb-true, eqb-true, eqb-false}
 use Rattle.text.specs.Bytes.{pick}
 use Rattle.text.specs.Uuid.{big_endian, uuid_bytes}
-use Rattle.store.specs.Decode.{word, is_share_of, Fronted, and_share, shares_at, fronted, with_lines, decode, content}
-use Rattle.store.specs.Held.{Held, index_max, text_max}
+use Rattle.store.specs.Decode.{front_share, Fronted, and_share, shares_at, fronted, with_lines, decode, content}
+use Rattle.store.specs.Held.{Held, index_max, text_max, is_long}
 use Rattle.store.specs.Inner.{Good}
-use Rattle.store.specs.Layout.{Bytes, Given, record_bytes, records, share_bytes, share_records, padded}
+use Rattle.store.specs.Layout.{Bytes, Given, offset_width, record_bytes, records, share_bytes, share_records, padded}
 use Rattle.store.specs.Layout.{encode_records, encode_index, encode_text}
 use Rattle.store.specs.Shares.{owners, Content, share_size, share_sizes}
-use Rattle.store.proofs.BodyLaws.{word_below, bytes_behind}
-use Rattle.store.proofs.BoolLaws.{and_left, and_right, and_both, and_false_left, and_false_right}
+use Rattle.store.proofs.BodyLaws.{bytes_behind}
 use Rattle.store.proofs.DecodeLaws.{length_index, decode_encoded, never}
 use Rattle.store.proofs.RowLaws.{padded-append}
-
--- ---- one record
-
-pub length_share : (o b : ℕ) → length (share_bytes o b) ≡ share_size b
-unfolding big_endian
-length_share o b = go (eqb b 0)
-  where
-    go : (c : Bool) → length (pick c [] (4 ∷ o ∷ big_endian 2 b)) ≡ pick c 0 4
-    go true = refl
-    go false = refl
-
-pub share_none : (o b : ℕ) → b ≡ 0 → share_bytes o b ≡ []
-share_none o b e = ap (λ (c : Bool). pick c [] (4 ∷ o ∷ big_endian 2 b)) (eq-eqb b 0 e)
-
-pub share_some : (o b : ℕ) → (b ≡ 0 → ⊥) → share_bytes o b ≡ 4 ∷ o ∷ big_endian 2 b
-share_some o b n = ap (λ (c : Bool). pick c [] (4 ∷ o ∷ big_endian 2 b)) (ne_eqb b 0 n)
-
--- what a share's record at the front is
-pub record IsShare (o : ℕ) (i : List ℕ) : Type 0 where
-  pub long : 4 ≤ length i
-  pub kind : get_or i 0 0 ≡ 4
-  pub owner : get_or i 1 0 ≡ o
-  pub some : 1 ≤ word i 2
-
-pub is_share_of_lem : (o : ℕ) (i : List ℕ) → is_share_of o i ≡ true → IsShare o i
-unfolding is_share_of
-is_share_of_lem o i e =
-    let a : leb 4 (length i) ≡ true = and_left _ _ e in
-    let b : eqb (get_or i 0 0) 4 && (eqb (get_or i 1 0) o && leb 1 (word i 2)) ≡ true = and_right (leb 4 (length i)) _ e in
-    let c : eqb (get_or i 1 0) o && leb 1 (word i 2) ≡ true = and_right (eqb (get_or i 0 0) 4) _ b in
-    record {
-      long = leb-true 4 (length i) a;
-      kind = eqb-true _ 4 (and_left _ _ b);
-      owner = eqb-true _ o (and_left _ _ c);
-      some = leb-true 1 _ (and_right (eqb (get_or i 1 0) o) _ c);
-    }
-
-pub is_share : (o : ℕ) (i : List ℕ) → IsShare o i → is_share_of o i ≡ true
-unfolding is_share_of
-is_share o i s =
-    and_both _ _ (le-leb 4 (length i) s.long)
-    (and_both _ _ (eq-eqb _ 4 s.kind) (and_both _ _ (eq-eqb _ o s.owner) (le-leb 1 _ s.some)))
-
-pub other_kind : (o : ℕ) (i : List ℕ) → (get_or i 0 0 ≡ 4 → ⊥) → is_share_of o i ≡ false
-unfolding is_share_of
-other_kind o i n = and_false_right (leb 4 (length i)) _ (and_false_left _ _ (ne_eqb _ 4 n))
-
-pub other_owner : (o : ℕ) (i : List ℕ) → (get_or i 1 0 ≡ o → ⊥) → is_share_of o i ≡ false
-unfolding is_share_of
-other_owner o i n =
-    and_false_right (leb 4 (length i)) _ (and_false_right (eqb (get_or i 0 0) 4) _ (and_false_left _ _ (ne_eqb _ o n)))
-
--- the two bytes of a share
-word-written : (x : ℕ) (r : List ℕ) → x ≤ 65535 → word (big_endian 2 x ++ r) 0 ≡ x
-unfolding big_endian
-word-written x r l = omega arith
-
-two_read : (a b : ℕ) (r : List ℕ) → a < 256 → b < 256 → big_endian 2 (256 * a + b) ++ r ≡ a ∷ b ∷ r
-unfolding big_endian
-two_read a b r la lb = ap₂ (λ (x y : ℕ). x ∷ y ∷ r) (omega arith) (omega arith)
-
--- a record that was written is read
-pub share_written : (o b : ℕ) (r : List ℕ) → (b ≡ 0 → ⊥) → b ≤ 65535 → is_share_of o (share_bytes o b ++ r) ≡ true
-share_written o b r n l = ap (λ (q : List ℕ). is_share_of o (q ++ r)) (share_some o b n) ∙ is_share o _ read
-  where
-    read : IsShare o (4 ∷ o ∷ (big_endian 2 b ++ r))
-    read = record {
-      long = unfold big_endian in omega arith;
-      kind = refl;
-      owner = refl;
-      some = omega (arith, word-written b r l, n);
-    }
-
-pub share_word : (o b : ℕ) (r : List ℕ) → (b ≡ 0 → ⊥) → b ≤ 65535 → word (share_bytes o b ++ r) 2 ≡ b
-share_word o b r n l = ap (λ (q : List ℕ). word (q ++ r) 2) (share_some o b n) ∙ word-written b r l
-
-pub share_drop : (o b : ℕ) (r : List ℕ) → (b ≡ 0 → ⊥) → drop 4 (share_bytes o b ++ r) ≡ r
-share_drop o b r n = ap (λ (q : List ℕ). drop 4 (q ++ r)) (share_some o b n) ∙ (unfold big_endian in refl)
-
--- a record that is read was written so
-pub share_read : (o : ℕ) (i : List ℕ) → Bytes i → IsShare o i → i ≡ share_bytes o (word i 2) ++ drop 4 i
-share_read o i b s =
-    let n : word i 2 ≡ 0 → ⊥ = λ z. omega (arith, s.some, z) in
-    drop-cons i 0 0 (omega (arith, s.long))
-    ∙ ap₂ (λ (x : ℕ) (q : List ℕ). x ∷ q) s.kind
-    (drop-cons i 1 0 (omega (arith, s.long))
-    ∙ ap₂ (λ (x : ℕ) (q : List ℕ). x ∷ q) s.owner
-    (drop-cons i 2 0 (omega (arith, s.long))
-    ∙ ap (λ (q : List ℕ). get_or i 2 0 ∷ q) (drop-cons i 3 0 (omega (arith, s.long)))
-    ∙ sym (two_read (get_or i 2 0) (get_or i 3 0) (drop 4 i) (b 2) (b 3))))
-    ∙ ap (λ (q : List ℕ). q ++ drop 4 i) (sym (share_some o (word i 2) n))
+use Rattle.store.proofs.ShareRecordLaws.{share_none, length_share, front_none, front_other, Stands, front_read}
+use Rattle.store.proofs.ShareRecordLaws.{front_written, share_drop, shares_more, shares_done}
 
 -- ---- all records
 
@@ -123,108 +32,92 @@ length_shares o (b ∷ bs) =
     length-append (share_bytes o b) (share_records (suc o) bs)
     ∙ ap₂ (λ (x y : ℕ). x + y) (length_share o b) (length_shares (suc o) bs)
 
--- one more owner
-module _ (k o : ℕ) (i : List ℕ) where
-  pub shares_take : is_share_of o i ≡ true → shares_at (suc k) o i ≡ and_share (word i 2) (shares_at k (suc o) (drop 4 i))
-  unfolding shares_at
-  shares_take e =
-      ap (λ (c : Bool). and_share (pick c (word i 2) 0) (shares_at k (suc o) (pick c (drop 4 i) i))) e
-
-  pub shares_pass : is_share_of o i ≡ false → shares_at (suc k) o i ≡ and_share 0 (shares_at k (suc o) i)
-  unfolding shares_at
-  shares_pass e =
-      ap (λ (c : Bool). and_share (pick c (word i 2) 0) (shares_at k (suc o) (pick c (drop 4 i) i))) e
-
-pub shares_done : (o : ℕ) (i : List ℕ) → shares_at zero o i ≡ record { shares = []; rest = i }
-unfolding shares_at
-shares_done o i = refl
-
 -- the shares and the rest of an index are the index
 pub record Fronting (k o : ℕ) (i : List ℕ) (f : Fronted) : Type 0 where
   pub is : i ≡ share_records o f.shares ++ f.rest
   pub each : length f.shares ≡ k
-  pub two : (q : ℕ) → get_or f.shares q 0 ≤ 65535
+  pub four : (q : ℕ) → get_or f.shares q 0 ≤ 4294967295
 
 pub fronting : (k o : ℕ) (i : List ℕ) → Bytes i → Fronting k o i (shares_at k o i)
-fronting zero o i b =
+fronting zero o i y =
     subst (Fronting zero o i) (sym (shares_done o i))
-    (record { is = unfold share_records in refl; each = refl; two = λ q. omega arith })
-fronting (suc k) o i b =
-    go (is_share_of o i) refl (fronting k (suc o) (drop 4 i) (bytes_behind i 4 b)) (fronting k (suc o) i b)
+    (record { is = unfold share_records in refl; each = refl; four = λ q. omega arith })
+fronting (suc k) o i y =
+    let b : ℕ = front_share o i in
+    let r : List ℕ = drop (share_size b) i in
+    subst (Fronting (suc k) o i) (sym (shares_more k o i))
+    (onto b (shares_at k (suc o) r) r (front_read o i y)
+    (fronting k (suc o) r (bytes_behind i (share_size b) y)) refl)
   where
-    onto : (w : ℕ) (f : Fronted) (r : List ℕ) → Fronting k (suc o) r f → w ≤ 65535 → i ≡ share_bytes o w ++ r
-        → Fronting (suc k) o i (and_share w f)
-    onto w f r h l e = record {
-      is = e ∙ ap (λ (q : List ℕ). share_bytes o w ++ q) h.is
-          ∙ sym (append_assoc (share_bytes o w) (share_records (suc o) f.shares) f.rest)
+    onto : (b : ℕ) (f : Fronted) (r : List ℕ) → Stands o i b → Fronting k (suc o) r f → r ≡ drop (share_size b) i
+        → Fronting (suc k) o i (and_share b f)
+    onto b f r s h e = record {
+      is = s.is ∙ ap (λ (q : List ℕ). share_bytes o b ++ q) (sym e ∙ h.is)
+          ∙ sym (append_assoc (share_bytes o b) (share_records (suc o) f.shares) f.rest)
           ∙ unfold share_records in refl;
       each = ap suc h.each;
-      two = two;
+      four = four;
     }
       where
-        two : (q : ℕ) → get_or (w ∷ f.shares) q 0 ≤ 65535
-        two zero = l
-        two (suc q) = h.two q
-
-    go : (c : Bool) → is_share_of o i ≡ c → Fronting k (suc o) (drop 4 i) (shares_at k (suc o) (drop 4 i))
-        → Fronting k (suc o) i (shares_at k (suc o) i) → Fronting (suc k) o i (shares_at (suc k) o i)
-    go true e taken passed =
-        subst (Fronting (suc k) o i) (sym (shares_take k o i e))
-        (onto (word i 2) (shares_at k (suc o) (drop 4 i)) (drop 4 i) taken (omega (arith, word_below i b 2))
-        (share_read o i b (is_share_of_lem o i e)))
-    go false e taken passed =
-        subst (Fronting (suc k) o i) (sym (shares_pass k o i e))
-        (onto 0 (shares_at k (suc o) i) i passed (omega arith) refl)
+        four : (q : ℕ) → get_or (b ∷ f.shares) q 0 ≤ 4294967295
+        four zero = s.most
+        four (suc q) = h.four q
 
 pub front_is : (i : List ℕ) → Bytes i → i ≡ share_records 0 (fronted i).shares ++ (fronted i).rest
 front_is i b = (fronting owners 0 i b).is
 
 pub given_front : (i : List ℕ) → Bytes i → Given (fronted i).shares
-given_front i b = record { each = (fronting owners 0 i b).each; two = (fronting owners 0 i b).two }
+given_front i b = record { each = (fronting owners 0 i b).each; four = (fronting owners 0 i b).four }
 
--- shares that were written are read, where no record of their kind follows
-module _ (r : List ℕ) (n : get_or r 0 0 ≡ 4 → ⊥) where
+-- no share's record starts with that byte
+pub record NoShare (r : List ℕ) : Type 0 where
+  pub not4 : get_or r 0 0 ≡ 4 → ⊥
+  pub not6 : get_or r 0 0 ≡ 6 → ⊥
+
+-- shares that were written are read, where no record of a share follows
+module _ (r : List ℕ) (n : NoShare r) where
   -- no share of a smaller owner stands there
-  none_smaller : (o p : ℕ) (s : List ℕ) → o < p → is_share_of o (share_records p s ++ r) ≡ false
+  none_smaller : (o p : ℕ) (s : List ℕ) → o < p → front_share o (share_records p s ++ r) ≡ 0
   unfolding share_records
-  none_smaller o p [] l = other_kind o r n
-  none_smaller o p (b ∷ bs) l = go (eqb b 0) refl (none_smaller o (suc p) bs (omega arith))
+  none_smaller o p [] l = front_none o r n.not4 n.not6
+  none_smaller o p (b ∷ bs) l = go (eqb b 0) refl (is_long b) (none_smaller o (suc p) bs (omega arith))
     where
-      go : (c : Bool) → eqb b 0 ≡ c → is_share_of o (share_records (suc p) bs ++ r) ≡ false
-          → is_share_of o ((pick c [] (4 ∷ p ∷ big_endian 2 b) ++ share_records (suc p) bs) ++ r) ≡ false
-      go true e ih = ih
-      go false e ih = other_owner o _ (λ (z : p ≡ o). omega (arith, z, l))
+      go : (c : Bool) → eqb b 0 ≡ c → (d : Bool) → front_share o (share_records (suc p) bs ++ r) ≡ 0
+          → front_share o ((pick c [] (pick d (6 ∷ p ∷ big_endian 4 b) (4 ∷ p ∷ big_endian 2 b))
+          ++ share_records (suc p) bs) ++ r) ≡ 0
+      go true e d ih = ih
+      go false e true ih = front_other o _ (λ (z : p ≡ o). omega (arith, z, l))
+      go false e false ih = front_other o _ (λ (z : p ≡ o). omega (arith, z, l))
 
-  shares_written : (o : ℕ) (s : List ℕ) → ((q : ℕ) → get_or s q 0 ≤ 65535)
+  front_again : (o b : ℕ) (bs : List ℕ) → b ≤ 4294967295
+      → front_share o (share_bytes o b ++ (share_records (suc o) bs ++ r)) ≡ b
+  front_again o b bs l = go (eqb b 0) refl
+    where
+      go : (c : Bool) → eqb b 0 ≡ c → front_share o (share_bytes o b ++ (share_records (suc o) bs ++ r)) ≡ b
+      go true e =
+          let z : b ≡ 0 = eqb-true b 0 e in
+          ap (λ (q : List ℕ). front_share o (q ++ (share_records (suc o) bs ++ r))) (share_none o b z)
+          ∙ none_smaller o (suc o) bs (omega arith) ∙ sym z
+      go false e = front_written o b (share_records (suc o) bs ++ r) (eqb-false b 0 e) l
+
+  shares_written : (o : ℕ) (s : List ℕ) → ((q : ℕ) → get_or s q 0 ≤ 4294967295)
       → shares_at (length s) o (share_records o s ++ r) ≡ record { shares = s; rest = r }
   unfolding share_records
-  shares_written o [] two = shares_done o r
-  shares_written o (b ∷ bs) two =
-      go (eqb b 0) refl (shares_written (suc o) bs (λ q. two (suc q)))
-    where
-      behind : List ℕ
-      behind = share_records (suc o) bs ++ r
+  shares_written o [] four = shares_done o r
+  shares_written o (b ∷ bs) four =
+      let behind : List ℕ = share_records (suc o) bs ++ r in
+      let i : List ℕ = share_bytes o b ++ behind in
+      let read : front_share o i ≡ b = front_again o b bs (four 0) in
+      ap (shares_at (suc (length bs)) o) (append_assoc (share_bytes o b) (share_records (suc o) bs) r)
+      ∙ shares_more (length bs) o i
+      ∙ ap (λ (x : ℕ). and_share x (shares_at (length bs) (suc o) (drop (share_size x) i))) read
+      ∙ ap (λ (q : List ℕ). and_share b (shares_at (length bs) (suc o) q)) (share_drop o b behind)
+      ∙ ap (and_share b) (shares_written (suc o) bs (λ q. four (suc q)))
 
-      go : (c : Bool) → eqb b 0 ≡ c → shares_at (length bs) (suc o) behind ≡ record { shares = bs; rest = r }
-          → shares_at (suc (length bs)) o ((share_bytes o b ++ share_records (suc o) bs) ++ r)
-          ≡ record { shares = b ∷ bs; rest = r }
-      go true e ih =
-          let z : b ≡ 0 = eqb-true b 0 e in
-          ap (λ (q : List ℕ). shares_at (suc (length bs)) o ((q ++ share_records (suc o) bs) ++ r)) (share_none o b z)
-          ∙ shares_pass (length bs) o behind (none_smaller o (suc o) bs (omega arith))
-          ∙ ap (and_share 0) ih ∙ ap (λ (x : ℕ). record { shares = x ∷ bs; rest = r }) (sym z)
-      go false e ih =
-          let z : b ≡ 0 → ⊥ = eqb-false b 0 e in
-          ap (shares_at (suc (length bs)) o) (append_assoc (share_bytes o b) (share_records (suc o) bs) r)
-          ∙ shares_take (length bs) o (share_bytes o b ++ behind) (share_written o b behind z (two 0))
-          ∙ ap₂ (λ (x : ℕ) (q : List ℕ). and_share x (shares_at (length bs) (suc o) q)) (share_word o b behind z (two 0))
-          (share_drop o b behind z)
-          ∙ ap (and_share b) ih
-
-pub front_of : (s r : List ℕ) → Given s → (get_or r 0 0 ≡ 4 → ⊥)
+pub front_of : (s r : List ℕ) → Given s → NoShare r
     → fronted (share_records 0 s ++ r) ≡ record { shares = s; rest = r }
 front_of s r g n =
-    ap (λ (k : ℕ). shares_at k 0 (share_records 0 s ++ r)) (sym g.each) ∙ shares_written r n 0 s g.two
+    ap (λ (k : ℕ). shares_at k 0 (share_records 0 s ++ r)) (sym g.each) ∙ shares_written r n 0 s g.four
 
 -- ---- the whole store
 
@@ -236,21 +129,25 @@ encode_split n s hs l =
     ∙ ap (λ (k : ℕ). share_records 0 s ++ padded (n - k) (records 0 hs)) (length_shares 0 s)
 
 -- the records of lines start with another kind
-pub line_kind : (n : ℕ) (hs : List Held) → get_or (encode_records n hs) 0 0 ≡ 4 → ⊥
+pub line_kind : (n : ℕ) (hs : List Held) → NoShare (encode_records n hs)
 unfolding encode_records padded records record_bytes
-line_kind n [] e = zeros (n - 0) e
+line_kind n [] = record { not4 = λ e. zeros (n - 0) 4 (omega arith) e; not6 = λ e. zeros (n - 0) 6 (omega arith) e }
   where
-    zeros : (k : ℕ) → get_or (replicate {A = ℕ} k 0) 0 0 ≡ 4 → ⊥
-    zeros zero q = omega (arith, q)
-    zeros (suc k) q = omega (arith, q)
-line_kind n (h ∷ hs) e =
-    go (eqb h.key.owner 0)
-    (uuid_bytes h.key.uuid ++ (big_endian 2 0 ++ big_endian 2 (length h.line))) (records (0 + length h.line) hs)
-    (replicate (n - length (records 0 (h ∷ hs))) 0) e
+    zeros : (k x : ℕ) → 0 < x → get_or (replicate {A = ℕ} k 0) 0 0 ≡ x → ⊥
+    zeros zero x l q = omega (arith, q)
+    zeros (suc k) x l q = omega (arith, q)
+line_kind n (h ∷ hs) =
+    go (is_long 0) (eqb h.key.owner 0)
+    (uuid_bytes h.key.uuid ++ (big_endian (offset_width (is_long 0)) 0 ++ big_endian 2 (length h.line)))
+    (records (0 + length h.line) hs)
+    (replicate (n - length (records 0 (h ∷ hs))) 0)
   where
-    go : (c : Bool) (r q s : List ℕ) → get_or (((pick c (1 ∷ []) (3 ∷ h.key.owner ∷ []) ++ r) ++ q) ++ s) 0 0 ≡ 4 → ⊥
-    go true r q s z = omega (arith, z)
-    go false r q s z = omega (arith, z)
+    go : (d c : Bool) (r q s : List ℕ)
+        → NoShare (((pick d (pick c (2 ∷ []) (5 ∷ h.key.owner ∷ [])) (pick c (1 ∷ []) (3 ∷ h.key.owner ∷ [])) ++ r) ++ q) ++ s)
+    go true true r q s = record { not4 = λ z. omega (arith, z); not6 = λ z. omega (arith, z) }
+    go true false r q s = record { not4 = λ z. omega (arith, z); not6 = λ z. omega (arith, z) }
+    go false true r q s = record { not4 = λ z. omega (arith, z); not6 = λ z. omega (arith, z) }
+    go false false r q s = record { not4 = λ z. omega (arith, z); not6 = λ z. omega (arith, z) }
 
 module _ (i t : List ℕ) where
   pub content_parts : (c : Content) → content i t ≡ some c

@@ -1,31 +1,52 @@
--- A key struck out by number: the row before with its key gives nothing any more, and a new row gives the new line.
+-- A key struck out by number: the row before with its key gives nothing any more, and a new row gives the new line. And
+-- rows that differ in none of those that are counted give the same lines.
 -- Assumes nothing.
 use mathlib.Core.Bool.{Bool, true, false}
-use mathlib.Core.List.{List, [], ◌∷◌, ◌++◌}
+use mathlib.Core.List.{List, [], ◌∷◌}
 use mathlib.Core.Logic.{◌⊎◌, inl, inr, ⊎_elim}
 use mathlib.Core.Path.{◌≡◌, refl, sym, ap, ◌∙◌, subst}
 use Prim.Native.Nat.{ℕ, ◌+◌, ◌-◌, ◌≤◌, ◌<◌}
-use native.Mathlib.Nat.{add-zero}
 use native.Mathlib.Omega.{arith}
 use lib.Dec.{eqb, ltb}
-use lib.ListN.{length, drop, length-drop}
-use lib.Seq.{length-take-le}
-use borrow.Author.Tests.{eqb-true, eqb-false, eq-eqb, ltb-true, ltb-false}
+use lib.ListN.{length}
+use borrow.Author.Tests.{eqb-true, eqb-false, ltb-true, ltb-false}
 use Rattle.text.specs.Bytes.{pick}
 use Rattle.store.specs.declared.rows.Row.{Row}
 use Rattle.store.specs.declared.table.Fill.{Fill}
 use Rattle.store.specs.Decode.{decode}
 use Rattle.store.specs.Held.{Key, Held, same_key, strike}
-use Rattle.store.specs.Inner.{Sized, size_of, sizes}
 use Rattle.store.specs.Keys.{Sought}
-use Rattle.store.specs.Layout.{record_bytes, texts}
-use Rattle.store.specs.Rows.{row_in, key_in, start_in, len_in, row_put, len_put}
-use Rattle.store.specs.Table.{living, source_of, held_at, line_at, Tabled, InRows, len_before, Begins, struck_before}
+use Rattle.store.specs.Layout.{texts}
+use Rattle.store.specs.Rows.{row_in, key_in, start_in, len_in, row_put, len_put, put_before}
+use Rattle.store.specs.Table.{living, held_at, line_at, Tabled, InRows, Begins}
 use Rattle.store.proofs.HeldLaws.{same_refl, same_eq}
 use Rattle.store.proofs.LivingLaws.{gives_none}
-use Rattle.store.proofs.RowLaws.{sizes-append, sizes-move, sizes_cons, sizes-none, texts_sum, texts_cons, texts-none}
-use Rattle.store.proofs.TableLaws.{living-same, strike-living, living_less, gives_same, gives_other}
+use Rattle.store.proofs.TableLaws.{living-same, strike-living, gives_same, gives_other}
 use Rattle.store.proofs.WriteLaws.{put_long, row_same, row_other, len_long, len_same, len_other}
+
+-- rows that are the same, as far as they are counted
+pub tabled_same : {i t s : List ℕ} {a : List Row} {old c : ℕ} {hs : List Held} → Tabled i t s a old c hs
+    → (b : List Row) → length b ≡ length a → ((k : ℕ) → k < c → row_in b k ≡ row_in a k) → Tabled i t s b old c hs
+tabled_same {i} {t} {s} {a} {old} {c} {hs} T b m e = record {
+  is = T.is ∙ living-same (line_at t s a old) (line_at t s b old) c (λ k l. sym (gives k l));
+  inside = λ k l. omega (arith, T.inside k l, ap (λ (r : Row). r.len) (e k l), ap (λ (r : Row). r.start) (e k l));
+  ahead = λ k l. omega (
+    arith,
+    T.ahead k l,
+    ap (λ (r : Row). r.start) (e k (omega (arith, T.olds))),
+    ap (λ (q : List Held). length (texts q)) (living-same (line_at t s b old) (line_at t s a old) k
+        (λ j p. gives j (omega (arith, T.olds)))),
+  );
+  stands = λ k l z. subst (λ (v : List Held). Begins (decode i t) v)
+      (living-same (line_at t s a old) (line_at t s b old) k (λ j p. sym (gives j (omega (arith, T.olds)))))
+      (T.stands k l (λ j p o. z j p (ap (λ (r : Row). r.len) (e j (omega (arith, T.olds))) ∙ o)));
+  olds = T.olds;
+  most = omega (arith, T.most, m);
+  good = T.good;
+}
+  where
+    gives : (k : ℕ) → k < c → line_at t s b old k ≡ line_at t s a old k
+    gives k l = gives_same t s a b old k (e k l)
 
 same_or : (k j : ℕ) → (k ≡ j) ⊎ (k ≡ j → ⊥)
 same_or k j = go (eqb k j) refl
@@ -45,13 +66,6 @@ strike_gone : (u : Key) (h : Held) (b : Bool) → same_key u h.key ≡ true → 
 unfolding strike
 strike_gone u h true e = refl
 strike_gone u h false e = ap (λ (c : Bool). pick c [] (h ∷ [])) e
-
-pub struck_long : (a : List Row) (r : ℕ) → length (struck_before a r) ≡ length a
-struck_long a r = go (eqb r 0)
-  where
-    go : (b : Bool) → length (pick b a (len_put a (r - 1) 0)) ≡ length a
-    go true = refl
-    go false = len_long a (r - 1) 0
 
 module _ {i t s : List ℕ} {a : List Row} {heads next : List ℕ} {old : ℕ} {f : Fill} {hs : List Held}
     (x : InRows i t s a heads next old f hs) (u : Key) (start len : ℕ) (cl : f.count < length a)
@@ -86,54 +100,25 @@ module _ {i t s : List ℕ} {a : List Row} {heads next : List ℕ} {old : ℕ} {
     gives-before : (k : ℕ) → k < f.count → line_at t s a' old k ≡ S k
     gives-before k l = gives_other t s a old f.count u start len k (λ z. omega arith)
 
-    -- without room: one row more is written, and not counted
-    pub tabled_more : Tabled i t s (row_put a f.count u start len) old f.count hs
-    tabled_more = record {
-      is = x.tabled.is ∙ living-same S (line_at t s a' old) f.count (λ k l. sym (gives-before k l));
-      inside = λ k l. omega (
-        arith,
-        x.tabled.inside k l,
-        ap (λ (r : Row). r.len) (row_before k l),
-        start_before k l,
-      );
-      ahead = λ k l. omega (
-        arith,
-        x.tabled.ahead k l,
-        start_before k (omega (arith, x.tabled.olds)),
-        ap (λ (q : List Held). length (texts q)) (living-same (line_at t s a' old) S k
-            (λ j p. gives-before j (omega (arith, x.tabled.olds)))),
-      );
-      stands = λ k l z. subst (λ (v : List Held). Begins (decode i t) v)
-          (living-same S (line_at t s a' old) k (λ j p. sym (gives-before j (omega (arith, x.tabled.olds)))))
-          (x.tabled.stands k l
-          (λ j p e. z j p (ap (λ (r : Row). r.len) (row_before j (omega (arith, x.tabled.olds))) ∙ e)));
-      olds = x.tabled.olds;
-      most = omega (arith, x.tabled.most, put_long a f.count u start len);
-      good = x.tabled.good;
-    }
-
-    -- the row before with the same key, if there is one: what its length was, and the rows without it
-    pub data Before (had : ℕ) (b : List Row) : Type 0 where
-      none : ((k : ℕ) → k < f.count → key_in a k ≡ u → ⊥) → had ≡ 0 → b ≡ row_put a f.count u start len
-          → Before had b
+    -- the rows without the row before with the same key, if there is one
+    pub data Before (b : List Row) : Type 0 where
+      none : ((k : ℕ) → k < f.count → key_in a k ≡ u → ⊥) → b ≡ row_put a f.count u start len → Before b
       one : (j : ℕ) → j < f.count → key_in a j ≡ u → ((k : ℕ) → j < k → k < f.count → key_in a k ≡ u → ⊥)
-          → had ≡ len_in a j → b ≡ len_put (row_put a f.count u start len) j 0 → Before had b
+          → b ≡ len_put (row_put a f.count u start len) j 0 → Before b
 
     pub before : (r : ℕ) → Sought (key_in (row_put a f.count u start len)) f.count r → r ≤ f.count
-        → Before (len_before (row_put a f.count u start len) r) (struck_before (row_put a f.count u start len) r)
+        → Before (put_before (row_put a f.count u start len) r 0)
     before r q l = go (eqb r 0) refl
       where
-        go : (b : Bool) → eqb r 0 ≡ b
-            → Before (pick b 0 (len_in a' (r - 1))) (pick b a' (len_put a' (r - 1) 0))
+        go : (b : Bool) → eqb r 0 ≡ b → Before (pick b a' (len_put a' (r - 1) 0))
         go true e =
             let z : r ≡ 0 = eqb-true r 0 e in
-            none (λ k p v. q.clear l k (omega arith) p (key_before k p ∙ v ∙ sym key_new)) refl refl
+            none (λ k p v. q.clear l k (omega arith) p (key_before k p ∙ v ∙ sym key_new)) refl
         go false e =
             let z : r ≡ 0 → ⊥ = eqb-false r 0 e in
             let p : 0 < r = omega arith in
             one (r - 1) (omega arith) (sym (key_before (r - 1) (omega arith)) ∙ q.hit p l ∙ key_new)
-            (λ k o v y. q.clear l k (omega arith) v (key_before k v ∙ y ∙ sym key_new))
-            (ap (λ (v : Row). v.len) (row_before (r - 1) (omega arith))) refl
+            (λ k o v y. q.clear l k (omega arith) v (key_before k v ∙ y ∙ sym key_new)) refl
 
     not_same : (k : ℕ) → (K k ≡ u → ⊥) → same_key u (K k) ≡ false
     not_same k g = go (same_key u (K k)) refl
@@ -164,50 +149,13 @@ module _ {i t s : List ℕ} {a : List Row} {heads next : List ℕ} {old : ℕ} {
     goes k e = strike_gone u (held_at t s a old k) (eqb (len_in a k) 0)
         (subst (λ (v : Key). same_key u v ≡ true) (sym e) (same_refl u))
 
-    given_text : (k : ℕ) → k < f.count → length (texts (S k)) ≡ len_in a k
-    unfolding line_at
-    given_text k l = go (eqb (len_in a k) 0) refl
-      where
-        src : List ℕ
-        src = source_of t s old k
-
-        go : (b : Bool) → eqb (len_in a k) 0 ≡ b
-            → length (texts (pick b [] (held_at t s a old k ∷ []))) ≡ len_in a k
-        go true e = texts-none ∙ sym (eqb-true (len_in a k) 0 e)
-        go false e =
-            texts_cons (held_at t s a old k) [] ∙ omega (
-              arith,
-              texts-none,
-              length-take-le (len_in a k) (drop (start_in a k) (source_of t s old k)) (omega (
-                arith,
-                length-drop (start_in a k) (source_of t s old k),
-                x.tabled.inside k l,
-              )),
-            )
-
-    given_size : (k : ℕ) → K k ≡ u → (z : ℕ) → Sized u z → sizes 0 (S k) ≡ pick (eqb (len_in a k) 0) 0 z
-    unfolding line_at
-    given_size k e z q = go (eqb (len_in a k) 0)
-      where
-        go : (b : Bool) → sizes 0 (pick b [] (held_at t s a old k ∷ [])) ≡ pick b 0 z
-        go true = sizes-none 0
-        go false =
-            sizes_cons 0 (held_at t s a old k) [] ∙ ap (λ (y : ℕ). size_of 0 (held_at t s a old k) + y) (sizes-none _)
-            ∙ add-zero _
-            ∙ ap (λ (v : Key). length (record_bytes v 0 (length (held_at t s a old k).line))) e ∙ sym (q 0 _)
-
-    sizes_sum : (xs ys : List Held) → sizes 0 (xs ++ ys) ≡ sizes 0 xs + sizes 0 ys
-    sizes_sum xs ys = sizes-append xs ys 0 ∙ ap (λ (v : ℕ). sizes 0 xs + v) (sizes-move ys _ 0)
-
     -- the key struck out
-    module _ (had : ℕ) (b : List Row) where
+    module _ (b : List Row) where
       abbrev S'' : ℕ → List Held
       S'' k = line_at t s b old k
 
       pub record Struck : Type 0 where
         pub lines : strike u hs ≡ living (line_at t s b old) f.count
-        pub text : length (texts hs) ≡ length (texts (strike u hs)) + had
-        pub index : (z : ℕ) → Sized u z → pick (eqb had 0) (sizes 0 hs + z) (sizes 0 hs) ≡ sizes 0 (strike u hs) + z
         pub keys : (k : ℕ) → k < f.count + 1 → key_in (row_put a f.count u start len) k ≡ key_in b k
         pub starts : (k : ℕ) → k < f.count → start_in b k ≡ start_in a k
         pub either : (k : ℕ) → k < f.count → (len_in b k ≡ 0) ⊎ (row_in b k ≡ row_in a k)
@@ -215,8 +163,8 @@ module _ {i t s : List ℕ} {a : List Row} {heads next : List ℕ} {old : ℕ} {
         pub long : length b ≡ length a
         pub once : (j : ℕ) → j < f.count → key_in a j ≡ u → len_in b j ≡ 0
 
-      pub struck : Before had b → Struck
-      struck (none g eh el) =
+      pub struck : Before b → Struck
+      struck (none g el) =
           let same : (k : ℕ) → row_in b k ≡ row_in a' k = λ k. ap (λ (v : List Row). row_in v k) el in
           let is : strike u hs ≡ hs
           = ap (strike u) x.tabled.is ∙ strike-living u S f.count
@@ -224,9 +172,6 @@ module _ {i t s : List ℕ} {a : List Row} {heads next : List ℕ} {old : ℕ} {
           record {
             lines = is ∙ x.tabled.is ∙ living-same S S'' f.count
                 (λ k l. sym (gives_same t s a' b old k (same k) ∙ gives-before k l));
-            text = ap (λ (v : List Held). length (texts v)) (sym is) ∙ omega (arith, eh);
-            index = λ z q. ap (λ (b : Bool). pick b (sizes 0 hs + z) (sizes 0 hs)) (eq-eqb had 0 eh)
-                ∙ ap (λ (v : List Held). sizes 0 v + z) (sym is);
             keys = λ k l. sym (ap (λ (v : Row). v.key) (same k));
             starts = λ k l. ap (λ (v : Row). v.start) (same k ∙ row_before k l);
             either = λ k l. inr (same k ∙ row_before k l);
@@ -234,17 +179,8 @@ module _ {i t s : List ℕ} {a : List Row} {heads next : List ℕ} {old : ℕ} {
             long = ap length el ∙ put_long a f.count u start len;
             once = λ j l e. absurd (g j l e);
           }
-      struck (one j jl ej g eh el) = record {
+      struck (one j jl ej g el) = record {
         lines = strikes;
-        text = omega (
-          arith,
-          living_less (λ (q : List Held). length (texts q)) texts-none texts_sum S S'' j nothing f.count rest jl,
-          ap (λ (v : List Held). length (texts v)) x.tabled.is,
-          ap (λ (v : List Held). length (texts v)) strikes,
-          given_text j jl,
-          eh,
-        );
-        index = λ z q. sum z q (eqb had 0) refl;
         keys = λ k l. sym (⊎_elim
             (λ e. ap (λ (v : ℕ). key_in b v) e ∙ ap (λ (v : Row). v.key) gone ∙ ap (λ (v : ℕ). K' v) (sym e))
             (λ e. ap (λ (v : Row). v.key) (other k e)) (same_or k j));
@@ -288,22 +224,3 @@ module _ {i t s : List ℕ} {a : List Row} {heads next : List ℕ} {old : ℕ} {
 
           strikes : strike u hs ≡ living S'' f.count
           strikes = ap (strike u) x.tabled.is ∙ strike-living u S f.count ∙ living-same _ S'' f.count each
-
-          sum : (z : ℕ) → Sized u z → (b : Bool) → eqb had 0 ≡ b
-              → pick b (sizes 0 hs + z) (sizes 0 hs) ≡ sizes 0 (strike u hs) + z
-          sum z q b e =
-              let less = living_less (sizes 0) (sizes-none 0) sizes_sum S S'' j nothing f.count rest jl in
-              let all : sizes 0 hs ≡ sizes 0 (living S f.count) = ap (sizes 0) x.tabled.is in
-              let left : sizes 0 (strike u hs) ≡ sizes 0 (living S'' f.count) = ap (sizes 0) strikes in
-              let out : sizes 0 (S j) ≡ pick b 0 z
-              = given_size j ej z q
-              ∙ ap (λ (v : Bool). pick v 0 z) (ap (λ (v : ℕ). eqb v 0) (sym eh) ∙ e) in
-              go b out less all left
-            where
-              go : (b : Bool) → sizes 0 (S j) ≡ pick b 0 z
-                  → sizes 0 (living S f.count) ≡ sizes 0 (living S'' f.count) + sizes 0 (S j)
-                  → sizes 0 hs ≡ sizes 0 (living S f.count)
-                  → sizes 0 (strike u hs) ≡ sizes 0 (living S'' f.count)
-                  → pick b (sizes 0 hs + z) (sizes 0 hs) ≡ sizes 0 (strike u hs) + z
-              go true p q v w = omega arith
-              go false p q v w = omega arith

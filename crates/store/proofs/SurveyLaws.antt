@@ -21,7 +21,7 @@ use Rattle.store.specs.declared.soundness.Stock.{Stock}
 use Rattle.store.specs.declared.soundness.Surveyed.{Surveyed}
 use Rattle.store.specs.declared.soundness.Ledger.{Ledger}
 use Rattle.store.specs.Decode.{no_head, head_at, head_fits, walk, decode, zeroes, fronted, with_lines, content}
-use Rattle.store.specs.Held.{Held, index_max, text_max, record_size}
+use Rattle.store.specs.Held.{Held, index_max, text_max}
 use Rattle.store.specs.Layout.{Bytes}
 use Rattle.store.specs.Fronts.{Fronts}
 use Rattle.store.specs.Shares.{Content}
@@ -34,10 +34,10 @@ use Rattle.store.proofs.BodyLaws.{bytes_part}
 use Rattle.store.proofs.BoolLaws.{true-false}
 use Rattle.store.proofs.ChainLaws.{says-turn, says_agree}
 use Rattle.store.proofs.DecodeLaws.{laid, lines_of_lem}
-use Rattle.store.proofs.HeadLaws.{whole_size}
+use Rattle.store.proofs.HeadLaws.{whole_some}
 use Rattle.store.proofs.LoadLaws.{Loading, load-first, load_less, load_end, load-turn}
 use Rattle.store.proofs.OnceLaws.{list_end, tells_once}
-use Rattle.store.proofs.RecordLaws.{Fits, fits_of, size_least}
+use Rattle.store.proofs.RecordLaws.{Fits, fits_of}
 use Rattle.store.proofs.SoundLaws.{Walking, walking, walking_end, walking_bad, walking_turn, sound_walk}
 use Rattle.store.proofs.SoundLaws.{sound_text, sound_once}
 use Rattle.store.proofs.ShareLaws.{content_parts}
@@ -95,11 +95,8 @@ module _ {i t : List ℕ} {at : ℕ} {a : List Row} {heads next : List ℕ} {n u
     e : head ≡ head_at (drop at i)
     e = e' ∙ ap head_at (tail_part at i)
 
-    s : head.size ≡ record_size head.key.owner
-    s = whole_size rest whole head e'
-
     pub some_size : head.size ≡ 0 → ⊥
-    some_size z = omega (arith, s, (size_least head.key.owner).0)
+    some_size z = omega (arith, whole_some rest whole head e')
 
     pub survey_bad : b ≡ false → known (walk (suc (length i)) 0 i t) ≡ false
     survey_bad q = sym (walking_bad i t _ at used w.walks head e some_size b fit q)

@@ -3,9 +3,7 @@
 use mathlib.Core.Bool.{Bool, true, false}
 use mathlib.Core.List.{List, [], ◌∷◌, ◌++◌}
 use mathlib.Core.Path.{◌≡◌, refl, sym, ap, ap₂, ◌∙◌, subst}
-use mathlib.Core.Logic.{⊎_elim}
-use Prim.Native.Nat.{ℕ, zero, suc, ◌+◌, ◌-◌, ◌≤◌, ◌<◌}
-use native.Mathlib.Nat.{eq-or-lt_of_le}
+use Prim.Native.Nat.{ℕ, zero, suc, ◌-◌, ◌≤◌, ◌<◌}
 use native.Mathlib.Omega.{arith}
 use lib.Dec.{eqb}
 use lib.ListN.{length, get_or, take, drop}
@@ -65,38 +63,6 @@ unfolding living
 strike-living u S zero = unfold strike in refl
 strike-living u S (suc n) = strike-append u (living S n) (S n)
     ∙ ap (λ (q : List Held). q ++ strike u (S n)) (strike-living u S n)
-
--- what adds up over lines, where one number gives nothing any more
-module _ (f : List Held → ℕ) (nil : f [] ≡ 0) (adds : (xs ys : List Held) → f (xs ++ ys) ≡ f xs + f ys)
-    (S S' : ℕ → List Held) (j : ℕ) (gone : S' j ≡ []) where
-  pub living_less : (n : ℕ) → ((k : ℕ) → k < n → (k ≡ j → ⊥) → S' k ≡ S k) → j < n
-      → f (living S n) ≡ f (living S' n) + f (S j)
-  unfolding living
-  living_less zero other l = absurd (omega arith)
-  living_less (suc n) other l =
-      let q : j ≤ n = omega arith in
-      ⊎_elim same (before (living_less n (λ k p. other k (omega arith)))) (eq-or-lt_of_le q)
-    where
-      sums : f (living S n ++ S n) ≡ f (living S n) + f (S n)
-      sums = adds (living S n) (S n)
-
-      sums' : f (living S' n ++ S' n) ≡ f (living S' n) + f (S' n)
-      sums' = adds (living S' n) (S' n)
-
-      same : j ≡ n → f (living S n ++ S n) ≡ f (living S' n ++ S' n) + f (S j)
-      same e =
-          let a : f (living S' n) ≡ f (living S n) = ap f
-          (living-same S' S n (λ k q. other k (omega arith) (λ z. omega arith))) in
-          let b : f (S' n) ≡ 0 = ap (λ (k : ℕ). f (S' k)) (sym e) ∙ ap f gone ∙ nil in
-          let c : f (S j) ≡ f (S n) = ap (λ (k : ℕ). f (S k)) e in
-          omega (arith, sums, sums')
-
-      before : (j < n → f (living S n) ≡ f (living S' n) + f (S j)) → j < n → f (living S n ++ S n) ≡ f
-          (living S' n ++ S' n) + f (S j)
-      before ih q =
-          let a : f (living S n) ≡ f (living S' n) + f (S j) = ih q in
-          let b : f (S' n) ≡ f (S n) = ap f (other n (omega arith) (λ z. omega arith)) in
-          omega (arith, sums, sums')
 
 -- lines that are no longer are no longer in all
 pub living_most : (S S' : ℕ → List Held) (n : ℕ)

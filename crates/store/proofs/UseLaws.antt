@@ -210,9 +210,9 @@ pub use_most : (a : List Row) (n : ℕ) → Addable a n → (u : List ℕ) → A
     → get_or u o 0 ≤ text_max
 use_most a n w u x o l = omega (arith, x.1 o l, row_use_most o a n, w.fit)
 
--- 256 numbers of two bytes are shares, or uses
-pub words_given : (g : List ℕ) → length g ≡ owners → ((o : ℕ) → get_or g o 0 < 65536) → Given g
-words_given g e f = record { each = e; two = λ o. omega (arith, f o) }
+-- 256 numbers of four bytes are shares, or uses
+pub words_given : (g : List ℕ) → length g ≡ owners → ((o : ℕ) → get_or g o 0 < 4294967296) → Given g
+words_given g e f = record { each = e; four = λ o. omega (arith, f o) }
 
 -- those uses are the lines'
 pub adds_uses : (a : List Row) (n : ℕ) (u : List ℕ) (hs : List Held) → Adds a n u
@@ -224,7 +224,7 @@ adds_uses a n u hs x f = (x.0, λ o l. x.1 o l ∙ f o l)
 -- the claims of the owners below o are added up
 pub record Summing (u g : List ℕ) (o sum : ℕ) : Type 0 where
   pub within : o ≤ owners
-  pub most : sum ≤ o * 65535
+  pub most : sum ≤ o * 4294967295
   pub each : (q : ℕ) → q < o → larger (get_or u q 0) (get_or g q 0) ≤ sum
   pub is : (hs : List Held) → Uses u hs → sum + claims_from o (drop o g) hs ≡ claims g hs
 
@@ -232,7 +232,7 @@ module _ {u g : List ℕ} (gu : Given u) (gg : Given g) {o sum : ℕ} (w : Summi
   pub sum_next : o < owners → {x : ℕ} → x ≡ larger (get_or u o 0) (get_or g o 0) → Summing u g (o + 1) (sum + x)
   sum_next l {x} e = record {
     within = omega arith;
-    most = omega (arith, w.most, e, larger_most (get_or u o 0) (get_or g o 0) 65535 (gu.two o) (gg.two o));
+    most = omega (arith, w.most, e, larger_most (get_or u o 0) (get_or g o 0) 4294967295 (gu.four o) (gg.four o));
     each = below_more (λ (q : ℕ). larger (get_or u q 0) (get_or g q 0) ≤ sum + x) o
         (λ q m. omega (arith, w.each q m)) (omega (arith, e));
     is = λ hs z. next hs z ∙ w.is hs z;
@@ -269,14 +269,14 @@ module _ (g : List ℕ) (o : ℕ) (hs : List Held) (gg : Given g) (b : OwnersBel
   owed_used ks e = lengths_least g ks gg.each (owners_swap o hs ks l e b)
 
   pub owed_shares : (d : Dues) → d.others + larger (use_of o hs) (get_or g o 0) ≡ claims g hs
-      → d.theirs + use_of o hs ≡ lengths hs → d.share ≡ get_or g o 0 → d.others ≤ owners * 65535 → Owed g o hs d
+      → d.theirs + use_of o hs ≡ lengths hs → d.share ≡ get_or g o 0 → d.others ≤ owners * 4294967295 → Owed g o hs d
   owed_shares d p q r m = record {
     each = gg.each;
     sum = λ ks e. sum ks e;
     least = λ ks e. omega (arith, own ks e);
     used = owed_used;
     others_most = m;
-    share_most = omega (arith, r, gg.two o);
+    share_most = omega (arith, r, gg.four o);
   }
     where
       own : (ks : List Held) → not_of o ks ≡ not_of o hs → d.theirs + use_of o ks ≡ lengths ks

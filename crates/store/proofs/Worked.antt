@@ -37,7 +37,8 @@ use native.Mathlib.Omega.{arith}
 use Rattle.store.specs.Shares.{owners, Content, use_of, claims_from, share_sizes}
 use Rattle.store.proofs.ShareBufferLaws.{shares_none}
 use Rattle.store.specs.Held.{Held, strike, file, distinct, index_max, text_max}
-use Rattle.store.specs.Decode.{no_head, owner_at, head_at, zeroes, walk, guarded, decode, is_share_of, shares_at}
+use Rattle.store.specs.Decode.{no_head, kind_at, head_at, zeroes, walk, guarded, decode, front_share, is_share_of}
+use Rattle.store.specs.Decode.{is_long_share_of, shares_at}
 use Rattle.store.specs.Decode.{Fronted, fronted, with_lines, content}
 use Rattle.store.specs.Book.{record_sizes, no_index_of, no_text, room_for}
 use Rattle.store.specs.Store.{Looked, unsound, look_by, look_up, says_of, line_of}
@@ -100,30 +101,30 @@ empty_save = save_args no_slots [] [] (ascii "T") nil
 
 -- an index of 20 bytes; a text of 34, which is P10's 25 "in place of 21 for text"; both as large as they have to be
 index_short : save_number (store_save (replicate 20 0) (replicate 35 0) P.Hall empty_save).answer.answer ≡ 21
-unfolding store_save attempt_of checks_of slot_checks axis_checks missing_of filled_from button_of axis_of built_line built_map
-    ended pair_texts hex_text first_text first_of begins first_length char_length run_of valid_run is_utf8 content shares_at
-    is_share_of decode walk head_at owner_at zeroes distinct room_for no_index_of no_text share_sizes claims_from use_of record_sizes
-    strike empty_save nil same file
+unfolding store_save attempt_of checks_of slot_checks axis_checks missing_of filled_from button_of axis_of built_line
+    built_map ended pair_texts hex_text first_text first_of begins first_length char_length run_of valid_run is_utf8
+    content shares_at front_share is_share_of is_long_share_of decode walk head_at kind_at zeroes distinct room_for
+    no_index_of no_text share_sizes claims_from use_of record_sizes strike empty_save nil same file
 index_short = refl
 
 text_short : save_number (store_save (replicate 21 0) (replicate 34 0) P.Hall empty_save).answer.answer ≡ 25
-unfolding store_save attempt_of checks_of slot_checks axis_checks missing_of filled_from button_of axis_of built_line built_map
-    ended pair_texts hex_text first_text first_of begins first_length char_length run_of valid_run is_utf8 content shares_at
-    is_share_of decode walk head_at owner_at zeroes distinct room_for no_index_of no_text share_sizes claims_from use_of record_sizes
-    strike empty_save nil same file
+unfolding store_save attempt_of checks_of slot_checks axis_checks missing_of filled_from button_of axis_of built_line
+    built_map ended pair_texts hex_text first_text first_of begins first_length char_length run_of valid_run is_utf8
+    content shares_at front_share is_share_of is_long_share_of decode walk head_at kind_at zeroes distinct room_for
+    no_index_of no_text share_sizes claims_from use_of record_sizes strike empty_save nil same file
 text_short = refl
 
 just_fits : save_number (store_save (replicate 21 0) (replicate 35 0) P.Hall empty_save).answer.answer ≡ 0
-unfolding store_save attempt_of checks_of slot_checks axis_checks missing_of filled_from button_of axis_of built_line built_map
-    ended pair_texts hex_text first_text first_of begins first_length char_length run_of valid_run is_utf8 content shares_at
-    is_share_of decode walk head_at owner_at zeroes distinct room_for no_index_of no_text share_sizes claims_from use_of record_sizes
-    strike empty_save nil same file
+unfolding store_save attempt_of checks_of slot_checks axis_checks missing_of filled_from button_of axis_of built_line
+    built_map ended pair_texts hex_text first_text first_of begins first_length char_length run_of valid_run is_utf8
+    content shares_at front_share is_share_of is_long_share_of decode walk head_at kind_at zeroes distinct room_for
+    no_index_of no_text share_sizes claims_from use_of record_sizes strike empty_save nil same file
 just_fits = refl
 
 -- ---- 4. a look-up in a store whose index starts with byte 9, whatever follows
 
 head_nine : (i : List ℕ) → head_at (9 ∷ i) ≡ no_head
-unfolding head_at owner_at
+unfolding head_at kind_at
 head_nine i = refl
 
 walk_nine : (f off : ℕ) (i t : List ℕ) → walk (suc f) off (9 ∷ i) t ≡ none
@@ -131,7 +132,7 @@ unfolding walk zeroes
 walk_nine f off i t = rw (head_nine i) refl
 
 decode_nine : (i t : List ℕ) → decode (9 ∷ i) t ≡ none
-unfolding content shares_at is_share_of decode
+unfolding content shares_at front_share is_share_of is_long_share_of decode
 decode_nine i t =
     rw (walk_nine (length (9 ∷ i)) 0 i t) (by (leb (length (9 ∷ i)) index_max && leb (length t) text_max))
   where
@@ -149,7 +150,7 @@ content_nine i t = ap within lines ∙ by (leb (length (9 ∷ i)) index_max)
 
     lines : decode (fronted (9 ∷ i)).rest t ≡ none
     lines =
-        ap (λ (f : Fronted). decode f.rest t) (shares_none owners 0 (9 ∷ i) (λ e. omega (arith, e)))
+        ap (λ (f : Fronted). decode f.rest t) (shares_none owners 0 (9 ∷ i) (λ e. omega (arith, e)) (λ e. omega (arith, e)))
         ∙ decode_nine i t
 
     by : (b : Bool) → ◌≡◌ {A = Option Content} (pick b none none) none

@@ -1,13 +1,16 @@
 -- What a written row leaves of itself and of the others.
 -- Assumes nothing.
+use mathlib.Core.Bool.{Bool, true, false}
 use mathlib.Core.List.{List}
-use mathlib.Core.Path.{◌≡◌}
-use Prim.Native.Nat.{ℕ, ◌<◌}
-use lib.ListN.{length, length-set}
-use lib.Seq.{get_or-set_same, get_or-set_other}
+use mathlib.Core.Path.{◌≡◌, refl, ap, ◌∙◌}
+use Prim.Native.Nat.{ℕ, ◌-◌, ◌<◌}
+use lib.Dec.{eqb}
+use lib.ListN.{length, set, length-set}
+use lib.Seq.{get_or-set_same, get_or-set_other, set-set, set-get_or}
+use Rattle.text.specs.Bytes.{pick}
 use Rattle.store.specs.declared.rows.Row.{Row}
 use Rattle.store.specs.Held.{Key}
-use Rattle.store.specs.Rows.{unused, row_in, key_in, start_in, row_put, len_put}
+use Rattle.store.specs.Rows.{unused, row_in, key_in, start_in, len_in, row_put, len_put, put_before}
 
 module _ (w : List Row) (k : ℕ) (u : Key) (start len : ℕ) where
   pub put_long : length (row_put w k u start len) ≡ length w
@@ -31,3 +34,18 @@ module _ (w : List Row) (k len : ℕ) where
   pub len_same : k < length w
       → row_in (len_put w k len) k ≡ record { key = key_in w k; start = start_in w k; len = len }
   len_same m = get_or-set_same w k _ unused m
+
+-- and put back
+pub len_back : (w : List Row) (k : ℕ) → k < length w → len_put (len_put w k 0) k (len_in w k) ≡ w
+len_back w k m =
+    ap (λ (r : Row). set (len_put w k 0) k (record { key = r.key; start = r.start; len = len_in w k }))
+    (len_same w k 0 m)
+    ∙ set-set w k _ _ ∙ set-get_or w k unused
+
+-- of the number before r
+pub put_before_long : (a : List Row) (r len : ℕ) → length (put_before a r len) ≡ length a
+put_before_long a r len = go (eqb r 0)
+  where
+    go : (b : Bool) → length (pick b a (len_put a (r - 1) len)) ≡ length a
+    go true = refl
+    go false = len_long a (r - 1) len

@@ -10,7 +10,7 @@ use Rattle.text.specs.declared.uuid.Form.{Form}
 use Rattle.text.specs.declared.uuid.Form.TheVariants as Fm
 use Rattle.store.specs.declared.calls.Inserted.{Inserted}
 use Rattle.store.specs.declared.calls.Tally.{Tally}
-use Rattle.store.specs.Held.{Held, key_by, strike, file, record_size, line_max}
+use Rattle.store.specs.Held.{Held, key_by, file, record_size, line_max}
 use Rattle.store.specs.Parties.{owner_of, by_owner, Named, OwnerByte}
 use Rattle.store.specs.Shares.{Content, nothing_held, claims, share_sizes, with_share}
 use Rattle.store.specs.Lines.{lines_of, wanted}
@@ -33,16 +33,16 @@ caller n m s o = record { index = n; text = m; shares = s; owner = o }
 
 -- ---- no room
 
--- P9: "a record being 21 bytes for the hall and 22 for an organiser": the records of the lines, added up
-unfoldable pub record_sizes : List Held → ℕ
-record_sizes [] = 0
-record_sizes (h ∷ hs) = record_size h.key.owner + record_sizes hs
+-- P9: "a record being 21 bytes for the hall and 22 for an organiser", and P12's 23 or 24: the records of lines that lie
+-- end to end from an offset on, added up
+unfoldable pub record_sizes : ℕ → List Held → ℕ
+record_sizes off [] = 0
+record_sizes off (h ∷ hs) = record_size h.key.owner off + record_sizes (off + length h.line) hs
 
--- 21: P9's sum "over every line held but the caller's own of that UUID" and the line's record, P10: "for the index with
--- kind 4's 4 bytes counted"
+-- 21: P9's sum "over every line held but the caller's own of that UUID" and the line's record, P12: it "adds up the records
+-- as they would then stand"; P10: "for the index with kind 4's 4 bytes counted"
 unfoldable pub no_index_of : Caller → Held → List Held → Bool
-no_index_of c h hs =
-    ltb c.index (share_sizes c.shares + (record_sizes (strike h.key hs) + record_size h.key.owner))
+no_index_of c h hs = ltb c.index (share_sizes c.shares + record_sizes 0 (file h hs))
 
 -- 25, P10: "A filing fails on text exactly when, after it, the sum over all parties of the larger of use and share exceeds
 -- the text."
@@ -192,7 +192,7 @@ over_text m c = ltb m (claims c.shares c.held)
 
 -- 21, "for the index with kind 4's 4 bytes counted"
 unfoldable pub over_index : ℕ → Content → Bool
-over_index n c = ltb n (share_sizes c.shares + record_sizes c.held)
+over_index n c = ltb n (share_sizes c.shares + record_sizes 0 c.held)
 
 -- "26, [..] after 19 and before 21"; "takes an accepted one as that party's share"
 unfoldable pub book_share : ℕ → ℕ → Content → ℕ → ℕ → Setting

@@ -28,8 +28,8 @@ pub record Owed (g : List ℕ) (o : ℕ) (hs : List Held) (d : Dues) : Type 0 wh
       → d.others + larger (lengths ks - d.theirs) d.share ≡ claims g ks
   pub least : (ks : List Held) → not_of o ks ≡ not_of o hs → d.theirs ≤ lengths ks
   pub used : (ks : List Held) → not_of o ks ≡ not_of o hs → lengths ks ≤ claims g ks
-  pub others_most : d.others ≤ owners * 65535
-  pub share_most : d.share ≤ 65535
+  pub others_most : d.others ≤ owners * 4294967295
+  pub share_most : d.share ≤ 4294967295
 
 -- `add_uses`: the uses of all parties, by owner
 abbrev pub Uses : List ℕ → List Held → Type 0
@@ -57,7 +57,7 @@ Sums u g r = (hs : List Held) → Uses u hs → r ≡ claims g hs
 
 pub record Covers (u g : List ℕ) (r : ℕ) : Type 0 where
   pub each : (o : ℕ) → o < owners → larger (get_or u o 0) (get_or g o 0) ≤ r
-  pub most : r ≤ owners * 65535
+  pub most : r ≤ owners * 4294967295
 
 -- `dues_of`: of rows that give the lines hs
 abbrev pub DuesFrom : List Row → Fill → List ℕ → ℕ → Dues → Type 0

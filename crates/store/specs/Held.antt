@@ -1,17 +1,17 @@
--- Lines held by party and UUID, and the limits of a store (document 01, 'Records' and 'Store'; document 02, P6 and P9).
+-- Lines held by party and UUID, and the limits of a store (document 01, 'Records' and 'Store'; document 02, P6, P9 and P12).
 -- Public contracts rest on these definitions; they assume nothing.
-use Rattle.std.specs.Prelude.{Bool, true, false, not, ◌&&◌, ◌||◌, List, [], ◌∷◌, ◌++◌, ℕ, eqb}
+use Rattle.std.specs.Prelude.{Bool, true, false, not, ◌&&◌, ◌||◌, List, [], ◌∷◌, ◌++◌, ℕ, eqb, ltb}
 use Rattle.std.proofs.Math.Option.{Option, none, some}
 use Rattle.text.specs.declared.uuid.Uuid.{Uuid}
 use Rattle.text.specs.Bytes.{pick}
 use Rattle.store.specs.declared.parties.Key as declared
 
--- "two lent buffers, index and text, each of at most 65535 bytes"
+-- P12: "The text may have 16777216 bytes and the index 1048576", of "two lent buffers, index and text"
 abbrev pub index_max : ℕ
-index_max = 65535
+index_max = 1048576
 
 abbrev pub text_max : ℕ
-text_max = 65535
+text_max = 16777216
 
 -- P6: "The line limit goes from 4096 to 16384": of "each length from 1 to 4096" and "wanted line over 4096 bytes"
 abbrev pub line_max : ℕ
@@ -27,9 +27,21 @@ pub record Limits : Type 0 where
 abbrev pub current : Limits
 current = record { line = line_max; index = index_max; text = text_max }
 
--- P9: "a record being 21 bytes for the hall and 22 for an organiser"; owner 0 is the hall
-abbrev pub record_size : ℕ → ℕ
-record_size o = pick (eqb o 0) 21 22
+-- P12: "A line whose offset exceeds 65535", "a share over 65535": the greatest number that a short record holds
+abbrev pub short_max : ℕ
+short_max = 65535
+
+abbrev pub is_long : ℕ → Bool
+is_long x = ltb short_max x
+
+-- P9: "a record being 21 bytes for the hall and 22 for an organiser"; owner 0 is the hall. P12: with a four-byte offset
+-- "23 or 24 bytes in all"
+abbrev pub size_by : ℕ → Bool → ℕ
+size_by o long = pick long (pick (eqb o 0) 23 24) (pick (eqb o 0) 21 22)
+
+-- of a line at that offset
+abbrev pub record_size : ℕ → ℕ → ℕ
+record_size o off = size_by o (is_long off)
 
 -- what a line is held under, P9: "keeps its lines by party and UUID"
 abbrev pub Key : Type 0

@@ -1,15 +1,16 @@
 -- What the contracts of private functions say of a store, each for every list of lines that lies in the index, and
 -- what the proofs go by. No public contract rests on these: a reader may leave them out.
-use Rattle.std.specs.Prelude.{◌≡◌, Bool, true, false, not, List, [], ◌∷◌, ◌++◌, ℕ, ◌+◌, ◌-◌, ◌/◌, ◌%◌, ◌≤◌, ◌<◌, eqb, ltb, length, take, replicate, Result, Ok, Err, ⊤}
+use Rattle.std.specs.Prelude.{◌≡◌, Bool, true, false, not, List, [], ◌∷◌, ◌++◌, ℕ, ◌+◌, ◌-◌, ◌/◌, ◌%◌, ◌≤◌, ◌<◌, eqb, ltb, length, get_or, take, replicate, Result, Ok, Err, ⊤}
 use Rattle.std.proofs.Math.Option.{Option, none, some}
 use Rattle.text.specs.Bytes.{pick, first_of}
 use Rattle.text.specs.declared.uuid.Uuid.{Uuid}
 use Rattle.store.specs.declared.records.Head.{Head}
+use Rattle.store.specs.declared.records.Kind.{Kind}
 use Rattle.line.specs.declared.mapping.Mapping.{Mapping}
 use Rattle.store.specs.declared.calls.Saved.{Saved}
-use Rattle.store.specs.Held.{Key, Held, file, distinct, text_max, record_size}
-use Rattle.store.specs.Layout.{Shape, Shapes, record_bytes, record_of, records, texts}
-use Rattle.store.specs.Decode.{owner_at, content}
+use Rattle.store.specs.Held.{Key, Held, file, distinct, text_max}
+use Rattle.store.specs.Layout.{Shape, Shapes, kind_by, offset_width, record_bytes, record_of, records, texts}
+use Rattle.store.specs.Decode.{kind_at, is_whole, no_head, head_at, content}
 use Rattle.store.specs.Lines.{cr}
 use Rattle.text.specs.Search.{lf}
 use Rattle.store.specs.Shares.{share_sizes}
@@ -40,11 +41,14 @@ abbrev pub be8 : ℕ → List ℕ
 be8 x = be4 (x / 4294967296) ++ be4 x
 
 -- a record without its kind and owner
-abbrev pub body_size : ℕ
-body_size = 20
+abbrev pub body_size : Bool → ℕ
+body_size long = 18 + offset_width long
 
-unfoldable pub body_bytes_of : Uuid → ℕ → ℕ → List ℕ
-body_bytes_of u off len = be8 u.high ++ (be8 u.low ++ (be2 off ++ be2 len))
+abbrev pub offset_bytes : Bool → ℕ → List ℕ
+offset_bytes long off = pick long (be4 off) (be2 off)
+
+unfoldable pub body_bytes_of : Bool → Uuid → ℕ → ℕ → List ℕ
+body_bytes_of long u off len = be8 u.high ++ (be8 u.low ++ (offset_bytes long off ++ be2 len))
 
 -- the size of a record, and of the records of lines, the first of which lies at that offset
 abbrev pub size_of : ℕ → Held → ℕ
@@ -57,13 +61,30 @@ sizes off hs = length (records off hs)
 abbrev pub head_of : ℕ → Held → Head
 head_of off h = record { size = length (record_of off h); key = h.key; off = off; len = length h.line }
 
--- `record_size`: the size of a record of that key
-abbrev pub Sized : Key → ℕ → Type 0
-Sized k r = (off len : ℕ) → r ≡ length (record_bytes k off len)
+-- `record_size`: the size of a record of that key, of a line at that offset
+abbrev pub Sized : Key → ℕ → ℕ → Type 0
+Sized k off r = (len : ℕ) → r ≡ length (record_bytes k off len)
 
--- `stands`: a whole record stands at the front
-abbrev pub HasRecord : List ℕ → Type 0
-HasRecord i = (o : ℕ) × ((owner_at i ≡ some o) × (record_size o ≤ length i))
+-- `body_start`: where the body stands
+abbrev pub Starts : ℕ → ℕ → Type 0
+Starts o r = (long : Bool) → r ≡ length (kind_by o long)
+
+-- `stands`: a whole record stands at the front, or none
+pub record HasRecord (i : List ℕ) : Type 0 where
+  pub kind : Kind
+  pub is : kind_at i ≡ some kind
+  pub whole : is_whole i kind ≡ true
+
+-- the whole record that stands there is long, or not
+abbrev pub HasKind : List ℕ → Bool → Type 0
+HasKind i long = (s : HasRecord i) × (s.kind.long ≡ long)
+
+abbrev pub TellsRecord : List ℕ → Bool → Type 0
+TellsRecord i r = (r ≡ true → HasRecord i) × (r ≡ false → no_head ≡ head_at i)
+
+-- `long_stands`: no short record's kind stands at the front
+abbrev pub NotShort : List ℕ → Type 0
+NotShort i = (get_or i 0 0 ≡ 1 → ⊥) × (get_or i 0 0 ≡ 3 → ⊥)
 
 -- ---- lines that lie in an index
 

@@ -1,25 +1,35 @@
--- How shares and a list of lines lie in the two buffers of a store (document 01, 'Records'; document 02, P9 and P10).
+-- How shares and a list of lines lie in the two buffers of a store (document 01, 'Records'; document 02, P9, P10 and P12).
 -- A record's form stands in `record_bytes`, the number of its bytes in Held's `record_size`; `length-record` in
 -- proofs/RecordLaws.antt says that they agree.
 -- Public contracts rest on these definitions; they assume nothing.
-use Rattle.std.specs.Prelude.{◌≡◌, true, List, [], ◌∷◌, ◌++◌, ℕ, suc, ◌+◌, ◌-◌, ◌≤◌, ◌<◌, eqb, length, replicate, get_or}
+use Rattle.std.specs.Prelude.{◌≡◌, Bool, true, List, [], ◌∷◌, ◌++◌, ℕ, suc, ◌+◌, ◌-◌, ◌≤◌, ◌<◌, eqb, length, replicate, get_or}
 use Rattle.text.specs.Bytes.{pick}
 use Rattle.text.specs.Uuid.{big_endian, uuid_bytes, Small}
-use Rattle.store.specs.Held.{Key, Held, distinct, line_max, Limits, current}
+use Rattle.store.specs.Held.{Key, Held, distinct, line_max, is_long, Limits, current}
 use Rattle.store.specs.Shares.{owners, Content}
 
 -- a list of bytes: each number is below 256. A lent buffer always is one
 abbrev pub Bytes : List ℕ → Type 0
 Bytes s = (k : ℕ) → get_or s k 0 < 256
 
--- P9: "Record kind 3 has an owner byte from 1 to 255, then the body of kind 1; kind 1 is the hall's."
-abbrev pub kind_bytes : ℕ → List ℕ
-kind_bytes o = pick (eqb o 0) (1 ∷ []) (3 ∷ o ∷ [])
+-- P9: "Record kind 3 has an owner byte from 1 to 255, then the body of kind 1; kind 1 is the hall's." P12: "A line whose
+-- offset exceeds 65535 has kind 2 (hall) or 5 (organiser), with a four-byte offset"
+abbrev pub kind_by : ℕ → Bool → List ℕ
+kind_by o long = pick long (pick (eqb o 0) (2 ∷ []) (5 ∷ o ∷ [])) (pick (eqb o 0) (1 ∷ []) (3 ∷ o ∷ []))
+
+abbrev pub kind_bytes : ℕ → ℕ → List ℕ
+kind_bytes o off = kind_by o (is_long off)
+
+-- the bytes of an offset
+abbrev pub offset_width : Bool → ℕ
+offset_width long = pick long 4 2
 
 -- "Per line the index has a kind byte 1, then 20 bytes: UUID (16), offset in the text (2), length (2), high byte
 -- first."
 unfoldable pub record_bytes : Key → ℕ → ℕ → List ℕ
-record_bytes k off len = kind_bytes k.owner ++ (uuid_bytes k.uuid ++ (big_endian 2 off ++ big_endian 2 len))
+record_bytes k off len =
+    kind_bytes k.owner off
+    ++ (uuid_bytes k.uuid ++ (big_endian (offset_width (is_long off)) off ++ big_endian 2 len))
 
 abbrev pub record_of : ℕ → Held → List ℕ
 record_of off h = record_bytes h.key off (length h.line)
@@ -42,9 +52,10 @@ padded n s = s ++ replicate (n - length s) 0
 unfoldable pub encode_records : ℕ → List Held → List ℕ
 encode_records n hs = padded n (records 0 hs)
 
--- P10: "a share in bytes, held in the index as kind 4, that byte, share (2)"; "share 0 has no record"
+-- P10: "a share in bytes, held in the index as kind 4, that byte, share (2)"; "share 0 has no record". P12: "A share over
+-- 65535, and no other, has, where its kind 4 would stand, kind 6, the owner byte and four bytes of share."
 abbrev pub share_bytes : ℕ → ℕ → List ℕ
-share_bytes o b = pick (eqb b 0) [] (4 ∷ o ∷ big_endian 2 b)
+share_bytes o b = pick (eqb b 0) [] (pick (is_long b) (6 ∷ o ∷ big_endian 4 b) (4 ∷ o ∷ big_endian 2 b))
 
 -- "These stand first, by owner": the records of the shares of the parties from owner o on
 unfoldable pub share_records : ℕ → List ℕ → List ℕ
@@ -73,10 +84,10 @@ abbrev pub ShapesWithin : ℕ → List Held → Type 0
 ShapesWithin limit [] = Unit {0}
 ShapesWithin limit (h ∷ hs) = ShapeWithin limit h × ShapesWithin limit hs
 
--- a share for each party, which two bytes hold
+-- a share for each party, which four bytes hold
 pub record Given (s : List ℕ) : Type 0 where
   pub each : length s ≡ owners
-  pub two : (o : ℕ) → get_or s o 0 ≤ 65535
+  pub four : (o : ℕ) → get_or s o 0 ≤ 4294967295
 
 -- "A store is sound exactly when it encodes some list with no UUID twice" for any party "and each length from 1 to"
 -- the limit, "index and text, each of at most" so many bytes: within these limits it encodes these shares and lines

@@ -25,5 +25,6 @@ pub mod Claims
 pub mod Settings
 pub mod Keys
 pub mod Rows
+pub mod Border
 pub mod Table
 pub mod Sights

@@ -1,6 +1,7 @@
 -- Rows in one list, by number.
 -- No public contract rests on these: a reader may leave them out.
-use Rattle.std.specs.Prelude.{List, ℕ, get_or, set}
+use Rattle.std.specs.Prelude.{List, ℕ, ◌-◌, eqb, get_or, set}
+use Rattle.text.specs.Bytes.{pick}
 use Rattle.store.specs.declared.rows.Row.{Row}
 use Rattle.store.specs.Held.{Key}
 
@@ -27,3 +28,10 @@ row_put w k u start len = set w k (record { key = u; start = start; len = len })
 
 abbrev pub len_put : List Row → ℕ → ℕ → List Row
 len_put w k len = set w k (record { key = key_in w k; start = start_in w k; len = len })
+
+-- `len_before`, `put_len_before`: of the number before r; none where r is 0
+abbrev pub len_before : List Row → ℕ → ℕ
+len_before w r = pick (eqb r 0) 0 (len_in w (r - 1))
+
+abbrev pub put_before : List Row → ℕ → ℕ → List Row
+put_before w r len = pick (eqb r 0) w (len_put w (r - 1) len)

@@ -33,7 +33,7 @@ pub record Writes (i s : List ℕ) (o had share : ℕ) (g : List ℕ) (hs : List
   pub later : s ≡ set g o share
   pub fits : share_sizes g + sizes 0 hs ≤ length i
   pub room : share_sizes s + sizes 0 hs ≤ length i
-  pub most : share ≤ 65535
+  pub most : share ≤ 4294967295
 
 abbrev pub Writable : List ℕ → List ℕ → ℕ → ℕ → ℕ → Type 0
 Writable i s o had share = (g : List ℕ) × ((hs : List Held) × Writes i s o had share g hs)

@@ -2,7 +2,7 @@
 -- Public contracts rest on these definitions; they assume nothing.
 use Rattle.std.specs.Prelude.{List, [], ◌∷◌, ℕ, suc, ◌+◌, eqb, ltb, length, replicate, get_or, set}
 use Rattle.text.specs.Bytes.{pick}
-use Rattle.store.specs.Held.{Held}
+use Rattle.store.specs.Held.{Held, is_long}
 
 -- "each party, named by its owner byte (0 is the hall)": so many parties
 abbrev pub owners : ℕ
@@ -42,9 +42,9 @@ claims_from o (b ∷ bs) hs = larger (use_of o hs) b + claims_from (suc o) bs hs
 abbrev pub claims : List ℕ → List Held → ℕ
 claims s hs = claims_from 0 s hs
 
--- "kind 4's 4 bytes counted"; "share 0 has no record"
+-- "kind 4's 4 bytes counted"; "share 0 has no record"; P12: "kind 6, the owner byte and four bytes of share"
 abbrev pub share_size : ℕ → ℕ
-share_size b = pick (eqb b 0) 0 4
+share_size b = pick (eqb b 0) 0 (pick (is_long b) 6 4)
 
 -- the records of the shares, added up
 unfoldable pub share_sizes : List ℕ → ℕ

@@ -53,7 +53,7 @@ on_shares i t (some c) f = holding i t (f c).answer (f c).content
 abbrev pub fitting : List ℕ → List ℕ → Bool
 fitting i t = leb (length i) index_max && leb (length t) text_max
 
--- "Clear sets every byte of both buffers to 0, whether the store was sound or not."; "a buffer over 65535": 23
+-- "Clear sets every byte of both buffers to 0, whether the store was sound or not."; "a buffer over" the limit: 23
 unfoldable pub store_clear : List ℕ → List ℕ → Done (Result ⊤ StoreError)
 store_clear i t =
     pick (fitting i t)

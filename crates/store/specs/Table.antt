@@ -1,11 +1,12 @@
 -- Lines by number while an insert files them: a row for each, and the lines that are still held. What is struck out
 -- has length 0.
 -- No public contract rests on these: a reader may leave them out.
-use Rattle.std.specs.Prelude.{Option as Optional, MatchOption, false, ◌≡◌, true, List, [], ◌∷◌, ◌++◌, ℕ, zero, suc, ◌+◌, ◌-◌, ◌≤◌, ◌<◌, eqb, ltb, length, take, drop, replicate, Result, Ok, Err, ⊤}
+use Rattle.std.specs.Prelude.{Option as Optional, MatchOption, false, ◌≡◌, true, List, [], ◌∷◌, ◌++◌, ℕ, zero, suc, ◌+◌, ◌-◌, ◌*◌, ◌≤◌, ◌<◌, eqb, ltb, length, take, drop, replicate, Result, Ok, Err, ⊤}
 use Rattle.std.proofs.Math.Option.{Option, some}
 use Rattle.text.specs.Bytes.{pick}
 use Rattle.store.specs.declared.rows.Row.{Row}
 use Rattle.store.specs.declared.table.Fill.{Fill}
+use Rattle.store.specs.declared.border.Standing.{Standing}
 use Rattle.store.specs.declared.claims.Dues.{Dues}
 use Rattle.store.specs.declared.settle.Kept.{Kept}
 use Rattle.store.specs.declared.soundness.Surveyed.{Surveyed}
@@ -17,14 +18,16 @@ use Rattle.store.specs.Held.{Key, Held, file, index_max, text_max, line_max}
 use Rattle.store.specs.Decode.{walk, decode, content}
 use Rattle.store.specs.Fronts.{Fronts}
 use Rattle.store.specs.Claims.{Owed}
-use Rattle.store.specs.Shares.{no_shares}
+use Rattle.store.specs.Shares.{owners, no_shares, larger}
 use Rattle.store.specs.Book.{Caller, room_for, by_room, after, stopped, reach, insert_turn, insert_lines}
 use Rattle.store.specs.Lines.{lines_of}
-use Rattle.store.specs.Layout.{record_bytes, records, texts, encode_records, encode_text}
+use Rattle.store.specs.Layout.{records, texts, encode_records, encode_text}
 use Rattle.store.specs.Keys.{Says, Lists, Chained}
-use Rattle.store.specs.Rows.{key_in, start_in, len_in, len_put}
+use Rattle.store.specs.Rows.{key_in, start_in, len_in}
+use Rattle.store.specs.Border.{Bordered}
 use Rattle.store.specs.Inner.{known, Fitted, behind, GoodFor, sizes}
 use Rattle.store.specs.declared.table.Full.{Full}
+use Rattle.store.specs.declared.table.Full.TheVariants as R
 use Rattle.store.specs.declared.calls.StoreError.{StoreError}
 
 -- the lines of the first n numbers, each of which gives one line or none
@@ -172,16 +175,23 @@ pub record Stocks {N : ℕ} (i t : List ℕ) (l : Ledger N) (r : Stock) : Type 0
 abbrev pub OnceStocked : {N : ℕ} → List ℕ → List ℕ → Ledger N → Optional Stock → Type 0
 OnceStocked i t l r = MatchOption r (known (content i t) ≡ false) (Stocks i t l)
 
--- `len_before`, `strike_before`: of the number before r; none where r is 0
-abbrev pub len_before : List Row → ℕ → ℕ
-len_before a r = pick (eqb r 0) 0 (len_in a (r - 1))
+-- such lines, and where the border stands
+pub record InStanding (i t s : List ℕ) (a : List Row) (heads next : List ℕ) (old : ℕ) (w : Standing) (hs : List Held)
+    : Type 0 where
+  pub in_rows : InRows i t s a heads next old w.fill hs
+  pub bordered : Bordered a w.fill.count w.border
 
-abbrev pub struck_before : List Row → ℕ → List Row
-struck_before a r = pick (eqb r 0) a (len_put a (r - 1) 0)
+-- `room`: what is claimed of the text can be told; whether what is filled fits in n bytes of index, and that in m of text
+pub record Weighable (d : Dues) (f : Fill) : Type 0 where
+  pub theirs : d.theirs ≤ f.used
+  pub used : f.used ≤ text_max + line_max
+  pub others : d.others ≤ owners * 4294967295
+  pub share : d.share ≤ 4294967295
 
--- `end_with`: where the records end with one more of that key, if none of that key is struck out for it
-abbrev pub Ends : ℕ → ℕ → Key → ℕ → Type 0
-Ends end had u r = (off len : ℕ) → r ≡ pick (eqb had 0) (end + length (record_bytes u off len)) end
+unfoldable pub room_by : Dues → ℕ → ℕ → Fill → Result ⊤ Full
+room_by d n m f =
+    pick (ltb n f.end) (Err R.Index)
+    (pick (ltb m (d.others + larger (f.used - d.theirs) d.share)) (Err R.Text) (Ok tt))
 
 -- "each length from 1 to" the limit of a line
 pub record Short (l : List ℕ) : Type 0 where
@@ -189,30 +199,30 @@ pub record Short (l : List ℕ) : Type 0 where
   pub most : length l ≤ line_max
 
 -- `file_row`: a line of those that are inserted, for lines that are so written down
-pub record Files' (g : List ℕ) (d : Dues) (i t s : List ℕ) (a : List Row) (heads next : List ℕ) (old : ℕ) (f : Fill)
+pub record Files' (g : List ℕ) (d : Dues) (i t s : List ℕ) (a : List Row) (heads next : List ℕ) (old : ℕ) (w : Standing)
     (u : Key) (start len : ℕ) (hs : List Held) : Type 0 where
   pub owed : Owed g u.owner hs d
-  pub in_rows : InRows i t s a heads next old f hs
+  pub standing : InStanding i t s a heads next old w hs
   pub inside : start + len ≤ length s
   pub shape : Short (take len (drop start s))
 
-abbrev pub Fileable : Dues → List ℕ → List ℕ → List Row → List ℕ → List ℕ → Fill → Key → ℕ → ℕ → Type 0
-Fileable d i t a heads next f u start len =
-    (g s : List ℕ) × ((old : ℕ) × ((hs : List Held) × Files' g d i t s a heads next old f u start len hs))
+abbrev pub Fileable : Dues → List ℕ → List ℕ → List Row → List ℕ → List ℕ → Standing → Key → ℕ → ℕ → Type 0
+Fileable d i t a heads next w u start len =
+    (g s : List ℕ) × ((old : ℕ) × ((hs : List Held) × Files' g d i t s a heads next old w u start len hs))
 
 -- it is filed, or there is no room and the lines are as before
-pub data Filed (g i t s : List ℕ) (a : List Row) (heads next : List ℕ) (old : ℕ) (f : Fill) (h : Held)
-    (hs : List Held) (r : Result Fill Full) : Type 0 where
-  fits : (f' : Fill) → room_for (behind g i t h.key.owner) h hs ≡ Ok tt → r ≡ Ok f'
-      → InRows i t s a heads next old f' (file h hs) → Filed g i t s a heads next old f h hs r
+pub data Filed (g i t s : List ℕ) (a : List Row) (heads next : List ℕ) (old : ℕ) (w : Standing) (h : Held)
+    (hs : List Held) (r : Result Standing Full) : Type 0 where
+  fits : (w' : Standing) → room_for (behind g i t h.key.owner) h hs ≡ Ok tt → r ≡ Ok w'
+      → InStanding i t s a heads next old w' (file h hs) → Filed g i t s a heads next old w h hs r
   full : (e : Full) → room_for (behind g i t h.key.owner) h hs ≡ Err e → r ≡ Err e
-      → Tabled i t s a old f.count hs → Filed g i t s a heads next old f h hs r
+      → Tabled i t s a old w.fill.count hs → Filed g i t s a heads next old w h hs r
 
-abbrev pub FilesRow : Dues → List ℕ → List ℕ → List Row → List ℕ → List ℕ → Fill → Key → ℕ → ℕ → List Row → List ℕ
-    → List ℕ → Result Fill Full → Type 0
-FilesRow d i t a heads next f u start len a' heads' next' r =
-    (g s : List ℕ) (old : ℕ) (hs : List Held) → Files' g d i t s a heads next old f u start len hs
-    → Filed g i t s a' heads' next' old f (record { key = u; line = take len (drop start s) }) hs r
+abbrev pub FilesRow : Dues → List ℕ → List ℕ → List Row → List ℕ → List ℕ → Standing → Key → ℕ → ℕ → List Row → List ℕ
+    → List ℕ → Result Standing Full → Type 0
+FilesRow d i t a heads next w u start len a' heads' next' r =
+    (g s : List ℕ) (old : ℕ) (hs : List Held) → Files' g d i t s a heads next old w u start len hs
+    → Filed g i t s a' heads' next' old w (record { key = u; line = take len (drop start s) }) hs r
 
 -- the buffers encode those lines
 pub record Encoded (n m : ℕ) (i t : List ℕ) (hs : List Held) : Type 0 where
@@ -229,23 +239,23 @@ FilesLine d i t h r i' t' =
     → (r ≡ room_for (behind g i t h.key.owner) h hs)
     × Encoded (length i) (length t) i' t' (by_room r hs hs (file h hs))
 
-abbrev pub SomeRows : Dues → ℕ → List ℕ → List ℕ → List ℕ → List Row → List ℕ → List ℕ → Fill → Type 0
-SomeRows d o i t s a heads next f =
-    (g : List ℕ) × ((old : ℕ) × ((hs : List Held) × (Owed g o hs d × InRows i t s a heads next old f hs)))
+abbrev pub SomeRows : Dues → ℕ → List ℕ → List ℕ → List ℕ → List Row → List ℕ → List ℕ → Standing → Type 0
+SomeRows d o i t s a heads next w =
+    (g : List ℕ) × ((old : ℕ) × ((hs : List Held) × (Owed g o hs d × InStanding i t s a heads next old w hs)))
 
 -- `reach_row`: what one line of an insert does
 pub data Comes (g i t s : List ℕ) (a : List Row) (heads next : List ℕ) (old o : ℕ) (l : List ℕ) (hs : List Held)
-    (f : Fill) (r : Result Fill StoreError) : Type 0 where
-  goes : (f' : Fill) (ks : List Held) → reach (behind g i t o) hs l ≡ after ks → r ≡ Ok f'
-      → InRows i t s a heads next old f' ks → Comes g i t s a heads next old o l hs f r
+    (w : Standing) (r : Result Standing StoreError) : Type 0 where
+  goes : (w' : Standing) (ks : List Held) → reach (behind g i t o) hs l ≡ after ks → r ≡ Ok w'
+      → InStanding i t s a heads next old w' ks → Comes g i t s a heads next old o l hs w r
   stops : (e : StoreError) → reach (behind g i t o) hs l ≡ stopped (Err e) → r ≡ Err e
-      → Tabled i t s a old f.count hs → Comes g i t s a heads next old o l hs f r
+      → Tabled i t s a old w.fill.count hs → Comes g i t s a heads next old o l hs w r
 
-abbrev pub ReachesRow : Dues → List ℕ → List ℕ → List ℕ → List Row → List ℕ → List ℕ → Fill → ℕ → List ℕ → List Row
-    → List ℕ → List ℕ → Result Fill StoreError → Type 0
-ReachesRow d i t s a heads next f o l a' heads' next' r =
-    (g : List ℕ) (old : ℕ) (hs : List Held) → Owed g o hs d → InRows i t s a heads next old f hs
-    → Comes g i t s a' heads' next' old o l hs f r
+abbrev pub ReachesRow : Dues → List ℕ → List ℕ → List ℕ → List Row → List ℕ → List ℕ → Standing → ℕ → List ℕ → List Row
+    → List ℕ → List ℕ → Result Standing StoreError → Type 0
+ReachesRow d i t s a heads next w o l a' heads' next' r =
+    (g : List ℕ) (old : ℕ) (hs : List Held) → Owed g o hs d → InStanding i t s a heads next old w hs
+    → Comes g i t s a' heads' next' old o l hs w r
 
 -- `take_lines`, `insert_batch`: the lines from `from` on are walked, to the end, to one that stops the insert, or to a
 -- place from which it goes on; P holds of the lines that are held then
@@ -265,10 +275,10 @@ pub record Went (s : List ℕ) (from f n : ℕ) (r : Walked) : Type 0 where
   pub counted : from + r.count ≤ r.at
   pub moved : f < n → from < length s → r.answer ≡ Ok tt → from < r.at
 
-abbrev pub TakesLines : Dues → List ℕ → List ℕ → List ℕ → List Row → List ℕ → List ℕ → ℕ → ℕ → Fill → List Row → Walked
+abbrev pub TakesLines : Dues → List ℕ → List ℕ → List ℕ → List Row → List ℕ → List ℕ → ℕ → ℕ → Standing → List Row → Walked
     → Type 0
-TakesLines d i t s a heads next o from f a' r =
-    (g : List ℕ) (old : ℕ) (hs : List Held) → Owed g o hs d → InRows i t s a heads next old f hs
+TakesLines d i t s a heads next o from w a' r =
+    (g : List ℕ) (old : ℕ) (hs : List Held) → Owed g o hs d → InStanding i t s a heads next old w hs
     → Takes (behind g i t o) s from hs r (Tabled i t s a' old r.filled)
 
 abbrev pub Batches : List ℕ → List ℕ → List ℕ → ℕ → List ℕ → ℕ → Walked → List ℕ → List ℕ → Type 0

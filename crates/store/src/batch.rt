@@ -5,6 +5,7 @@ ghost use Rattle.store.specs.Inner.{known};
 ghost use Rattle.store.specs.Keys.{Enough};
 ghost use Rattle.store.specs.Table.{SomeRows, ReachesRow, TakesLines, Went, Batches};
 
+use crate::border::{Standing, border_of};
 use crate::calls::StoreError;
 use crate::chains::Table;
 use crate::claims::dues_of;
@@ -13,7 +14,7 @@ use crate::search::find_far;
 use crate::settle::settle;
 use crate::shares::OWNERS;
 use crate::soundness::{LINE_MAX, survey};
-use crate::table::{Filing, Fill};
+use crate::table::Filing;
 
 // How far lines were walked: what stops the insert, if anything does, the place, the lines walked, and how many numbers
 // are taken.
@@ -30,35 +31,40 @@ impl Filing<'_> {
     fn reach_row<const N: usize>(
         &self,
         table: &mut Table<N>,
-        fill: Fill,
+        standing: Standing,
         at: usize,
         len: usize,
-    ) -> Result<Fill, StoreError>
-        requires count_lt_rows { (fill.count < length table.old.rows) × (at + len ≤ length self.now.lines.now) }
+    ) -> Result<Standing, StoreError>
+        requires count_lt_rows { (standing.fill.count < length table.old.rows) × (at + len ≤ length self.now.lines.now) }
         requires some_rows { SomeRows self.now.dues self.now.owner self.now.index.now self.now.text.now
             self.now.lines.now
             table.old.rows table.old.heads table.old.next
-            fill }
+            standing }
         ensures reaches { ReachesRow self.now.dues self.now.index.now self.now.text.now
             self.now.lines.now
-            table.old.rows table.old.heads table.old.next fill self.now.owner
+            table.old.rows table.old.heads table.old.next standing self.now.owner
             (take len (drop at self.now.lines.now))
             table.new.rows table.new.heads table.new.next result }
         ensures rows_kept { length table.new.rows ≡ length table.old.rows }
     {
         let Some(spelled) = wanted(&self.lines[at..at + len]) else {
-            return Ok(fill);
+            return Ok(standing);
         };
         if LINE_MAX < len {
             return Err(StoreError::LineTooLong);
         }
         let uuid = spelled.id;
-        let filled = self.file_row(table, fill, uuid, at, len)?;
-        Ok(filled)
+        let filed = self.file_row(table, standing, uuid, at, len)?;
+        Ok(filed)
     }
 
     // Walks the lines from a place on, while there are numbers for them.
-    fn take_lines<const N: usize>(&self, table: &mut Table<N>, first: Fill, from: usize) -> Walked
+    fn take_lines<const N: usize>(
+        &self,
+        table: &mut Table<N>,
+        first: Standing,
+        from: usize,
+    ) -> Walked
         requires from_in_bounds { from ≤ length self.now.lines.now + 1 }
         requires some_rows { SomeRows self.now.dues self.now.owner self.now.index.now self.now.text.now
             self.now.lines.now
@@ -68,24 +74,24 @@ impl Filing<'_> {
             self.now.lines.now
             table.old.rows table.old.heads table.old.next self.now.owner from first
             table.new.rows result }
-        ensures went { Went self.now.lines.now from first.count (length table.old.rows) result }
+        ensures went { Went self.now.lines.now from first.fill.count (length table.old.rows) result }
     {
         let mut at = from;
         let mut count = 0;
-        let mut fill = first;
+        let mut standing = first;
         // A `while`, since it may stop within the text and hands its place back, which no `split` tells.
-        while at < self.lines.len() && fill.count < table.rows.len() {
+        while at < self.lines.len() && standing.fill.count < table.rows.len() {
             let end = find_far(&self.lines[at..], b'\n');
             let len = line_length(&self.lines[at..], end);
             let start = at;
-            match self.reach_row(table, fill, start, len) {
-                Ok(filled) => fill = filled,
+            match self.reach_row(table, standing, start, len) {
+                Ok(filed) => standing = filed,
                 Err(e) => {
                     return Walked {
                         answer: Err(e),
                         at,
                         count,
-                        filled: fill.count,
+                        filled: standing.fill.count,
                     };
                 }
             }
@@ -96,7 +102,7 @@ impl Filing<'_> {
             answer: Ok(()),
             at,
             count,
-            filled: fill.count,
+            filled: standing.fill.count,
         }
     }
 }
@@ -107,7 +113,7 @@ impl Filing<'_> {
 pub fn insert_batch<const N: usize>(
     index: &mut [u8],
     text: &mut [u8],
-    shares: &[u16; OWNERS],
+    shares: &[u32; OWNERS],
     owner: u8,
     lines: &[u8],
     from: usize,
@@ -130,7 +136,11 @@ pub fn insert_batch<const N: usize>(
         owner,
         lines,
     };
-    let part = filing.take_lines(&mut table, fill, from);
+    let standing = Standing {
+        fill,
+        border: border_of(&table.rows, fill),
+    };
+    let part = filing.take_lines(&mut table, standing, from);
     let count = part.filled;
     settle(index, text, lines, &table.rows, fill, count);
     part

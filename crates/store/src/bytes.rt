@@ -1,8 +1,8 @@
 // Bytes in a buffer: moved, set to 0, compared with 0, and as numbers.
 ghost use Rattle.std.specs.Prelude.{◌≡◌, ◌++◌, ◌+◌, ◌-◌, ◌≤◌, ◌<◌, length, drop, replicate};
 ghost use Rattle.text.specs.Bytes.{written};
-ghost use Rattle.store.specs.Decode.{zeroes, word, word8};
-ghost use Rattle.store.specs.Inner.{be2, be8};
+ghost use Rattle.store.specs.Decode.{zeroes, word, word4, word8};
+ghost use Rattle.store.specs.Inner.{be2, be4, be8};
 
 // Moves all bytes but the first `gap` down to the front; the last `gap` stay as they are.
 pub fn move_down(part: &mut [u8], gap: usize)
@@ -30,12 +30,19 @@ pub fn zero_between(s: &mut [u8], from: usize, to: usize)
     }
 }
 
-// The numbers in the two and eight bytes at k, high byte first.
+// The numbers in the two, four and eight bytes at k, high byte first.
 pub fn word_at(s: &[u8], k: usize) -> usize
     requires { k + 1 < length s.now }
     ensures { (result ≡ word s.now k) × (result < 65536) }
 {
     usize::from(u16::from_be_bytes([s[k], s[k + 1]]))
+}
+
+pub fn u32_at(s: &[u8], k: usize) -> u32
+    requires { k + 4 ≤ length s.now }
+    ensures { result ≡ word4 s.now k }
+{
+    u32::from_be_bytes([s[k], s[k + 1], s[k + 2], s[k + 3]])
 }
 
 pub fn u64_at(s: &[u8], k: usize) -> u64
@@ -54,12 +61,19 @@ pub fn u64_at(s: &[u8], k: usize) -> u64
     ])
 }
 
-// Writes a number into the two and eight bytes at k, high byte first; of a larger number its last two bytes.
+// Writes a number into the two, four and eight bytes at k, high byte first; two bytes are the last two of the number.
 pub fn put_word(to: &mut [u8], k: usize, x: usize)
     requires { k + 2 ≤ length to.old }
     ensures { to.new ≡ written to.old k (be2 x) }
 {
     to[k..k + 2].copy_from_slice(&((x % 65536) as u16).to_be_bytes());
+}
+
+pub fn put_u32(to: &mut [u8], k: usize, x: u32)
+    requires { k + 4 ≤ length to.old }
+    ensures { to.new ≡ written to.old k (be4 x) }
+{
+    to[k..k + 4].copy_from_slice(&x.to_be_bytes());
 }
 
 pub fn put_u64(to: &mut [u8], k: usize, x: u64)

@@ -140,7 +140,7 @@ pub fn clear(index: &mut [u8], text: &mut [u8]) -> Result<(), StoreError>
 fn insert_all<const N: usize>(
     part: &mut [u8],
     text: &mut [u8],
-    shares: &[u16; OWNERS],
+    shares: &[u32; OWNERS],
     owner: u8,
     lines: &[u8],
 ) -> Tally
@@ -192,7 +192,7 @@ fn walk_in<const N: usize>(index: &mut [u8], text: &mut [u8], owner: u8, lines: 
             count: 0,
         };
     }
-    let mut shares = [0u16; OWNERS];
+    let mut shares = [0u32; OWNERS];
     let front = read_shares(index, &mut shares);
     insert_all::<N>(&mut index[front..], text, &shares, owner, lines)
 }

@@ -24,8 +24,8 @@ pub fn larger_of(used: usize, share: usize) -> usize
 
 // What all parties claim once so many bytes of text are in use.
 pub fn claimed(dues: Dues, used: usize) -> usize
-    requires theirs_le_used { (dues.theirs ≤ used) × (used ≤ 131070) }
-    requires others_bound { (dues.others ≤ owners * 65535) × (dues.share ≤ 65535) }
+    requires theirs_le_used { (dues.theirs ≤ used) × (used ≤ 33554432) }
+    requires others_bound { (dues.others ≤ owners * 4294967295) × (dues.share ≤ 4294967295) }
     ensures { result ≡ dues.others + larger (used - dues.theirs) dues.share }
 {
     dues.others + larger_of(used - dues.theirs, dues.share)
@@ -41,20 +41,20 @@ pub struct Listed<'a> {
 
 impl Listed<'_> {
     // Adds up the bytes of each owner's lines.
-    pub fn add_uses(&self, uses: &mut [u16; OWNERS])
+    pub fn add_uses(&self, uses: &mut [u32; OWNERS])
         requires { uses.old ≡ no_shares }
         ensures { Adds self.now.rows.now self.now.count uses.new }
     {
         let rows = self.rows;
         for row in &rows[..self.count] {
             let o = row.key.owner as usize;
-            uses[o] += row.len as u16;
+            uses[o] += row.len as u32;
         }
     }
 }
 
 // What all parties claim, by their uses and shares.
-pub fn claims_of(uses: &[u16; OWNERS], shares: &[u16; OWNERS]) -> usize
+pub fn claims_of(uses: &[u32; OWNERS], shares: &[u32; OWNERS]) -> usize
     ensures sums { Sums uses.now shares.now result }
     ensures covers { Covers uses.now shares.now result }
 {
@@ -67,14 +67,14 @@ pub fn claims_of(uses: &[u16; OWNERS], shares: &[u16; OWNERS]) -> usize
 
 // What the others than an owner claim and use, and its share, by the lines that are written down. Without any share
 // all that is claimed is in use.
-pub fn dues_of(rows: &[Row], fill: Fill, shares: &[u16; OWNERS], owner: u8) -> Dues
+pub fn dues_of(rows: &[Row], fill: Fill, shares: &[u32; OWNERS], owner: u8) -> Dues
     requires { Addable rows.now fill.count × (row_lengths rows.now fill.count ≤ fill.used) }
     ensures { DuesFrom rows.now fill shares.now owner result }
 {
     if !any_share(shares) {
         return Dues::default();
     }
-    let mut uses = [0u16; OWNERS];
+    let mut uses = [0u32; OWNERS];
     let listed = Listed {
         rows,
         count: fill.count,

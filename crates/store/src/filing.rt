@@ -5,6 +5,7 @@ ghost use Rattle.store.specs.Decode.{decode};
 ghost use Rattle.store.specs.Inner.{known};
 ghost use Rattle.store.specs.Table.{Loads, SomeDues, FilesLine};
 
+use crate::border::{Standing, border_of};
 use crate::chains::Table;
 use crate::claims::Dues;
 use crate::parties::Key;
@@ -39,7 +40,11 @@ pub fn file_line<const N: usize>(
         owner: key.owner,
         lines: line,
     };
-    let filled = filing.file_row(table, fill, key.uuid, 0, len)?;
-    settle(index, text, line, &table.rows, fill, filled.count);
+    let standing = Standing {
+        fill,
+        border: border_of(&table.rows, fill),
+    };
+    let filed = filing.file_row(table, standing, key.uuid, 0, len)?;
+    settle(index, text, line, &table.rows, fill, filed.fill.count);
     Ok(())
 }

@@ -2,6 +2,7 @@
 #![tactic(auto)]
 
 mod batch;
+mod border;
 mod bytes;
 pub mod calls;
 mod chains;

@@ -45,7 +45,7 @@ fn kept_rows(rows: &[Row], old: usize) -> Kept
         if row.len == 0 {
             return Kept { rows: k, at, off };
         }
-        at += record_size(row.key);
+        at += record_size(row.key, off);
         off += row.len;
     }
     Kept { rows: old, at, off }
@@ -78,7 +78,7 @@ fn close_up(
         }
         put_record(&mut part[at..], row.key, off, row.len);
         put_text(text, lines, off, row.start, row.len, k < was.count);
-        at += record_size(row.key);
+        at += record_size(row.key, off);
         off += row.len;
     }
     zero_between(part, at, was.end - kept.at);

@@ -29,7 +29,7 @@ fn share_in<const N: usize>(index: &[u8], text: &[u8], owner: u8) -> Result<Shar
 {
     let mut ledger = Ledger::<N>::new();
     let stock = ledger.take_stock(index, text).ok_or(Unsound)?;
-    let mut uses = [0u16; OWNERS];
+    let mut uses = [0u32; OWNERS];
     let listed = Listed {
         rows: &ledger.table.rows,
         count: stock.fill.count,
@@ -54,10 +54,10 @@ pub fn share_of(index: &[u8], text: &[u8], owner: u8) -> Result<ShareUse, Unsoun
 
 impl Listed<'_> {
     // What all parties claim with those shares.
-    fn claims_with(&self, shares: &[u16; OWNERS]) -> usize
+    fn claims_with(&self, shares: &[u32; OWNERS]) -> usize
         ensures { ClaimsWith self.now.rows.now self.now.count shares.now result }
     {
-        let mut uses = [0u16; OWNERS];
+        let mut uses = [0u32; OWNERS];
         self.add_uses(&mut uses);
         claims_of(&uses, shares)
     }
@@ -65,7 +65,7 @@ impl Listed<'_> {
     // Whether there is room for those shares: in the text, and in an index of which so many bytes are then in use.
     fn share_room(
         &self,
-        shares: &[u16; OWNERS],
+        shares: &[u32; OWNERS],
         text: usize,
         index: usize,
         end: usize,
@@ -83,12 +83,12 @@ impl Listed<'_> {
 }
 
 // Writes the share of an owner into the index, which had another one; it stands among those shares already.
-fn write_share(index: &mut [u8], shares: &[u16; OWNERS], owner: u8, had: usize, bytes: usize)
-    requires { Writable index.old shares.now owner had bytes }
-    ensures { Written index.old shares.now owner had bytes index.new }
+fn write_share(index: &mut [u8], shares: &[u32; OWNERS], owner: u8, had: u32, share: u32)
+    requires { Writable index.old shares.now owner had share }
+    ensures { Written index.old shares.now owner had share index.new }
 {
     let at = share_place(shares, owner as usize);
-    change_share(&mut index[at..], owner, had, bytes);
+    change_share(&mut index[at..], owner, had, share);
 }
 
 // Sets the share of the party with that owner byte, by a table of that size.
@@ -106,21 +106,22 @@ fn set_in<const N: usize>(
     let mut ledger = Ledger::<N>::new();
     let stock = ledger.take_stock(index, text).ok_or(StoreError::Unsound)?;
     let room = text.len();
-    // Told before the share is put among the others, whose numbers have two bytes.
+    // Told before the share is put among the others, whose numbers have four bytes.
     if room < bytes {
         return Err(StoreError::ShareTooLarge);
     }
     let fill = stock.fill;
     let o = owner as usize;
-    let had = ledger.shares[o] as usize;
-    ledger.shares[o] = bytes as u16;
-    let end = stock.front + fill.end + share_size(bytes) - share_size(had);
+    let had = ledger.shares[o];
+    let share = bytes as u32;
+    ledger.shares[o] = share;
+    let end = stock.front + fill.end + share_size(share) - share_size(had);
     let listed = Listed {
         rows: &ledger.table.rows,
         count: fill.count,
     };
     listed.share_room(&ledger.shares, room, index.len(), end)?;
-    write_share(index, &ledger.shares, owner, had, bytes);
+    write_share(index, &ledger.shares, owner, had, share);
     Ok(())
 }
 

@@ -18,9 +18,9 @@ use crate::table::Fill;
 // The most bytes of a line, of an index and of a text.
 pub const LINE_MAX: usize = 16384;
 
-pub const INDEX_MAX: usize = 65535;
+pub const INDEX_MAX: usize = 1048576;
 
-pub const TEXT_MAX: usize = 65535;
+pub const TEXT_MAX: usize = 16777216;
 
 // What a walk shows of a store whose records and lines are those of some list, in which a key may stand twice: whether
 // one does, as far as chains told; and how much is in use.
@@ -103,7 +103,7 @@ pub fn survey<const N: usize>(index: &[u8], text: &[u8], table: &mut Table<N>) -
 // What is written down of a store: each party's share, and the lines.
 #[derive(Drop)]
 pub struct Ledger<const N: usize> {
-    pub shares: [u16; OWNERS],
+    pub shares: [u32; OWNERS],
     pub table: Table<N>,
 }
 

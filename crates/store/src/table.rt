@@ -1,14 +1,13 @@
 // Lines by number: a row for each, and chains by the keys. A line that is struck out keeps its row, with length 0.
 ghost use Rattle.std.specs.Prelude.{◌≡◌, List, ℕ, suc, ◌+◌, ◌-◌, ◌≤◌, ◌<◌, length, take, drop};
-ghost use Rattle.store.specs.Held.{index_max};
 ghost use Rattle.store.specs.Keys.{Chained, Sought};
-ghost use Rattle.store.specs.Rows.{key_in, row_put};
-ghost use Rattle.store.specs.Table.{len_before, struck_before, Ends, Fileable, FilesRow};
+ghost use Rattle.store.specs.Rows.{key_in, row_put, len_before, put_before};
+ghost use Rattle.store.specs.Table.{Weighable, room_by, Fileable, FilesRow};
 
+use crate::border::Standing;
 use crate::chains::Table;
 use crate::claims::{Dues, claimed};
 use crate::parties::Key;
-use crate::records::record_size;
 use crate::rows::Row;
 use text::uuid::Uuid;
 
@@ -56,26 +55,15 @@ pub fn len_before(rows: &[Row], r: usize) -> usize
     rows[r - 1].len
 }
 
-// Strikes out the number before r; r is 0 where there is none.
-fn strike_before(rows: &mut [Row], r: usize)
+// Writes the length of the line of the number before r, 0 striking it out; r is 0 where there is none.
+fn put_len_before(rows: &mut [Row], r: usize, len: usize)
     requires { r ≤ length rows.old }
-    ensures { rows.new ≡ struck_before rows.old r }
+    ensures { rows.new ≡ put_before rows.old r len }
 {
     if r == 0 {
         return;
     }
-    rows[r - 1].len = 0;
-}
-
-// Where the records end with one more of that key; a line of length `had` is struck out for it, or none where it is 0.
-fn end_with(end: usize, had: usize, key: Key) -> usize
-    requires { end ≤ index_max }
-    ensures { Ends end had key result }
-{
-    if had == 0 {
-        return end + record_size(key);
-    }
-    end
+    rows[r - 1].len = len;
 }
 
 // One party's filing: the buffers as they are before it, what is claimed of the text, the owner byte, and the lines that
@@ -90,44 +78,52 @@ pub struct Filing<'a> {
 }
 
 impl Filing<'_> {
+    // Whether there is room for what is filled.
+    fn room(&self, fill: Fill) -> Result<(), Full>
+        requires { Weighable self.now.dues fill }
+        ensures { result
+            ≡ room_by self.now.dues (length self.now.index.now) (length self.now.text.now) fill }
+    {
+        if self.index.len() < fill.end {
+            return Err(Full::Index);
+        }
+        if self.text.len() < claimed(self.dues, fill.used) {
+            return Err(Full::Text);
+        }
+        Ok(())
+    }
+
     // Files a line of the inserted text under a UUID, if there is room, and answers what is filled then: the one held under
-    // it is struck out.
+    // it is struck out. Room is told with that one struck out, so its length is put back where there is none.
     pub fn file_row<const N: usize>(
         &self,
         table: &mut Table<N>,
-        fill: Fill,
+        standing: Standing,
         uuid: Uuid,
         start: usize,
         len: usize,
-    ) -> Result<Fill, Full>
-        requires count_lt_rows { fill.count < length table.old.rows }
+    ) -> Result<Standing, Full>
+        requires count_lt_rows { standing.fill.count < length table.old.rows }
         requires fileable { Fileable self.now.dues self.now.index.now self.now.text.now
             table.old.rows table.old.heads table.old.next
-            fill (record { owner = self.now.owner; uuid = uuid }) start len }
+            standing (record { owner = self.now.owner; uuid = uuid }) start len }
         ensures files { FilesRow self.now.dues self.now.index.now self.now.text.now
             table.old.rows table.old.heads table.old.next
-            fill (record { owner = self.now.owner; uuid = uuid }) start len
+            standing (record { owner = self.now.owner; uuid = uuid }) start len
             table.new.rows table.new.heads table.new.next result }
         ensures rows_kept { length table.new.rows ≡ length table.old.rows }
     {
-        let n = fill.count;
+        let n = standing.fill.count;
         let owner = self.owner;
         let key = Key { owner, uuid };
         let r = table.add_row(n, key, start, len, N);
         let had = len_before(&table.rows, r);
-        let used = fill.used - had + len;
-        let end = end_with(fill.end, had, key);
-        if self.index.len() < end {
-            return Err(Full::Index);
+        put_len_before(&mut table.rows, r, 0);
+        let filed = standing.with_row(&table.rows, key, r, had, len);
+        if let Err(full) = self.room(filed.fill) {
+            put_len_before(&mut table.rows, r, had);
+            return Err(full);
         }
-        if self.text.len() < claimed(self.dues, used) {
-            return Err(Full::Text);
-        }
-        strike_before(&mut table.rows, r);
-        Ok(Fill {
-            count: n + 1,
-            end,
-            used,
-        })
+        Ok(filed)
     }
 }

@@ -1,26 +1,42 @@
-//! Document 01's store and book in plain Rust; a line is held under its owner and its UUID, and parties have shares of the
-//! text (document 02, P9 and P10).
+//! Document 01's store and book in plain Rust; a line is held under its owner and its UUID, parties have shares of the
+//! text, and offsets and shares over 65535 have four bytes (document 02, P9, P10 and P12).
 use crate::doc01;
 use crate::plain::{owner, refusal, refusal_at, Map, Party, Refusal, Slots, Uuid};
-use std::collections::BTreeMap;
+use std::collections::{BTreeMap, BTreeSet};
 
-pub const INDEX_MAX: usize = 65535;
-pub const TEXT_MAX: usize = 65535;
+pub const INDEX_MAX: usize = 1048576;
+pub const TEXT_MAX: usize = 16777216;
 pub const LINE_MAX: usize = 16384;
 /// An owner, 0 being the hall, and a UUID.
 pub type Key = (u8, Uuid);
 
-/// The bytes of a record: the hall's, or an organiser's.
-pub fn record(k: Key) -> usize {
-    if k.0 == 0 { 21 } else { 22 }
+/// Whether an offset or a share has four bytes in its record, else two.
+fn is_long(n: usize) -> bool {
+    n > 65535
+}
+
+/// The bytes of a record of a line at that offset: the hall's, or an organiser's.
+pub fn record(k: Key, at: usize) -> usize {
+    let short = if k.0 == 0 { 21 } else { 22 };
+    if is_long(at) { short + 2 } else { short }
 }
 
 /// The shares that are set, by owner; none of 0 bytes.
 pub type Shares = BTreeMap<u8, usize>;
 
-/// The index that shares and lines of these keys take.
+/// The bytes of a share's record.
+fn share_record(bytes: usize) -> usize {
+    if is_long(bytes) { 6 } else { 4 }
+}
+
+/// The index that shares take, and lines of these keys and lengths, which lie end to end.
 fn records(shares: &Shares, lines: &[(Key, usize)]) -> usize {
-    4 * shares.len() + lines.iter().map(|l| record(l.0)).sum::<usize>()
+    let (mut at, mut sum) = (0, shares.values().map(|b| share_record(*b)).sum::<usize>());
+    for (k, len) in lines {
+        sum += record(*k, at);
+        at += len;
+    }
+    sum
 }
 
 /// The bytes of an owner's lines.
@@ -167,17 +183,10 @@ impl Book {
     pub fn buffers(&self) -> (Vec<u8>, Vec<u8>) {
         let (mut index, mut text) = (Vec::with_capacity(self.index), Vec::with_capacity(self.text));
         for (o, b) in &self.shares {
-            index.extend_from_slice(&[4, *o]);
-            index.extend_from_slice(&(*b as u16).to_be_bytes());
+            put_share(&mut index, *o, *b);
         }
-        for ((o, u), l) in &self.lines {
-            match o {
-                0 => index.push(1),
-                _ => index.extend_from_slice(&[3, *o]),
-            }
-            index.extend_from_slice(u);
-            index.extend_from_slice(&(text.len() as u16).to_be_bytes());
-            index.extend_from_slice(&(l.len() as u16).to_be_bytes());
+        for (k, l) in &self.lines {
+            put_record(&mut index, *k, text.len(), l.len());
             text.extend_from_slice(l);
         }
         index.resize(self.index, 0);
@@ -191,28 +200,84 @@ impl Book {
             return None;
         }
         let mut b = Book::new(index.len(), text.len());
-        let (mut at, mut used) = (0, 0);
-        while index.get(at) == Some(&4) {
-            let record = index.get(at..at + 4)?;
-            b.shares.insert(record[1], u16::from_be_bytes([record[2], record[3]]) as usize);
-            at += 4;
-        }
-        b.shares.retain(|_, share| *share > 0);
-        while let Some(&kind) = index.get(at).filter(|k| [1, 3].contains(k)) {
-            let (owner, body) = if kind == 1 { (0, at + 1) } else { (*index.get(at + 1)?, at + 2) };
-            let body = index.get(body..body + 20)?;
-            let key = (owner, Uuid::try_from(&body[..16]).unwrap());
-            let n = u16::from_be_bytes([body[18], body[19]]) as usize;
-            if n == 0 || n > LINE_MAX || used + n > text.len() || b.lines.iter().any(|l| l.0 == key) {
+        let front = b.read_shares(index)?;
+        let (at, used) = b.read_lines(index, front, text)?;
+        let zero = index[at..].iter().chain(&text[used..]).all(|b| *b == 0);
+        zero.then_some(b)
+    }
+
+    /// Where the records of the shares end, which ascend by owner.
+    fn read_shares(&mut self, index: &[u8]) -> Option<usize> {
+        let mut at = 0;
+        while let Some(&kind) = index.get(at).filter(|k| [4, 6].contains(k)) {
+            let end = if kind == 6 { at + 6 } else { at + 4 };
+            let record = index.get(at..end)?;
+            let (owner, bytes) = (record[1], number(&record[2..]));
+            let ascends = self.shares.keys().all(|o| *o < owner);
+            if !ascends || bytes == 0 || is_long(bytes) != (kind == 6) {
                 return None;
             }
-            b.lines.push((key, text[used..used + n].to_vec()));
-            used += n;
-            at += if kind == 1 { 21 } else { 22 };
+            self.shares.insert(owner, bytes);
+            at = end;
         }
-        // the encoding is unique: every other byte, offsets, owners and the order of shares too, must be as `buffers` writes it
-        (b.buffers() == (index.to_vec(), text.to_vec())).then_some(b)
+        Some(at)
     }
+
+    /// Where the records of the lines end, which start behind the shares, and where the lines end in the text.
+    fn read_lines(&mut self, index: &[u8], front: usize, text: &[u8]) -> Option<(usize, usize)> {
+        let (mut at, mut used, mut seen) = (front, 0, BTreeSet::new());
+        while let Some(&kind) = index.get(at).filter(|k| [1, 2, 3, 5].contains(k)) {
+            let (owned, long) = ([3, 5].contains(&kind), [2, 5].contains(&kind));
+            let owner = if owned { *index.get(at + 1)? } else { 0 };
+            let start = if owned { at + 2 } else { at + 1 };
+            let end = if long { start + 22 } else { start + 20 };
+            let (uuid, places) = index.get(start..end)?.split_at(16);
+            let (off, len) = places.split_at(places.len() - 2);
+            let (off, len) = (number(off), number(len));
+            let key = (owner, Uuid::try_from(uuid).unwrap());
+            if owned && owner == 0 || long != is_long(off) || off != used || !seen.insert(key) {
+                return None;
+            }
+            if len == 0 || len > LINE_MAX || used + len > text.len() {
+                return None;
+            }
+            self.lines.push((key, text[used..used + len].to_vec()));
+            (at, used) = (end, used + len);
+        }
+        Some((at, used))
+    }
+}
+
+/// The number in bytes, high byte first.
+fn number(bytes: &[u8]) -> usize {
+    bytes.iter().fold(0, |n, b| 256 * n + *b as usize)
+}
+
+fn put_share(index: &mut Vec<u8>, owner: u8, bytes: usize) {
+    if is_long(bytes) {
+        index.extend_from_slice(&[6, owner]);
+        index.extend_from_slice(&(bytes as u32).to_be_bytes());
+    } else {
+        index.extend_from_slice(&[4, owner]);
+        index.extend_from_slice(&(bytes as u16).to_be_bytes());
+    }
+}
+
+/// The record of a line of that length at that offset.
+pub fn put_record(index: &mut Vec<u8>, (owner, uuid): Key, at: usize, len: usize) {
+    match (owner, is_long(at)) {
+        (0, false) => index.push(1),
+        (0, true) => index.push(2),
+        (_, false) => index.extend_from_slice(&[3, owner]),
+        (_, true) => index.extend_from_slice(&[5, owner]),
+    }
+    index.extend_from_slice(&uuid);
+    if is_long(at) {
+        index.extend_from_slice(&(at as u32).to_be_bytes());
+    } else {
+        index.extend_from_slice(&(at as u16).to_be_bytes());
+    }
+    index.extend_from_slice(&(len as u16).to_be_bytes());
 }
 
 /// Whether a saved name has LF or `platform:`.

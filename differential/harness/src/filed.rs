@@ -2,8 +2,9 @@
 use crate::check::Tally;
 use crate::compare::AllSlots;
 use crate::lent::Store;
+use crate::near;
 use crate::plain::{Party, HALL};
-use crate::stores::Sides;
+use crate::stores::{Sides, PARTIES};
 
 const U: &str = "00000000000000000000000000000000";
 
@@ -21,8 +22,8 @@ pub fn stores(t: &mut Tally) {
             }
         }
     }
-    for index in [0, 20, 21, 22, 41, 42, 43, 62, 63, 64, 65535, 65536] {
-        for text in [0, 33, 34, 35, 67, 68, 69, 101, 102, 103, 65535, 65536] {
+    for index in [0, 20, 21, 22, 41, 42, 43, 62, 63, 64, 65535, 65536, 65537] {
+        for text in [0, 33, 34, 35, 67, 68, 69, 101, 102, 103, 65535, 65536, 65537] {
             let mut s = Sides::fresh(index, text);
             for k in [1, 2, 1, 3, 2, 2] {
                 s.insert(t, HALL, format!("{},{k}\n", id(k)).as_bytes());
@@ -117,16 +118,25 @@ fn damaged_stores(t: &mut Tally) {
 }
 
 fn every_byte(t: &mut Tally, store: &Store) {
-    let (index, text) = (store.index.len(), store.text.len());
-    for at in 0..index + text {
-        for byte in [0, 1, 2, 3, 4, 9, 34, 35, 36, 255] {
-            let mut s = Sides::fresh(index, text);
-            let change = |x: &mut Store| {
-                *x = store.clone();
-                if at < index { x.index[at] = byte } else { x.text[at - index] = byte }
-            };
-            s.damage(t, change, b"00000000000000000000000000000003,T", &AllSlots::new());
-            s.look_up(t);
+    for at in 0..store.index.len() + store.text.len() {
+        for byte in [0, 1, 2, 3, 4, 5, 6, 9, 34, 35, 36, 255] {
+            changed(t, store, at, byte);
         }
     }
+}
+
+/// A store with one byte changed, counted through index and text.
+pub fn changed(t: &mut Tally, store: &Store, at: usize, byte: u8) {
+    let (index, text) = (store.index.len(), store.text.len());
+    let mut s = Sides::fresh(index, text);
+    let change = |x: &mut Store| {
+        *x = store.clone();
+        if at < index { x.index[at] = byte } else { x.text[at - index] = byte }
+    };
+    s.damage(t, change, b"00000000000000000000000000000003,T", &AllSlots::new());
+    for p in PARTIES {
+        s.found(t, p, &s.ids);
+        s.told(t, p);
+    }
+    near::compare(t, &s, HALL, &s.ids[..1]);
 }

@@ -9,6 +9,15 @@ pub fn party(p: Party) -> ffi::Party {
     ffi::Party { organiser: p.is_some(), owner: p.unwrap_or(0xee) }
 }
 
+/// The stack of a thread that calls the library: a call on an index of more than 65535 bytes takes up to 5 MB.
+const STACK: usize = 16 << 20;
+
+/// Does the work on a thread that has room for every call. Its panic is this one's.
+pub fn with_room<T: Send + 'static>(work: impl FnOnce() -> T + Send + 'static) -> T {
+    let thread = std::thread::Builder::new().stack_size(STACK).spawn(work).expect("a thread");
+    thread.join().unwrap_or_else(|panic| std::panic::resume_unwind(panic))
+}
+
 /// A store: the two lent buffers.
 #[derive(Clone)]
 pub struct Store {

@@ -2,6 +2,7 @@
 //! the clears alone. A setting of a share (P10) is nobody's own call.
 use crate::check::{shown, Group, Tally};
 use crate::compare::AllSlots;
+use crate::far;
 use crate::gen::{self, Rng};
 use crate::lent::Store;
 use crate::plain::{Map, Party, Refusal, Uuid, HALL};
@@ -31,7 +32,7 @@ pub fn party(r: &mut Rng) -> Party {
 /// A share at random: of the hall, of an organiser that calls or of another; none, small, about the text or beyond it.
 pub fn share(r: &mut Rng, text: usize) -> (u8, usize) {
     let some = r.below(text + 2);
-    (r.pick(&[0, 1, 255, 255, 3]), r.pick(&[0, 1, 40, text / 3, some, some, text, 65536]))
+    (r.pick(&[0, 1, 255, 255, 3]), r.pick(&[0, 1, 40, text / 3, some, some, text, 65535, 65536, 1 << 32]))
 }
 
 impl Call {
@@ -42,7 +43,8 @@ impl Call {
                 let (o, b) = share(r, 4000);
                 Call::Share(o, b)
             }
-            1..=8 => Call::Insert(party(r), gen::bytes(r)),
+            1 => Call::Insert(party(r), far::text(r, 0)),
+            2..=8 => Call::Insert(party(r), gen::bytes(r)),
             _ => Call::Save(party(r), gen::name(r), [r.below(3) as u8; 16]),
         }
     }
@@ -83,7 +85,7 @@ fn deeds<'a>(p: Party, calls: &'a [Call], replies: &'a [Reply]) -> Vec<&'a Reply
 /// A history of all parties in one store, and each party's own calls and the clears in another, of any size: where the
 /// results are alike, its look-ups find the same.
 pub fn apart(t: &mut Tally, r: &mut Rng) {
-    let size = |r: &mut Rng| (r.pick(&[43, 65, 87, 210, 2200, 4400]), r.pick(&[150, 400, 4000, 40000]));
+    let size = |r: &mut Rng| (r.pick(&[43, 65, 87, 210, 2200, 4400]), r.pick(&[150, 400, 4000, 40000, 100000]));
     let calls: Vec<Call> = (0..2 + r.below(8)).map(|_| Call::any(r)).collect();
     let (index, text) = size(r);
     let mut mixed = Store::fresh(index, text);

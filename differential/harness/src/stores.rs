@@ -8,7 +8,7 @@ use crate::plain::{owner, placed, refusal, Map, Party, Refusal, Uuid, HALL};
 use std::collections::BTreeMap;
 
 /// The three sides of one store. Each party has a database of gilrs's of its own (document 02, P9), which goes along while
-/// no call of that party was refused that it would have taken.
+/// no call of that party was refused that it would have taken; a party that is none of `PARTIES` has none.
 pub struct Sides {
     dbs: BTreeMap<Party, Option<oracle::Db>>,
     pub book: Book,
@@ -39,6 +39,19 @@ impl Sides {
         }
     }
 
+    /// A store that holds what a book holds, put there from outside. The Rust goes no further along.
+    pub fn holding(book: Book, what: &str) -> Self {
+        let (index, text) = book.buffers();
+        Sides {
+            dbs: PARTIES.iter().map(|&p| (p, None)).collect(),
+            history: format!("index {}, text {}, {what}", index.len(), text.len()),
+            store: Store { index, text },
+            book,
+            ids: vec![[0; 16]],
+            callers: vec![HALL],
+        }
+    }
+
     pub fn input(&self) -> String {
         self.history.clone()
     }
@@ -56,7 +69,7 @@ impl Sides {
 
     /// A party's database, where the Rust has an answer.
     pub fn db(&self, p: Party) -> Option<&oracle::Db> {
-        self.dbs[&p].as_ref().filter(|_| self.sized())
+        self.dbs.get(&p)?.as_ref().filter(|_| self.sized())
     }
 
     fn buffers(&self, t: &mut Tally) {
@@ -86,7 +99,7 @@ impl Sides {
             false => (Some(refusal(19)), 0, 0),
         };
         // outside its domain the Rust files more: that party's database is left behind
-        let db = self.dbs.get_mut(&p).unwrap();
+        let db = self.dbs.entry(p).or_default();
         if doc.0.is_none() {
             if let (Some(db), Ok(text)) = (db, std::str::from_utf8(lines)) {
                 if rust(|| db.insert(text)).is_none() {
@@ -142,7 +155,7 @@ impl Sides {
             t.panic(&|| self.history.clone());
             return None;
         };
-        if let (Ok((_, line)), Some(db)) = (&built, self.dbs.get_mut(&p).unwrap()) {
+        if let (Ok((_, line)), Some(Some(db))) = (&built, self.dbs.get_mut(&p)) {
             db.insert(line);
         }
         Some(built.map(|(m, line)| placed(m, line.as_bytes())).map_err(Refusal::from))
@@ -157,26 +170,36 @@ impl Sides {
         for p in PARTIES {
             let many = self.callers.contains(&p) && owner(p).is_ok();
             let ids = if many { &self.ids[..] } else { &self.ids[self.ids.len() / 2..][..1] };
-            for id in ids {
-                let rust = self.db(p).map(|d| Ok(d.get(*id).map(|s| s.as_bytes().to_vec())));
-                let doc = self.allowed(p).and_then(|()| self.book.get(p, *id));
-                let here = self.store.look_up(p, *id);
-                t.case(Group::LookUp, number(&doc), rust.as_ref(), &doc, &here, &|| {
-                    format!("{}; look-up {p:?} {id:02x?}", self.input())
-                });
-            }
+            self.found(t, p, ids);
             near::compare(t, self, p, ids);
-            let o = p.unwrap_or(0);
-            let doc = if self.sized() { Ok(self.book.told(o)) } else { Err(refusal(19)) };
-            t.case(Group::Shares, number(&doc), None, &doc, &self.store.share(o), &|| {
-                format!("{}; share and use of {o}", self.input())
-            });
-            let owned = owner(p).map_or(0, |o| self.book.lines.iter().filter(|l| l.0 .0 == o).count());
-            let size = self.dbs[&p].as_ref().map(|d| d.len());
-            t.case(Group::LookUp, 0, size.as_ref(), &owned, &owned, &|| {
-                format!("{}: lines held by {p:?}", self.input())
+            self.told(t, p);
+        }
+    }
+
+    /// A party's lines under these UUIDs.
+    pub fn found(&self, t: &mut Tally, p: Party, ids: &[Uuid]) {
+        for id in ids {
+            let rust = self.db(p).map(|d| Ok(d.get(*id).map(|s| s.as_bytes().to_vec())));
+            let doc = self.allowed(p).and_then(|()| self.book.get(p, *id));
+            let here = self.store.look_up(p, *id);
+            t.case(Group::LookUp, number(&doc), rust.as_ref(), &doc, &here, &|| {
+                format!("{}; look-up {p:?} {id:02x?}", self.input())
             });
         }
+    }
+
+    /// A party's share and use, and how many lines it holds.
+    pub fn told(&self, t: &mut Tally, p: Party) {
+        let o = p.unwrap_or(0);
+        let doc = if self.sized() { Ok(self.book.told(o)) } else { Err(refusal(19)) };
+        t.case(Group::Shares, number(&doc), None, &doc, &self.store.share(o), &|| {
+            format!("{}; share and use of {o}", self.input())
+        });
+        let owned = owner(p).map_or(0, |o| self.book.lines.iter().filter(|l| l.0 .0 == o).count());
+        let size = self.dbs.get(&p).and_then(|d| d.as_ref()).map(|d| d.len());
+        t.case(Group::LookUp, 0, size.as_ref(), &owned, &owned, &|| {
+            format!("{}: lines held by {p:?}", self.input())
+        });
     }
 
     /// Puts bytes into the buffers from outside. The list is then what they encode; where they encode none, each call
@@ -186,9 +209,10 @@ impl Sides {
         self.dbs = PARTIES.iter().map(|&p| (p, None)).collect();
         let before = self.store.clone();
         if let Some(b) = Book::of(&before.index, &before.text) {
+            self.ids.extend(b.lines.iter().map(|l| l.0 .1));
             self.book = b;
             self.callers = PARTIES.to_vec();
-            self.history = format!("index {:02x?}, text {:02x?}", self.store.index, self.store.text);
+            self.history = format!("index {:02x?}, text {}", before.index, shown(&before.text));
             return;
         }
         let input = || format!("index {:02x?}, text {}", before.index, shown(&before.text));

@@ -2,10 +2,12 @@
 //! Arguments: seconds, seed, corpus files. The last line is the summary; status 0 only without a difference or a panic.
 use harness::check::{Tally, GROUPS};
 use harness::compare::{self, AllSlots};
+use harness::far;
 use harness::filed;
 use harness::games;
 use harness::gen::{self, Rng};
-use harness::lent::Store;
+use harness::largest;
+use harness::lent::{with_room, Store};
 use harness::owners;
 use harness::pads;
 use harness::plain::{AXIS, HALL};
@@ -13,6 +15,11 @@ use harness::stores::Sides;
 use std::time::Duration;
 
 fn main() {
+    std::process::exit(with_room(compared));
+}
+
+/// The comparison; its status.
+fn compared() -> i32 {
     let args: Vec<String> = std::env::args().skip(1).collect();
     let secs: u64 = args.first().and_then(|s| s.parse().ok()).unwrap_or(60);
     let seed: u64 = args.get(1).and_then(|s| s.parse().ok()).unwrap_or(1);
@@ -34,14 +41,19 @@ fn main() {
         "{} cases ({} corpus lines), seed {seed}, {} differences, {} panics",
         t.cases(), lines.len(), t.differences(), t.panics
     );
-    std::process::exit((t.differences() + t.panics > 0) as i32);
+    (t.differences() + t.panics > 0) as i32
 }
+
+/// The rounds of random inputs that are run however long what is fixed took: each group has cases then.
+const ROUNDS: usize = 4;
 
 /// Random inputs until the time is over.
 fn random(t: &mut Tally, lines: &[&[u8]], secs: u64, seed: u64) {
     let mut r = Rng::new(seed);
     let end = Duration::from_secs(secs);
-    while t.start.elapsed() < end {
+    let mut rounds = 0;
+    while rounds < ROUNDS || t.start.elapsed() < end {
+        rounds += 1;
         for k in 0..50 {
             compare::text(t, &gen::any_bytes(&mut r));
             let mut line = match k % 5 {
@@ -65,6 +77,7 @@ fn random(t: &mut Tally, lines: &[&[u8]], secs: u64, seed: u64) {
                 pads::events(t, &mut r);
                 games::history(t, &mut r);
                 games::two_history(t, &mut r);
+                far::history(t, &mut r);
                 let (room, at, n) = (r.below(60), r.below(64), r.next() as usize >> r.below(64));
                 compare::writers(t, room, at, n, (r.next() as u128 * r.next() as u128).to_be_bytes());
             }
@@ -172,10 +185,15 @@ mod fixed {
         games::many_codes(t);
         (0..50).for_each(|seed| games::interleavings(t, &mut Rng::new(seed)));
         corpora(t, corpus);
+        largest::whole_lists(t, corpus);
         t.progress("both corpora", true);
         boundaries(t);
         filed::stores(t);
         t.progress("boundaries of document 01", true);
+        far::stores(t);
+        t.progress("lines and shares about 65536", true);
+        largest::stores(t);
+        t.progress("the largest stores", true);
         short_lines(t);
         t.progress("every short line", true);
     }

@@ -5,12 +5,13 @@ use mathlib.Core.Path.{◌≡◌, ◌∙◌}
 use Prim.Native.Nat.{◌≤◌}
 use lib.ListN.{length}
 use borrow.Author.Rules.{rules}
-use Rattle.store.specs.Claims.{Owed}
+use Rattle.store.specs.Claims.{Owed, row_lengths}
 use Rattle.store.specs.Decode.{decode}
-use Rattle.store.specs.Held.{Held}
+use Rattle.store.specs.Held.{Held, text_max}
 use Rattle.store.specs.Table.{Surveys}
 use Rattle.store.proofs.BatchLaws.{both_most, loads_held, batch_settles, batch_end, went_from}
 use Rattle.store.proofs.LoadLaws.{loads_extend}
+use Rattle.store.proofs.StandingLaws.{loads_border}
 use Rattle.store.proofs.SurveyLaws.{walk_of, survey_some, survey_of}
 use Rattle.store.proofs.UseLaws.{loads_addable, loads_owed}
 use Rattle.store.proofs.batch.insert_batch.Goals.{After-dues_of-dues}
@@ -51,6 +52,17 @@ owed : (g : _) (c : After-dues_of-dues g) (hs : List Held) → decode c.args.ind
 owed g c = loads_owed c.args.index.now c.args.text.now _ _ _ _ (walked g c).loads _ _ _ c.dues_of-dues.ensures
     (λ k. search rules)
 
+border : (g : _) (c : After-dues_of-dues g)
+    → ((c.unwrap-seen.result.fill.count ≤ length c.survey.new.table.rows) × (c.unwrap-seen.result.fill.used ≤ text_max))
+    × (c.unwrap-seen.result.fill.used ≡ row_lengths c.survey.new.table.rows c.unwrap-seen.result.fill.count)
+border g c = loads_border c.args.index.now c.args.text.now _ _ _ _ (walked g c).loads c.requires.text_value
+
+pub border_of-requires-clause-within : goal.border_of-requires-clause-within
+border_of-requires-clause-within g c = (border g (goal.at.border_of-requires-clause-within g c).After-dues_of-dues).0
+
+pub border_of-requires-clause-is : goal.border_of-requires-clause-is
+border_of-requires-clause-is g c = (border g (goal.at.border_of-requires-clause-is g c).After-dues_of-dues).1
+
 pub take_lines-part-requires : goal.take_lines-part-requires
 take_lines-part-requires g c =
     let from = (goal.at.take_lines-part-requires g c).After-dues_of-dues in
@@ -58,7 +70,7 @@ take_lines-part-requires g c =
       search rules,
       (
         c.requires.from_in_bounds,
-        loads_held _ _ _ _ _ _ _ _ _ _ (walked g from).loads (owed g from) c.requires.text_value,
+        loads_held _ _ _ _ _ _ _ _ _ _ (walked g from).loads _ c.border_of.ensures (owed g from) c.requires.text_value,
       ),
     )
 
@@ -67,7 +79,7 @@ settle-requires g c =
     let from = (goal.at.settle-requires g c).After-dues_of-dues in
     record {
       extends = loads_extend _ _ _ _ _ _ (walked g from).loads;
-      settles = batch_settles _ _ _ _ _ _ _ _ _ _ (walked g from).loads (owed g from) c.args.from _ _
+      settles = batch_settles _ _ _ _ _ _ _ _ _ _ (walked g from).loads _ c.border_of.ensures (owed g from) c.args.from _ _
           c.take_lines-part.ensures.takes_lines c.requires.text_value;
     }
 
@@ -76,7 +88,7 @@ returns g c =
     let from = (goal.at.returns g c).After-dues_of-dues in
     let long : length c.new-table.result.rows ≡ g.row.N = search rules in
     record {
-      batches = batch_end _ _ _ _ _ _ _ _ _ _ (walked g from).loads (owed g from) c.args.from _ _
+      batches = batch_end _ _ _ _ _ _ _ _ _ _ (walked g from).loads _ c.border_of.ensures (owed g from) c.args.from _ _
           c.take_lines-part.ensures.takes_lines _ _ c.settle.ensures;
       went = rw (c.survey.ensures.rows_kept ∙ long) at (went_from c.args.lines.now c.args.from _ _ _ (walked g from).most c.take_lines-part.ensures.went);
     }

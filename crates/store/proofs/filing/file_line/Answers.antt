@@ -8,8 +8,17 @@ use Rattle.store.specs.Decode.{decode}
 use Rattle.std.proofs.Common.{◌≡◌, rules}
 use Rattle.store.proofs.DecodeLaws.{lines_of_lem}
 use Rattle.store.proofs.LoadLaws.{loads_extend}
+use Rattle.store.proofs.StandingLaws.{loads_border}
 use Rattle.store.proofs.OneLaws.{one_files, one_full, one_settles, one_filed}
 use Rattle.store.proofs.filing.file_line.Goals as goal
+
+pub border_of-requires-clause-within : goal.border_of-requires-clause-within
+border_of-requires-clause-within g c =
+    (loads_border c.args.index.now c.args.text.now _ _ _ c.args.fill c.requires.loads.0 c.requires.text_value).0
+
+pub border_of-requires-clause-is : goal.border_of-requires-clause-is
+border_of-requires-clause-is g c =
+    (loads_border c.args.index.now c.args.text.now _ _ _ c.args.fill c.requires.loads.0 c.requires.text_value).1
 
 pub file_row-requires : goal.file_row-requires
 file_row-requires g c =
@@ -22,7 +31,7 @@ file_row-requires g c =
       (
         pre.loads.1,
         one_files args.dues args.index.now args.text.now args.line.now _ _ _ args.fill
-            pre.loads.0 args.key pre.in_bounds.0 pre.in_bounds.1 pre.text_value pre.some_dues,
+            pre.loads.0 _ c.border_of.ensures args.key pre.in_bounds.0 pre.in_bounds.1 pre.text_value pre.some_dues,
       ),
     )
 
@@ -33,8 +42,8 @@ settle-requires g c =
     let filed = c.file_row in record {
       extends = loads_extend args.index.now args.text.now _ _ _ args.fill pre.loads.0;
       settles = one_settles args.dues args.index.now args.text.now args.line.now _ _ _ args.fill
-          pre.loads.0 args.key pre.in_bounds.0 pre.in_bounds.1 _ _ _ filed.result filed.ensures.files
-          _ c.in_ok-filled.was
+          pre.loads.0 _ c.border_of.ensures args.key pre.in_bounds.0 pre.in_bounds.1 _ _ _ filed.result filed.ensures.files
+          _ c.in_ok-filed.was
           pre.text_value pre.some_dues;
     }
 
@@ -45,18 +54,18 @@ returns g c =
     let filed = c.file_row in
     let settled = c.settle in
     one_filed args.dues args.index.now args.text.now args.line.now _ _ _ args.fill
-    pre.loads.0 args.key pre.in_bounds.0 pre.in_bounds.1 _ _ _ filed.result filed.ensures.files
-    _ c.in_ok-filled.was _ _
+    pre.loads.0 _ c.border_of.ensures args.key pre.in_bounds.0 pre.in_bounds.1 _ _ _ filed.result filed.ensures.files
+    _ c.in_ok-filed.was _ _
     settled.ensures
 
-pub returns-in_err-filled : goal.returns-in_err-filled
-returns-in_err-filled g c =
+pub returns-in_err-filed : goal.returns-in_err-filed
+returns-in_err-filed g c =
     let args = c.args in
     let pre = c.requires in
     let filed = c.file_row in
-    let passed : c.from_residual.result ≡ Err c.in_err-filled.field-0.0 = search rules in
+    let passed : c.from_residual.result ≡ Err c.in_err-filed.field-0.0 = search rules in
     rw passed
     (one_full args.dues args.index.now args.text.now args.line.now _ _ _ args.fill
-    pre.loads.0 args.key pre.in_bounds.0 pre.in_bounds.1 _ _ _ filed.result filed.ensures.files _
-    c.in_err-filled.was
+    pre.loads.0 _ c.border_of.ensures args.key pre.in_bounds.0 pre.in_bounds.1 _ _ _ filed.result filed.ensures.files _
+    c.in_err-filed.was
     (λ k. search rules))

@@ -1,31 +1,15 @@
--- The kind says where the body starts.
-use mathlib.Core.Path.{ap, ◌∙◌}
-use native.Mathlib.Omega.{arith}
-use lib.ListN.{length, length-drop}
-use Rattle.text.proofs.ListLaws.{part_to_end}
-use Rattle.store.specs.Decode.{body_at}
-use Rattle.store.proofs.RecordLaws.{kind_size_lem}
-use Rattle.store.proofs.HeadLaws.{body_long, whole_is}
+-- The first byte tells whether the record is long.
+use mathlib.Core.Bool.{true, false}
+use Rattle.store.proofs.HeadLaws.{kind_short, kind_long}
+use Rattle.store.proofs.records.whole_head.Goals.{then-index-eq1-via-then-index-eq1}
+use Rattle.store.proofs.records.whole_head.Goals.{then-index-eq1-via-else-index-eq1+then-index-eq3}
 use Rattle.store.proofs.records.whole_head.Goals as goal
 
-pub read_body-body-requires : goal.read_body-body-requires
-read_body-body-requires c =
-    let owner = c.owner_in-owner in
-    let start = c.body_start-start in
-    omega (
-      arith,
-      start.ensures,
-      body_long c.args.index.now c.requires owner.result owner.ensures,
-      kind_size_lem owner.result,
-      ap length (part_to_end c.args.index.now start.result),
-      length-drop start.result c.args.index.now,
-    )
+pub head_in-requires : goal.head_in-requires
+head_in-requires c = elim c.then-index-eq1.branch [
+  | then-index-eq1-via-then-index-eq1 w ↦ kind_short c.args.index.now c.requires false w.if-index-eq1.true
+  | then-index-eq1-via-else-index-eq1+then-index-eq3 w ↦ kind_short c.args.index.now c.requires true w.if-index-eq3.true
+]
 
-pub returns : goal.returns
-returns c =
-    let owner = c.owner_in-owner in
-    let start = c.body_start-start in
-    let body = c.read_body-body in
-    c.head_with.ensures
-    ∙ whole_is c.args.index.now c.requires owner.result start.result owner.ensures start.ensures body.result
-    (body.ensures ∙ ap body_at (part_to_end c.args.index.now start.result))
+pub head_in-requires-2 : goal.head_in-requires-2
+head_in-requires-2 c = kind_long c.args.index.now c.requires c.if-index-eq1.false c.if-index-eq3.false

@@ -1,11 +1,15 @@
--- Kind, owner and two bytes stored one after the other.
+-- Kind, owner and the bytes of the share stored one after the other.
 use mathlib.Core.Path.{◌∙◌}
-use native.Mathlib.Omega.{arith}
-use Rattle.store.proofs.ShareBufferLaws.{share_put}
+use Rattle.store.proofs.ShareBufferLaws.{put_short, put_long}
 use Rattle.store.proofs.shares.put_share.Goals as goal
 
-pub returns : goal.returns
-returns c =
+pub returns-then-share-le-SHORT_MAX : goal.returns-then-share-le-SHORT_MAX
+returns-then-share-le-SHORT_MAX c =
+    let args = c.args in
     c.put_word.ensures
-    ∙ share_put c.args.part.now c.args.owner c.args.share c.requires.0
-    (λ z. omega (arith, z, c.requires.1.0))
+    ∙ put_short args.owner args.share args.part.now c.if-share-eq0.false c.if-share-le-SHORT_MAX.true c.requires
+
+pub returns-else-share-le-SHORT_MAX : goal.returns-else-share-le-SHORT_MAX
+returns-else-share-le-SHORT_MAX c =
+    let args = c.args in
+    c.put_u32.ensures ∙ put_long args.owner args.share args.part.now c.if-share-le-SHORT_MAX.false c.requires

@@ -1,5 +1,6 @@
 use mathlib.Core.Path.{sym, ◌∙◌}
 use native.Mathlib.Omega.{arith}
+use borrow.Author.Rules.{rules}
 use Rattle.store.proofs.ShareBufferLaws.{reading_within, reading_turn}
 use Rattle.store.proofs.ShareBufferLaws.{reading_all, reading_stop}
 use Rattle.store.proofs.shares.read_shares.Goals as goal
@@ -8,18 +9,18 @@ pub overflow_add-at : goal.overflow_add-at
 overflow_add-at c =
     omega (
       arith,
-      reading_within c.loop-owner.invariant c.loop-owner-test.true (sym c.kind_four.ensures ∙ c.if-not-kind_four.false)
-          c.front_share-share.ensures.0 c.share_size-at.ensures,
+      reading_within c.loop-owner.invariant (λ k. search rules) c.loop-owner-test.true c.front_share-share.ensures
+          c.share_size-at.ensures,
     )
 
 pub loop-owner-preserved : goal.loop-owner-preserved
 loop-owner-preserved c =
-    reading_turn c.loop-owner.invariant c.loop-owner-test.true (sym c.kind_four.ensures ∙ c.if-not-kind_four.false)
-    c.front_share-share.ensures.0 c.share_size-at.ensures
+    reading_turn c.loop-owner.invariant (λ k. search rules) c.loop-owner-test.true c.front_share-share.ensures
+    c.share_size-at.ensures
 
-pub returns-then-not-kind_four : goal.returns-then-not-kind_four
-returns-then-not-kind_four c =
-    reading_stop c.loop-owner.invariant (sym c.kind_four.ensures ∙ c.if-not-kind_four.true)
+pub returns-then-not-starts_share : goal.returns-then-not-starts_share
+returns-then-not-starts_share c =
+    reading_stop c.loop-owner.invariant (sym c.starts_share.ensures ∙ c.if-not-starts_share.true)
 
 pub returns : goal.returns
 returns c = reading_all c.loop-owner.invariant c.loop-owner-test.false

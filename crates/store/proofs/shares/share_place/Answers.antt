@@ -4,7 +4,8 @@ use native.Mathlib.Omega.{arith}
 use lib.ListN.{length, take, get_or}
 use lib.Seq.{get_or-take, length-take-le}
 use Rattle.store.specs.Shares.{share_size, share_sizes}
-use Rattle.store.proofs.ShareBufferLaws.{size_most, place-turn, place_most}
+use Rattle.store.proofs.ShareBufferLaws.{place-turn, place_most}
+use Rattle.store.proofs.ShareRecordLaws.{size_most}
 use Rattle.store.proofs.shares.share_place.Goals as goal
 
 pub loop-share-init : goal.loop-share-init

@@ -4,7 +4,7 @@ use native.Mathlib.Omega.{arith}
 use borrow.Author.Rules.{rules}
 use Rattle.std.proofs.lemmas.Result.{err_from_is_err_and}
 use Rattle.store.proofs.ShareCallLaws.{share_unsound, set_large}
-use Rattle.store.proofs.ShareCallLaws.{Setting, set_addable, set_two, end_most, end_less}
+use Rattle.store.proofs.ShareCallLaws.{Setting, set_addable, set_four, end_most, end_less}
 use Rattle.store.proofs.ShareCallLaws.{set_refused, set_writes, set-done}
 use Rattle.store.proofs.SurveyLaws.{stock_refused}
 use Rattle.store.proofs.sharing.set_in.Goals.{Else-room-bytes}
@@ -31,8 +31,8 @@ returns-then-room-bytes g c =
     set_large (λ k. search rules) (rw c.in_ok-stock.ensures.ok_part at c.take_stock.ensures)
     c.args.owner c.args.bytes (omega (arith, c.ranges)) c.if-room-bytes.true
 
-pub overflow_cast-ledger : goal.overflow_cast-ledger
-overflow_cast-ledger g c = omega (arith, set_two (setting g (goal.at.overflow_cast-ledger g c).Else-room-bytes))
+pub overflow_cast-share : goal.overflow_cast-share
+overflow_cast-share g c = omega (arith, set_four (setting g (goal.at.overflow_cast-share g c).Else-room-bytes))
 
 pub overflow_add-end : goal.overflow_add-end
 overflow_add-end g c = omega (arith, end_most (setting g (goal.at.overflow_add-end g c).Else-room-bytes) refl refl)

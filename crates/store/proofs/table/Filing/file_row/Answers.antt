@@ -1,21 +1,20 @@
 -- The exits by the laws of filing a row, of a line that is put down: `placed`.
 use mathlib.Core.List.{List}
-use mathlib.Core.Path.{◌≡◌, ap, ◌∙◌}
+use mathlib.Core.Path.{◌≡◌, sym, ap, ◌∙◌}
 use Prim.Native.Nat.{ℕ}
 use native.Mathlib.Omega.{arith}
 use lib.ListN.{length}
 use Rattle.store.specs.Held.{Held}
 use Rattle.store.specs.Table.{Files'}
-use Rattle.store.proofs.FileRowLaws.{Placed, had_less, used_most, dues_less, files_index, files_text, files_fit}
-use Rattle.store.proofs.StruckLaws.{struck_long}
-use Rattle.store.proofs.WriteLaws.{put_long}
-use Rattle.store.proofs.table.Filing.file_row.Goals.{After-len_before-had}
+use Rattle.store.proofs.FileRowLaws.{Placed, replaces, can_weigh, files_full, files_fit}
+use Rattle.store.proofs.WriteLaws.{put_long, put_before_long}
+use Rattle.store.proofs.table.Filing.file_row.Goals.{After-len_before-had, After-put_len_before}
 use Rattle.store.proofs.table.Filing.file_row.Goals as goal
 
 module _ {g s : List ℕ} {old : ℕ} {hs : List Held} where
   placed : (v : _) (c : After-len_before-had v)
       → (w : Files' g c.args.self.now.dues c.args.self.now.index.now c.args.self.now.text.now s c.args.table.now.rows
-      c.args.table.now.heads c.args.table.now.next old c.args.fill
+      c.args.table.now.heads c.args.table.now.next old c.args.standing
       (record { owner = c.args.self.now.owner; uuid = c.args.uuid }) c.args.start c.args.len hs)
       → Placed w c.requires.count_lt_rows c.add_row-r.new.self.rows c.add_row-r.result c.len_before-had.result
   placed v c w = record {
@@ -25,65 +24,44 @@ module _ {g s : List ℕ} {old : ℕ} {hs : List Held} where
     taken = c.len_before-had.ensures;
   }
 
--- a line that is put down takes a row that is there
-kept : (g : _) (c : After-len_before-had g) → length c.add_row-r.new.self.rows ≡ length c.args.table.now.rows
-kept g c = ap length c.add_row-r.ensures.rows_after
-    ∙ put_long c.args.table.now.rows c.args.fill.count (record { owner = c.args.self.now.owner; uuid = c.args.uuid })
-    c.args.start c.args.len
+-- a line that is put down takes a row that is there, and a length that is written leaves all rows
+kept : (g : _) (c : After-put_len_before g) → length c.put_len_before.new.rows ≡ length c.args.table.now.rows
+kept g c =
+    ap length c.put_len_before.ensures
+    ∙ put_before_long c.add_row-r.new.self.rows c.add_row-r.result 0
+    ∙ ap length c.add_row-r.ensures.rows_after
+    ∙ put_long c.args.table.now.rows c.args.standing.fill.count
+    (record { owner = c.args.self.now.owner; uuid = c.args.uuid }) c.args.start c.args.len
 
 pub len_before-had-requires : goal.len_before-had-requires
 len_before-had-requires g c = omega (arith, c.add_row-r.ensures.sought.1 (omega arith))
 
-pub overflow_sub-used : goal.overflow_sub-used
-overflow_sub-used g c =
-    had_less _ _ (placed g (goal.at.overflow_sub-used g c).After-len_before-had c.requires.fileable.2.1.1)
+pub with_row-filed-requires : goal.with_row-filed-requires
+with_row-filed-requires g c = (
+  c.add_row-r.new.self.rows,
+  replaces _ _ (placed g (goal.at.with_row-filed-requires g c).After-len_before-had c.requires.fileable.2.1.1)
+      c.put_len_before.ensures,
+)
 
-pub overflow_add-used : goal.overflow_add-used
-overflow_add-used g c =
-    omega (
-      arith,
-      used_most _ _ (placed g (goal.at.overflow_add-used g c).After-len_before-had c.requires.fileable.2.1.1),
-    )
+pub room-requires : goal.room-requires
+room-requires g c =
+    can_weigh _ _ (placed g (goal.at.room-requires g c).After-len_before-had c.requires.fileable.2.1.1)
+    c.put_len_before.ensures c.with_row-filed.ensures
 
-pub returns-then-self-end : goal.returns-then-self-end
-returns-then-self-end g c =
-    let from = (goal.at.returns-then-self-end g c).After-len_before-had in
-    record {
-      files = λ h s old hs w.
-          files_index w _ (placed g from w) c.end_with-end.ensures c.if-self-end.true;
-      rows_kept = kept g from;
-    }
-
-pub claimed-requires : goal.claimed-requires
-claimed-requires g c =
-    let w = c.requires.fileable.2.1.1 in
-    let z = placed g (goal.at.claimed-requires g c).After-len_before-had w in
-    record {
-      theirs_le_used = (dues_less _ _ z, used_most _ _ z);
-      others_bound = (w.owed.others_most, w.owed.share_most);
-    }
-
-pub returns-then-self-claimed : goal.returns-then-self-claimed
-returns-then-self-claimed g c =
-    let from = (goal.at.returns-then-self-claimed g c).After-len_before-had in
-    record {
-      files = λ h s old hs w.
-          files_text w _ (placed g from w) c.end_with-end.ensures
-          (omega (arith, c.if-self-end.false)) c.claimed.ensures c.if-self-claimed.true;
-      rows_kept = kept g from;
-    }
-
-pub strike_before-requires : goal.strike_before-requires
-strike_before-requires g c = omega (arith, c.add_row-r.ensures.sought.1 (omega arith))
+pub returns-in-Err : goal.returns-in-Err
+returns-in-Err g c = record {
+  files = λ h s old hs w.
+      files_full w _ (placed g (goal.at.returns-in-Err g c).After-len_before-had w) c.put_len_before.ensures
+      c.with_row-filed.ensures c.put_len_before-in-Err.ensures c.in-Err.full (sym c.room.ensures ∙ c.in-Err.is);
+  rows_kept = ap length c.put_len_before-in-Err.ensures
+      ∙ put_before_long c.put_len_before.new.rows c.add_row-r.result c.len_before-had.result
+      ∙ kept g (goal.at.returns-in-Err g c).After-put_len_before;
+}
 
 pub returns : goal.returns
-returns g c =
-    let from = (goal.at.returns g c).After-len_before-had in
-    record {
-      files = λ h s old hs w.
-          files_fit w _ (placed g from w) c.end_with-end.ensures
-          (omega (arith, c.if-self-end.false)) c.claimed.ensures (omega (arith, c.if-self-claimed.false))
-          c.add_row-r.ensures.chained_2 c.strike_before.ensures;
-      rows_kept = ap length c.strike_before.ensures ∙ struck_long c.add_row-r.new.self.rows c.add_row-r.result
-          ∙ kept g from;
-    }
+returns g c = record {
+  files = λ h s old hs w.
+      files_fit w _ (placed g (goal.at.returns g c).After-len_before-had w) c.put_len_before.ensures
+      c.with_row-filed.ensures c.add_row-r.ensures.chained_2 (sym c.room.ensures ∙ c.in_default.is);
+  rows_kept = kept g (goal.at.returns g c).After-put_len_before;
+}

@@ -26,7 +26,7 @@ pub file_row-requires : goal.file_row-requires
 file_row-requires g c =
     let w = c.requires.some_rows in
     let long : length c.args.table.now.heads ≡ g.row.N = search rules in
-    let most : g.row.N ≤ 65535 = omega (arith, w.1.1.1.1.chained.most, long) in (
+    let most : g.row.N ≤ 65535 = omega (arith, w.1.1.1.1.in_rows.chained.most, long) in (
       search rules,
       (
         c.requires.count_lt_rows.0,
@@ -45,18 +45,18 @@ file_row-requires g c =
       ),
     )
 
-pub returns-in_err-filled : goal.returns-in_err-filled
-returns-in_err-filled g c =
+pub returns-in_err-filed : goal.returns-in_err-filed
+returns-in_err-filed g c =
     let p = err_from_is_err_and c.from_residual.result c.from_residual.ensures.1 in
     record {
       reaches = rw (p.1, p.2) (slot_full _ _ _ _ _ _ _ _ _ c.args.at c.args.len c.requires.count_lt_rows.1 _
-          c.wanted.ensures c.in-Some.is c.if-len-gt-LINE_MAX.false _ _ _ _ c.in_err-filled.ensures.files _ refl);
+          c.wanted.ensures c.in-Some.is c.if-len-gt-LINE_MAX.false _ _ _ _ c.in_err-filed.ensures.files _ refl);
       rows_kept = c.file_row.ensures.rows_kept;
     }
 
 pub returns : goal.returns
 returns g c = record {
   reaches = slot_filed _ _ _ _ _ _ _ _ _ c.args.at c.args.len c.requires.count_lt_rows.1 _ c.wanted.ensures
-      c.in-Some.is c.if-len-gt-LINE_MAX.false _ _ _ _ c.in_ok-filled.ensures.files _ refl;
+      c.in-Some.is c.if-len-gt-LINE_MAX.false _ _ _ _ c.in_ok-filed.ensures.files _ refl;
   rows_kept = c.file_row.ensures.rows_kept;
 }

@@ -13,11 +13,11 @@ pub reach_row-requires : goal.reach_row-requires
 reach_row-requires g c =
     let some = taken c.loop-at.invariant.0 c.requires.some_rows in
     let long : length c.args.table.now.heads ≡ g.row.N = search rules in
-    let most : g.row.N ≤ 65535 = omega (arith, c.requires.some_rows.1.1.1.1.chained.most, long) in (
+    let most : g.row.N ≤ 65535 = omega (arith, c.requires.some_rows.1.1.1.1.in_rows.chained.most, long) in (
       search rules,
       (
         (
-          omega (arith, c.if-fill.true, c.loop-at.invariant.1),
+          omega (arith, c.if-standing.true, c.loop-at.invariant.1),
           omega (arith, tail_length c.loop-at.at c.args.self.now.lines.now, c.line_length-len.ensures.0),
         ),
         some,
@@ -52,11 +52,11 @@ returns-after-loop-at g c =
     let r = take_on c.loop-at.invariant.0 (λ p q. omega (arith, c.loop-at-test.false)) in
     record { takes_lines = r.0; went = r.1 }
 
-pub returns-else-fill : goal.returns-else-fill
-returns-else-fill g c =
+pub returns-else-standing : goal.returns-else-standing
+returns-else-standing g c =
     let long : length c.args.table.now.rows ≡ g.row.N = search rules in
     let r = take_on c.loop-at.invariant.0
     (λ p q. ⊎_elim
-    (λ e. absurd (omega (arith, p, long, c.loop-at.invariant.0.still (sym e), c.if-fill.false))) (λ l. l)
+    (λ e. absurd (omega (arith, p, long, c.loop-at.invariant.0.still (sym e), c.if-standing.false))) (λ l. l)
     (eq-or-lt_of_le (first_at_lem c.loop-at.invariant.0))) in
     record { takes_lines = r.0; went = r.1 }
