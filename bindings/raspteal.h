@@ -336,6 +336,27 @@ typedef struct {
     size_t used;
 } raspteal_share;
 
+/* A record of an index, if one stands there: of the share of the party with that owner byte, 0 being the hall; or of a
+ * line that is held under owner and id and is the len bytes at offset of the text. What the other kind has is 0. The
+ * record has size bytes. */
+typedef struct {
+    bool found;
+    bool is_share;
+    uint8_t owner;
+    raspteal_uuid id;
+    size_t offset;
+    size_t len;
+    size_t share;
+    size_t size;
+} raspteal_record;
+
+/* A line of a text, if one follows: its bytes, without LF and CR, and the place of the next line. */
+typedef struct {
+    bool found;
+    size_t len;
+    size_t next;
+} raspteal_cut;
+
 /* ---- Text ------------------------------------------------------------------------------------------------------ */
 
 /* Whether two byte strings are the same. */
@@ -527,6 +548,15 @@ raspteal_refusal raspteal_store_set_share(uint8_t *index, size_t index_len, cons
 /* The share and the use of the party with that owner byte. Refusal: 19. */
 raspteal_share raspteal_store_share(const uint8_t *index, size_t index_len, const uint8_t *text, size_t text_len,
                                     uint8_t owner);
+
+/* The record that stands at place `at` of an index; found is false where no whole one does. A walk goes on at
+ * at + size. From place 0 on it meets the shares of a sound store, by owner, and then its lines in list order, each of
+ * which lies where its record says. Whether a store is sound the calls that answer 19 tell. */
+raspteal_record raspteal_store_record_at(const uint8_t *index, size_t index_len, size_t at);
+
+/* The line of a text that starts at place `at`, as an insert cuts it: up to the next LF, and without a CR before that;
+ * found is false from the text's end on. A walk goes on at next. */
+raspteal_cut raspteal_next_line(const uint8_t *lines, size_t lines_len, size_t at);
 
 /* Whether the party holds a line under a UUID. Refusals: 24, 19. */
 raspteal_look raspteal_store_found(const uint8_t *index, size_t index_len, const uint8_t *text, size_t text_len,

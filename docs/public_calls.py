@@ -46,7 +46,7 @@ CROSSES_AS = {
 WITHIN = {"find_byte", "fits", "first_token"}
 
 # Calls whose C function has another name.
-NAMED = {"event": "raspteal_mapping_event", "share_of": "raspteal_store_share"}
+NAMED = {"event": "raspteal_mapping_event", "share_of": "raspteal_store_share", "next_line": "raspteal_next_line"}
 
 # The definitions that give an answer its number.
 REFUSING = re.compile(r"^(kind_number|\w+_refusal) :")

@@ -101,7 +101,8 @@ static raspteal_element element;
     X(pads_new, ())                                                                                                    \
     X(pads_raw_event, (raspteal_pads_new(), true, 5, 2, 5))                                                            \
     X(pads_change_map, (raspteal_pads_new(), true, map))                                                               \
-    X(pads_value, (raspteal_pads_new(), element))
+    X(pads_value, (raspteal_pads_new(), element))                                                                      \
+    X(next_line, (LINE, 0))
 
 #define STORE_CALLS                                                                                                    \
     X(store_insert, (STORE, party, (const uint8_t *)list, strlen(list)))                                               \
@@ -112,6 +113,7 @@ static raspteal_element element;
     X(store_save, (STORE, party, data, CODES, CODES, NAME, pad))                                                       \
     X(store_set_share, (STORE, 7, 9))                                                                                  \
     X(store_share, (STORE, 7))                                                                                         \
+    X(store_record_at, (index_, index_len, 0))                                                                         \
     X(store_clear, (STORE))
 
 #define X(name, arguments) static void run_##name(void) { (void)raspteal_##name arguments; }

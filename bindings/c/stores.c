@@ -151,8 +151,49 @@ static void near_stores(void) {
     CHECK(raspteal_store_get_near(STORE, HALL, pad, BUFFER(out)).next == 0);
 }
 
+/* A walk over the records meets the shares by owner, then the lines in list order; damage ends it. */
+static void walk(void) {
+    uint8_t index[70] = {0}, text[70000] = {0};
+    const raspteal_party seven = {true, 7};
+    CHECK(!raspteal_store_record_at(BUFFER(index), 0).found && !raspteal_store_record_at(index, 0, 0).found);
+    CHECK(raspteal_store_set_share(STORE, 9, 65536).number == 0 && raspteal_store_set_share(STORE, 0, 3).number == 0);
+    CHECK(raspteal_store_insert(STORE, seven, TEXT(U ",T\n")).refusal.number == 0);
+    CHECK(raspteal_store_insert(STORE, HALL, TEXT("00000000000000000000000000000001,Pad\n")).refusal.number == 0);
+    raspteal_record r = raspteal_store_record_at(BUFFER(index), 0);
+    CHECK(r.found && r.is_share && r.owner == 0 && r.share == 3 && r.size == 4 && r.len == 0);
+    r = raspteal_store_record_at(BUFFER(index), 4);
+    CHECK(r.found && r.is_share && r.owner == 9 && r.share == 65536 && r.size == 6 && r.offset == 0);
+    r = raspteal_store_record_at(BUFFER(index), 10);
+    CHECK(r.found && !r.is_share && r.owner == 7 && r.id.low == 0 && r.offset == 0 && r.len == 34 && r.size == 22);
+    r = raspteal_store_record_at(BUFFER(index), 32);
+    CHECK(r.found && !r.is_share && r.owner == 0 && r.id.low == 1 && r.offset == 34 && r.len == 36 && r.size == 21);
+    CHECK(memcmp(text + r.offset, "00000000000000000000000000000001,Pad", r.len) == 0);
+    r = raspteal_store_record_at(BUFFER(index), 53);
+    CHECK(!r.found && r.size == 0 && r.owner == 0 && !raspteal_store_record_at(BUFFER(index), SIZE_MAX).found);
+    CHECK(!raspteal_store_record_at(index, 52, 32).found && !raspteal_store_record_at(index, 9, 4).found);
+    static const uint8_t none[] = {4, 3, 0, 0}, small[] = {6, 3, 0, 0, 255, 255};
+    static const uint8_t most[] = {0, 6, 3, 255, 255, 255, 255};
+    CHECK(!raspteal_store_record_at(BUFFER(none), 0).found && !raspteal_store_record_at(BUFFER(small), 0).found);
+    CHECK(raspteal_store_record_at(BUFFER(most), 1).share == 4294967295);
+}
+
+static void cuts(void) {
+    static const char lines[] = "a\r\n\nb\r";
+    raspteal_cut c = raspteal_next_line(TEXT(lines), 0);
+    CHECK(c.found && c.len == 1 && c.next == 3);
+    c = raspteal_next_line(TEXT(lines), 3);
+    CHECK(c.found && c.len == 0 && c.next == 4);
+    c = raspteal_next_line(TEXT(lines), 4);
+    CHECK(c.found && c.len == 2 && c.next == 6);
+    c = raspteal_next_line(TEXT(lines), 6);
+    CHECK(!c.found && c.len == 0 && c.next == 0 && !raspteal_next_line(TEXT(lines), SIZE_MAX).found);
+    CHECK(!raspteal_next_line(TEXT(""), 0).found && raspteal_next_line(TEXT("a\n"), 0).next == 2);
+}
+
 int main(void) {
     stores();
+    walk();
+    cuts();
     near_stores();
     parties();
     shares();

@@ -41,6 +41,8 @@ static void layout(void) {
     CHECK(offsetof(raspteal_inserted, count) == 24);
     CHECK(offsetof(raspteal_look, found) == 24);
     CHECK(sizeof(raspteal_share) == 40 && offsetof(raspteal_share, used) == 32);
+    CHECK(sizeof(raspteal_record) == 56 && offsetof(raspteal_record, id) == 8 && offsetof(raspteal_record, size) == 48);
+    CHECK(sizeof(raspteal_cut) == 24 && offsetof(raspteal_cut, next) == 16);
 }
 
 /* The names of numbers against the calls, and the words of refusals. */

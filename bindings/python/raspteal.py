@@ -97,6 +97,9 @@ built = struct("built", ("refusal", refusal), ("map", mapping), ("len", c_size_t
 inserted = struct("inserted", ("refusal", refusal), ("count", c_size_t), ("not_simple", c_size_t))
 look = struct("look", ("refusal", refusal), ("found", c_bool))
 near_look = struct("near_look", ("refusal", refusal), ("how", c_uint8))
+record = struct("record", ("found", c_bool), ("is_share", c_bool), ("owner", c_uint8), ("id", uuid), ("offset", c_size_t),
+                ("len", c_size_t), ("share", c_size_t), ("size", c_size_t))
+cut = struct("cut", ("found", c_bool), ("len", c_size_t), ("next", c_size_t))
 share = struct("share", ("refusal", refusal), ("share", c_size_t), ("used", c_size_t))
 pair = struct("pair", ("from", c_uint16), ("direction", c_uint16), ("to", element), ("input", c_uint8),
               ("output", c_uint8), ("inverted", c_bool))
@@ -130,6 +133,8 @@ CALLS = {
     "store_save": (answer, [*STORE, party, data, *LISTS, *BYTES, uuid]),
     "store_set_share": (refusal, [*STORE, c_uint8, c_size_t]),
     "store_share": (share, [*STORE, c_uint8]),
+    "store_record_at": (record, [*BYTES, c_size_t]),
+    "next_line": (cut, [*BYTES, c_size_t]),
     "store_found": (look, [*STORE, party, uuid]),
     "store_get": (written, [*STORE, party, uuid, *BYTES]),
     "store_found_near": (near_look, [*STORE, party, uuid]),
@@ -245,6 +250,7 @@ def accepted(r, count=None):
 
 Inserted = namedtuple("Inserted", "count not_simple")
 Share = namedtuple("Share", "share used")
+Held = namedtuple("Held", "party pad line")
 
 FORMS = ["none", "simple", "hyphenated", "braced", "urn", "xinput"]
 
@@ -477,6 +483,23 @@ def build(bound, buttons, axes, name, pad):
     return bytes(out[: b.len]), Mapping(b.map)
 
 
+def lines_of(text):
+    """The lines of a text, as bytes, as an insert cuts them: at LF, without a CR before it."""
+    (held, size), at = lent(text), 0
+    while (line := call("next_line", held, size, at)).found:
+        yield bytes(held[at : at + line.len])
+        at = line.next
+
+
+def held_in(index, size, text):
+    """The lines of a sound store, by its records."""
+    at = 0
+    while (r := call("store_record_at", index, size, at)).found:
+        if not r.is_share:
+            yield Held(r.owner or None, Uuid._make((r.id.high, r.id.low)), text[r.offset : r.offset + r.len])
+        at += r.size
+
+
 class Store:
     """The lines held under their UUIDs, in an index and a text. Store() is fresh and has 65535 bytes each, Store.large()
     is as large as can be: 1048576 and 16777216. Store(data) holds the bytes of a hub's store file: those of the large
@@ -552,6 +575,13 @@ class Store:
         told = self.call("store_share", owner_byte(party))
         accepted(told.refusal)
         return Share(told.share, told.used)
+
+    def lines(self):
+        """The lines that all parties hold, each with its party and its UUID, in list order: the one filed last comes
+        last. They are those that the store holds at the call."""
+        self.share()
+        index, text = self.halves
+        return held_in(*lent(index), text)
 
     def found(self, pad, party=None):
         """Whether a line is held under the UUID."""

@@ -156,6 +156,24 @@ class Cases(unittest.TestCase):
         self.refused(19, Store(b"\4\3\0\0" + bytes(62)).share)
         self.refused(19, Store(b"\4\3\0\0" + bytes(62)).set_share, 3, 1)
 
+    def test_lines(self):
+        store = Store(bytes(2 * 200))
+        self.assertEqual(list(store.lines()), [])
+        store.set_share(7, 5)
+        store.insert(f"{ONE},League's", 7)
+        store.insert(f"{ONE},Hall's\n{U},T")
+        store.insert(f"{ONE},Hall's")
+        held = [(None, Uuid(U), f"{U},T".encode()), (None, ONE, f"{ONE},Hall's".encode())]
+        walk = store.lines()
+        self.assertEqual(list(walk), [(7, ONE, f"{ONE},League's".encode()), *held])
+        self.assertEqual(list(walk), [])
+        self.assertEqual(list(store.grown().lines())[1:], held)
+        self.refused(19, Store(b"\x09" + bytes(99)).lines)
+
+    def test_cut_lines(self):
+        self.assertEqual(list(raspteal.lines_of("a\r\n\nb\r")), [b"a", b"", b"b\r"])
+        self.assertEqual((list(raspteal.lines_of("")), list(raspteal.lines_of(b"\n"))), ([], [b""]))
+
     def test_refused_stores(self):
         store = Store(b"\x09" + bytes(99))
         before = bytes(store)

@@ -307,6 +307,27 @@ pub struct Share {
     pub used: usize,
 }
 
+#[repr(C)]
+#[derive(Clone, Copy, Debug, PartialEq, Eq)]
+pub struct Record {
+    pub found: bool,
+    pub is_share: bool,
+    pub owner: u8,
+    pub id: Uuid,
+    pub offset: usize,
+    pub len: usize,
+    pub share: usize,
+    pub size: usize,
+}
+
+#[repr(C)]
+#[derive(Clone, Copy, Debug, PartialEq, Eq)]
+pub struct Cut {
+    pub found: bool,
+    pub len: usize,
+    pub next: usize,
+}
+
 extern "C" {
     pub fn raspteal_same_bytes(a: *const u8, a_len: usize, b: *const u8, b_len: usize) -> bool;
     pub fn raspteal_write_bytes(out: *mut u8, out_len: usize, at: usize, v: *const u8, v_len: usize) -> Written;
@@ -421,6 +442,8 @@ extern "C" {
         text_len: usize,
         owner: u8,
     ) -> Share;
+    pub fn raspteal_store_record_at(index: *const u8, index_len: usize, at: usize) -> Record;
+    pub fn raspteal_next_line(lines: *const u8, lines_len: usize, at: usize) -> Cut;
     pub fn raspteal_store_found(
         index: *const u8,
         index_len: usize,

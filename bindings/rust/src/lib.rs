@@ -43,6 +43,7 @@ mod stack;
 mod store;
 pub mod text;
 mod uuid;
+mod walk;
 
 pub use data::{Built, MappingData};
 pub use element::{Axis, AxisOrBtn, Button, Code};
@@ -54,6 +55,7 @@ pub use parser::{count_tokens, first_form, AxisRange, Parser, Token};
 pub use party::{By, Party};
 pub use store::{Inserted, Match, Share, Store};
 pub use uuid::{Form, Uuid};
+pub use walk::{HeldLine, HeldLines};
 
 /// The codes that a map may have.
 pub const CODES_MAX: usize = ffi::CODES_MAX;

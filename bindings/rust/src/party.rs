@@ -13,6 +13,16 @@ pub enum Party {
     Organiser(u8),
 }
 
+impl Party {
+    /// The party with an owner byte, 0 being the hall.
+    pub(crate) fn of_owner(owner: u8) -> Party {
+        match owner {
+            0 => Party::Hall,
+            _ => Party::Organiser(owner),
+        }
+    }
+}
+
 impl From<Party> for ffi::Party {
     fn from(party: Party) -> ffi::Party {
         match party {

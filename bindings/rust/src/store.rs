@@ -2,7 +2,7 @@
 use crate::error::{Error, InsertError};
 use crate::ffi::safe;
 use crate::stack::on_stack_for;
-use crate::{By, Code, Mapping, MappingData, Party, Uuid, INDEX_MAX, SMALL_MAX, TEXT_MAX};
+use crate::{By, Code, HeldLines, Mapping, MappingData, Party, Uuid, INDEX_MAX, SMALL_MAX, TEXT_MAX};
 
 /// The lines held under their UUIDs, in two buffers: an index of at most 1048576 bytes and a text of at most 16777216.
 /// A line takes 21 bytes of the index, an organiser's 22, and 2 more where it lies beyond the first 65535 bytes of the
@@ -140,6 +140,23 @@ impl<B: AsRef<[u8]>> Store<B> {
         let told = on_stack_for(index.len(), || safe::store_share(index, text, owner));
         Error::check(told.refusal)?;
         Ok(Share { share: told.share, used: told.used })
+    }
+
+    /// The lines that all parties hold, in list order: the one filed last comes last. Refusal: 19.
+    ///
+    /// ```
+    /// use raspteal::{Party, Store};
+    ///
+    /// let mut store = Store::new(100, 100);
+    /// store.by(Party::Organiser(7)).insert("00000000000000000000000000000001,League's")?;
+    /// store.insert("00000000000000000000000000000001,Hall's")?;
+    /// let held: Vec<_> = store.lines()?.map(|held| (held.party, held.line)).collect();
+    /// assert_eq!(held[0], (Party::Organiser(7), &b"00000000000000000000000000000001,League's"[..]));
+    /// assert_eq!(held[1], (Party::Hall, &b"00000000000000000000000000000001,Hall's"[..]));
+    /// # Ok::<(), Box<dyn std::error::Error>>(())
+    /// ```
+    pub fn lines(&self) -> Result<HeldLines<'_>, Error> {
+        HeldLines::of(self.index(), self.text())
     }
 
     /// Whether a line is held under a UUID. Refusal: 19.

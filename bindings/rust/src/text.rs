@@ -73,3 +73,37 @@ pub fn write_index(out: &mut [u8], at: usize, n: usize) -> Option<usize> {
     let w = safe::write_index(out, at, n);
     w.fits.then_some(w.next)
 }
+
+/// The lines of a text as an insert cuts them: at each LF, without a CR before it. A final bare CR stays, and nothing
+/// after a final LF is no line.
+///
+/// ```
+/// let lines: Vec<_> = raspteal::text::lines(b"a\r\n\nb\r").collect();
+/// assert_eq!(lines, [&b"a"[..], b"", b"b\r"]);
+/// ```
+pub fn lines(text: &[u8]) -> Lines<'_> {
+    Lines { text, at: 0 }
+}
+
+/// The lines of a text, by [`lines`].
+#[derive(Clone, Debug)]
+pub struct Lines<'a> {
+    text: &'a [u8],
+    at: usize,
+}
+
+impl<'a> Iterator for Lines<'a> {
+    type Item = &'a [u8];
+
+    fn next(&mut self) -> Option<&'a [u8]> {
+        let cut = safe::next_line(self.text, self.at);
+        if !cut.found {
+            return None;
+        }
+        let line = &self.text[self.at..self.at + cut.len];
+        self.at = cut.next;
+        Some(line)
+    }
+}
+
+impl std::iter::FusedIterator for Lines<'_> {}

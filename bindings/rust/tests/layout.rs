@@ -41,6 +41,7 @@ fn rows() -> Vec<Row> {
     let look = safe::store_found(&[], &[], hall, ffi::Uuid { high: 0, low: 0 });
     let near = safe::store_found_near(&[], &[], hall, ffi::Uuid { high: 0, low: 0 });
     let share = safe::store_share(&[], &[], 0);
+    let (record, cut) = (safe::store_record_at(&[], 0), safe::next_line(b"", 0));
     let told = safe::pad_raw_event(safe::pad_new(), 0, 0, 0);
     let both = safe::pads_raw_event(safe::pads_new(), false, 0, 0, 0);
     vec![
@@ -81,6 +82,8 @@ fn rows() -> Vec<Row> {
         row!(Look, "raspteal_look", look, refusal, found),
         row!(NearLook, "raspteal_near_look", near, refusal, how),
         row!(Share, "raspteal_share", share, refusal, share, used),
+        row!(Record, "raspteal_record", record, found, is_share, owner, id, offset, len, share, size),
+        row!(Cut, "raspteal_cut", cut, found, len, next),
     ]
 }
 

@@ -6,22 +6,23 @@ mod figures;
 
 use figures::Figures;
 use line::reading::parse_sdl_mapping;
-use parts::cuts::before;
 use parts::numbers::{AXIS_CODES, BUTTON_CODES};
 use std::io::Read;
 use std::rt::Files;
 use std::{env, fs, io};
+use store::walk::next_line;
 
 // The most bytes of a list.
 const LIST_ROOM: usize = 262144;
 
-// Each line without its LF and one CR before that.
+// Each line as an insert cuts it.
 fn read_lines(list: &[u8]) -> Figures {
     let mut figures = Figures::default();
-    for ended in list.split_inclusive(|b| *b == b'\n') {
-        let line = before(ended, b'\n');
-        let bare = line.strip_suffix(b"\r").unwrap_or(line);
-        figures.add_line(&parse_sdl_mapping(bare, &BUTTON_CODES, &AXIS_CODES));
+    let mut at = 0;
+    while let Some(cut) = next_line(list, at) {
+        let line = &list[at..at + cut.len];
+        figures.add_line(&parse_sdl_mapping(line, &BUTTON_CODES, &AXIS_CODES));
+        at = cut.next;
     }
     figures
 }

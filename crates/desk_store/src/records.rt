@@ -8,10 +8,8 @@ use desk::files::{Size, StoreFile};
 use store::calls::get;
 use store::near::get_near;
 use store::parties::Party;
+use store::walk::{Record as Told, record_at};
 use text::uuid::Uuid;
-
-// The bytes of a record's UUID.
-const UUID_BYTES: usize = 16;
 
 // The last offset that has two bytes in a record, and the last share.
 const NEAR_MAX: usize = 65535;
@@ -46,6 +44,25 @@ impl<'a> View<'a> {
         Records { left: self }
     }
 
+    // The record of those bytes.
+    fn record(self, bytes: &'a [u8], told: Told) -> Record<'a> {
+        match told {
+            Told::Line(line) => Record {
+                bytes,
+                owner: line.key.owner,
+                entry: Entry::Line {
+                    id: line.key.uuid,
+                    line: part(self.text, line.off, line.len),
+                },
+            },
+            Told::Share(share) => Record {
+                bytes,
+                owner: share.owner,
+                entry: Entry::Share(share.share),
+            },
+        }
+    }
+
     // Whether a store is of the smaller size.
     pub fn can_grow(self) -> bool {
         self.index.len() < Size::Large.index()
@@ -74,10 +91,10 @@ impl<'a> View<'a> {
     }
 }
 
-// What a record is about: a line and the bytes of its UUID, or a party's share of the text.
+// What a record is about: a line and its UUID, or a party's share of the text.
 #[derive(Clone, Copy, PartialEq, Eq)]
 pub enum Entry<'a> {
-    Line { id: &'a [u8], line: &'a [u8] },
+    Line { id: Uuid, line: &'a [u8] },
     Share(usize),
 }
 
@@ -100,38 +117,17 @@ impl<'a> Record<'a> {
 
     // Whether it is about the line of that key.
     pub fn is_under(&self, key: LineKey) -> bool {
-        self.line().is_some_and(|line| self.owner == owner_of(key.party) && uuid_of(line) == key.id)
+        match self.entry {
+            Entry::Line { id, .. } => self.owner == owner_of(key.party) && id == key.id,
+            Entry::Share(_) => false,
+        }
     }
 }
 
-// What is left of a store: the records from a place on, and the text from their first line on.
+// The records of a store from a place on; the whole text stands beside them.
 #[derive(Drop)]
 pub struct Records<'a> {
     left: View<'a>,
-}
-
-// A number, its high byte first.
-fn number_of(bytes: &[u8]) -> usize {
-    bytes.iter().fold(0usize, |n, b| {
-        n.wrapping_mul(256).wrapping_add(usize::from(*b))
-    })
-}
-
-// The first bytes of a text, as far as there are any, and the others.
-fn cut(text: &[u8], len: usize) -> (&[u8], &[u8]) {
-    text.split_at(len.min(text.len()))
-}
-
-// What a line's record is about, by its bytes behind the owner, which begin with the UUID and end in the line's length;
-// and the text behind the line.
-fn line_entry<'a>(body: &'a [u8], text: &'a [u8]) -> (Entry<'a>, &'a [u8]) {
-    let len = match body {
-        [.., high, low] => number_of(&[*high, *low]),
-        _ => 0,
-    };
-    let id = first(body, UUID_BYTES);
-    let (line, rest) = cut(text, len);
-    (Entry::Line { id, line }, rest)
 }
 
 impl<'a> Iterator for Records<'a> {
@@ -139,34 +135,18 @@ impl<'a> Iterator for Records<'a> {
 
     ghost remaining = { λ s. at_most (length s.left.index.now) };
 
-    // A line's record has kind 1, an organiser's kind 3 and the owner; where the line starts behind 65535, its offset takes
-    // two bytes more, and the kinds are 2 and 5. A share's has kind 4, the owner and two bytes; one over 65535 kind 6 and
-    // four.
     fn next(&mut self) -> Option<Record<'a>> {
-        let size = match self.left.index {
-            [1, ..] => 21,
-            [2, ..] => 23,
-            [3, ..] => 22,
-            [4, ..] => 4,
-            [5, ..] => 24,
-            [6, ..] => 6,
-            _ => return None,
-        };
-        let (bytes, index) = self.left.index.split_at_checked(size)?;
-        let text = self.left.text;
-        let (owner, (entry, text)) = match bytes {
-            [1 | 2, body @ ..] => (0, line_entry(body, text)),
-            [3 | 5, owner, body @ ..] => (*owner, line_entry(body, text)),
-            [_, owner, share @ ..] => (*owner, (Entry::Share(number_of(share)), text)),
-            _ => return None,
-        };
+        let View { index, text } = self.left;
+        let stands = record_at(index, 0)?;
+        let (bytes, index) = index.split_at_checked(stands.size)?;
         self.left = View { index, text };
-        Some(Record {
-            bytes,
-            owner,
-            entry,
-        })
+        Some(self.left.record(bytes, stands.told))
     }
+}
+
+// So many bytes of a text from a place on, as far as there are any.
+fn part(text: &[u8], at: usize, len: usize) -> &[u8] {
+    text.get(at..).map_or(&[], |behind| first(behind, len))
 }
 
 pub fn name_of(line: &[u8]) -> &[u8] {

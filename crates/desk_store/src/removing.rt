@@ -40,24 +40,29 @@ impl Rest {
     }
 
     // Where a line starts behind 65535, its offset has four bytes.
-    fn push_line(&mut self, owner: u8, id: &[u8], line: &[u8]) -> Result<(), AllocError> {
+    fn push_line(&mut self, owner: u8, id: Uuid, line: &[u8]) -> Result<(), AllocError> {
         let at = self.text.len();
         match u16::try_from(at) {
             Ok(near) => {
                 self.push_kind(owner, 1, 3)?;
-                self.index.extend_from_slice(id)?;
+                self.push_id(id)?;
                 self.index.extend_from_slice(&near.to_be_bytes())?;
             }
             Err(_) => {
                 let far = u32::try_from(at).unwrap_or(u32::MAX);
                 self.push_kind(owner, 2, 5)?;
-                self.index.extend_from_slice(id)?;
+                self.push_id(id)?;
                 self.index.extend_from_slice(&far.to_be_bytes())?;
             }
         }
         let len = u16::try_from(line.len()).unwrap_or(u16::MAX);
         self.index.extend_from_slice(&len.to_be_bytes())?;
         self.text.extend_from_slice(line)
+    }
+
+    fn push_id(&mut self, id: Uuid) -> Result<(), AllocError> {
+        self.index.extend_from_slice(&id.high.to_be_bytes())?;
+        self.index.extend_from_slice(&id.low.to_be_bytes())
     }
 
     // The hall's kind, or an organiser's and the owner.

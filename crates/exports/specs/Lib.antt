@@ -7,5 +7,6 @@ pub mod FlatSlots
 pub mod FlatStore
 pub mod FlatNear
 pub mod FlatShares
+pub mod FlatWalks
 pub mod FlatPads
 pub mod FlatTwo

@@ -22,3 +22,4 @@ mod state_calls;
 mod store_calls;
 mod text_calls;
 mod two_calls;
+mod walk_calls;

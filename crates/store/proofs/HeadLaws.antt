@@ -63,7 +63,7 @@ module _ (i : List ℕ) where
       let l : 1 ≤ y = omega (arith, n) in
       rw (ne_eqb x 1 one, ne_eqb x 2 two, ne_eqb x 3 three, eq-eqb x 5 k, le-leb 1 y l)
 
-  other_told : (x ≡ 1 → ⊥) → (x ≡ 2 → ⊥) → (x ≡ 3 → ⊥) → (x ≡ 5 → ⊥) → kind_at i ≡ none
+  pub other_told : (x ≡ 1 → ⊥) → (x ≡ 2 → ⊥) → (x ≡ 3 → ⊥) → (x ≡ 5 → ⊥) → kind_at i ≡ none
   unfolding kind_at
   other_told a b c d = rw (ne_eqb x 1 a, ne_eqb x 2 b, ne_eqb x 3 c, ne_eqb x 5 d)
 

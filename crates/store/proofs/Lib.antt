@@ -65,6 +65,9 @@ pub mod FormLaws
 pub mod ToldLaws
 pub mod IsolationLaws
 pub mod SharesKeptLaws
+pub mod StepLaws
+pub mod CutLaws
+pub mod WalkedLaws
 mod Samples
 mod Worked
 mod History
@@ -73,3 +76,4 @@ mod PartySamples
 mod ShareSamples
 mod RoomSamples
 mod FarSamples
+mod WalkSamples

@@ -17,6 +17,7 @@ pub mod Older
 pub mod Near
 pub mod Isolation
 pub mod SharesKept
+pub mod Walks
 pub mod Forms
 -- what private functions and proofs need
 pub mod Inner

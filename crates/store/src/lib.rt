@@ -25,3 +25,4 @@ pub mod sharing;
 mod soundness;
 mod spellings;
 mod table;
+pub mod walk;

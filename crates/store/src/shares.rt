@@ -22,7 +22,7 @@ const SHORT_SIZE: usize = 4;
 const LONG_SIZE: usize = 6;
 
 // Whether a whole record of kind 4 or 6 stands at the front.
-fn starts_share(index: &[u8]) -> bool
+pub fn starts_share(index: &[u8]) -> bool
     ensures { result ≡ starts_share index.now }
 {
     matches!(index, [4, _, _, _, ..] | [6, _, _, _, _, _, ..])
@@ -39,7 +39,7 @@ fn long_share(share: u32) -> u32
 }
 
 // The share in the record at the front, if it is that owner's and has the kind that it needs; else 0.
-fn front_share(index: &[u8], owner: usize) -> u32
+pub fn front_share(index: &[u8], owner: usize) -> u32
     requires { starts_share index.now ≡ true }
     ensures { result ≡ front_share owner index.now }
 {

@@ -246,6 +246,14 @@ pub fn store_share(index: &[u8], text: &[u8], owner: u8) -> Share {
     unsafe { raspteal_store_share(index.as_ptr(), index.len(), text.as_ptr(), text.len(), owner) }
 }
 
+pub fn store_record_at(index: &[u8], at: usize) -> Record {
+    unsafe { raspteal_store_record_at(index.as_ptr(), index.len(), at) }
+}
+
+pub fn next_line(lines: &[u8], at: usize) -> Cut {
+    unsafe { raspteal_next_line(lines.as_ptr(), lines.len(), at) }
+}
+
 pub fn store_found(index: &[u8], text: &[u8], party: Party, id: Uuid) -> Look {
     unsafe { raspteal_store_found(index.as_ptr(), index.len(), text.as_ptr(), text.len(), party, id) }
 }
