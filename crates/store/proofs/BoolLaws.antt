@@ -4,7 +4,6 @@ use mathlib.Core.Bool.{Bool, true, false, not, ◌&&◌, ◌||◌}
 use mathlib.Core.Path.{◌≡◌, refl}
 use Prim.Native.Nat.{ℕ}
 use native.Mathlib.Omega.{arith}
-use borrow.Author.Tests.{not-true}
 
 pub true-false : true ≡ false → ⊥
 true-false e = let z : ◌≡◌ {A = ℕ} 0 1 = cc in absurd (omega arith)
@@ -19,9 +18,6 @@ and_right false b e = let z : ◌≡◌ {A = ℕ} 0 1 = cc in absurd (omega arit
 
 pub and_both : (a b : Bool) → a ≡ true → b ≡ true → a && b ≡ true
 and_both a b p q = rw (p, q)
-
-pub not-not : (a : Bool) → not a ≡ true → a ≡ false
-not-not a e = not-true a e
 
 pub or_false : (a b : Bool) → a ≡ false → b ≡ false → a || b ≡ false
 or_false a b p q = rw (p, q)

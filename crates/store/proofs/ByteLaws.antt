@@ -7,7 +7,6 @@ use Prim.Native.Nat.{ℕ, ◌/◌, ◌%◌}
 use native.Mathlib.Omega.{arith}
 use lib.Dec.{eqb}
 use Rattle.std.specs.Int.{to_be_bytes, w16, w32, w64}
-use Rattle.text.specs.Inner.{every}
 use Rattle.store.specs.Decode.{zeroes}
 use Rattle.store.specs.Inner.{be2, be4, be8}
 use Rattle.store.proofs.BoolLaws.{and_assoc}
@@ -17,11 +16,6 @@ and_true true = refl
 and_true false = refl
 
 -- one byte more
-pub every_push : (f : ℕ → Bool) (s : List ℕ) (x : ℕ) → every f (s ++ x ∷ []) ≡ every f s && f x
-unfolding every
-every_push f [] x = and_true (f x)
-every_push f (y ∷ s) x = ap (λ (b : Bool). f y && b) (every_push f s x) ∙ sym (and_assoc (f y) (every f s) (f x))
-
 pub zeroes_push : (s : List ℕ) (x : ℕ) → zeroes (s ++ x ∷ []) ≡ zeroes s && eqb x 0
 unfolding zeroes
 zeroes_push [] x = and_true (eqb x 0)

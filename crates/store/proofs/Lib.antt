@@ -31,7 +31,6 @@ pub mod ClearLaws
 pub mod LineLaws
 pub mod OtherLaws
 pub mod WantedLaws
-pub mod SeekLaws
 pub mod BookLaws
 pub mod TableLaws
 pub mod LoadLaws

@@ -4,56 +4,22 @@
 use Rattle.std.specs.Prelude.{Some, None}
 use mathlib.Core.Bool.{Bool, true, false}
 use mathlib.Core.List.{List, [], ◌∷◌}
-use mathlib.Core.Path.{◌≡◌, refl, sym, ap, ◌∙◌}
-use Prim.Native.Nat.{ℕ, suc, ◌+◌, ◌-◌, ◌≤◌, ◌<◌}
+use mathlib.Core.Path.{◌≡◌, refl, sym, ◌∙◌}
+use Prim.Native.Nat.{ℕ, ◌+◌, ◌-◌, ◌≤◌}
 use native.Mathlib.Omega.{arith}
-use lib.ListN.{length, take, drop, get_or, length-take}
+use lib.ListN.{length, take, drop}
 use borrow.Author.Tests.{eq-eqb, ne_eqb}
-use Rattle.text.proofs.BytesLaws.{same_equal, first_le}
+use Rattle.text.proofs.BytesLaws.{first_le}
 use Rattle.text.proofs.LentLaws.{tail_length}
-use Rattle.text.proofs.ListLaws.{at_next}
 use Rattle.text.proofs.SmallLaws.{uuid_small}
-use Rattle.text.specs.Bytes.{pick, byte, same, first_of}
+use Rattle.text.specs.Bytes.{byte, same, first_of}
 use Rattle.text.specs.Uuid.{Small}
 use Rattle.text.specs.Uuid.{uuid_of}
 use Rattle.text.specs.declared.uuid.Spelled.{Spelled}
 use Rattle.store.specs.Lines.{platform, for_platform, wanted}
 use Rattle.line.specs.Fields.{first_field}
-use Rattle.text.specs.Search.{begins_text, first_text, platform_key}
-
--- ---- the first text in another
-
-begins_long : (p s : List ℕ) → begins_text p s ≡ true → length p ≤ length s
-begins_long p s e = omega (arith, simp length-take at (ap length (same_equal (take (length p) s) p e)))
-
-module _ (p s : List ℕ) (i : ℕ) where
-  text_step : i < length s → (t : Bool) → begins_text p (drop i s) ≡ t
-      → first_text p (drop i s) ≡ pick t 0 (suc (first_text p (drop (i + 1) s)))
-  text_step h t e = go (drop i s) (at_next s i h) e
-    where
-      go : (q : List ℕ) → q ≡ get_or s i 0 ∷ drop (i + 1) s → begins_text p q ≡ t
-          → first_text p q ≡ pick t 0 (suc (first_text p (drop (i + 1) s)))
-      go q x y = ap (first_text p) x ∙ unfold first_text in
-          (ap (λ (b : Bool). pick b 0 (suc (first_text p (drop (i + 1) s)))) (ap (begins_text p) (sym x) ∙ y))
-
-  pub text_at : i < length s → begins_text p (drop i s) ≡ true → first_text p (drop i s) ≡ 0
-  text_at h e = text_step h true e
-
-  pub text_on : i < length s → begins_text p (drop i s) ≡ false
-      → first_text p (drop i s) ≡ suc (first_text p (drop (i + 1) s))
-  text_on h e = text_step h false e
-
--- where there is one, there is room for it
-pub text_within : (p s : List ℕ) → (first_text p s ≡ length s → ⊥) → first_text p s + length p ≤ length s
-unfolding first_text
-text_within p [] n = absurd (n refl)
-text_within p (b ∷ s) n = go (begins_text p (b ∷ s)) refl n (text_within p s)
-  where
-    go : (t : Bool) → begins_text p (b ∷ s) ≡ t → (pick t 0 (suc (first_text p s)) ≡ suc (length s) → ⊥)
-        → ((first_text p s ≡ length s → ⊥) → first_text p s + length p ≤ length s)
-        → pick t 0 (suc (first_text p s)) + length p ≤ suc (length s)
-    go true e n ih = omega (arith, begins_long p (b ∷ s) e)
-    go false e n ih = let r : first_text p s + length p ≤ length s = ih (λ q. n (ap suc q)) in omega arith
+use Rattle.text.specs.Search.{first_text, platform_key}
+use Rattle.text.proofs.SeekLaws.{text_within}
 
 -- ---- the platform
 

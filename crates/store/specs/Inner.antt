@@ -1,6 +1,6 @@
 -- What the contracts of private functions say of a store, each for every list of lines that lies in the index, and
 -- what the proofs go by. No public contract rests on these: a reader may leave them out.
-use Rattle.std.specs.Prelude.{◌≡◌, Bool, true, false, not, List, [], ◌∷◌, ◌++◌, ℕ, ◌+◌, ◌-◌, ◌/◌, ◌%◌, ◌≤◌, ◌<◌, eqb, ltb, length, get_or, take, replicate, Result, Ok, Err, ⊤}
+use Rattle.std.specs.Prelude.{◌≡◌, Bool, true, false, List, [], ◌∷◌, ◌++◌, ℕ, ◌+◌, ◌-◌, ◌/◌, ◌%◌, ◌≤◌, ◌<◌, eqb, ltb, length, get_or, take, replicate, Result, Ok, Err, ⊤}
 use Rattle.std.proofs.Math.Option.{Option, none, some}
 use Rattle.text.specs.Bytes.{pick, first_of}
 use Rattle.text.specs.declared.uuid.Uuid.{Uuid}
@@ -23,10 +23,6 @@ use Rattle.store.specs.declared.table.Full.TheVariants as R
 use Rattle.store.specs.declared.calls.StoreError.{StoreError}
 use Rattle.store.specs.declared.calls.SaveError.{SaveError}
 use Rattle.store.specs.declared.table.Full.{Full}
-
--- another byte than b
-abbrev pub is_not : ℕ → ℕ → Bool
-is_not b x = not (eqb x b)
 
 -- ---- records
 

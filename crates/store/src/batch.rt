@@ -10,11 +10,11 @@ use crate::calls::StoreError;
 use crate::chains::Table;
 use crate::claims::dues_of;
 use crate::lines::{line_length, wanted};
-use crate::search::find_far;
 use crate::settle::settle;
 use crate::shares::OWNERS;
 use crate::soundness::{LINE_MAX, survey};
 use crate::table::Filing;
+use text::search::find_far;
 
 // How far lines were walked: what stops the insert, if anything does, the place, the lines walked, and how many numbers
 // are taken.

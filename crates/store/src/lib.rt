@@ -18,7 +18,6 @@ mod records;
 pub mod refusal;
 mod rows;
 mod saving;
-mod search;
 mod settle;
 mod shares;
 pub mod sharing;

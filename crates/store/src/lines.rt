@@ -5,8 +5,8 @@ ghost use Rattle.store.specs.Lines.{for_platform, wanted as isWanted};
 ghost use Rattle.text.specs.Search.{lf};
 ghost use Rattle.store.specs.Inner.{first_line};
 
-use crate::search::{find_far, find_text};
 use text::bytes::find_byte;
+use text::search::{find_far, find_text};
 use text::uuid::{Spelled, Uuid};
 
 // The length of the first line, of which the LF stands at that place: without a CR before it.

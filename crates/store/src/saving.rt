@@ -10,10 +10,10 @@ use crate::claims::dues_of;
 use crate::filing::file_line;
 use crate::parties::Key;
 use crate::rows::{Area, MANY_ROWS, ROWS, area_for};
-use crate::search::find_text;
 use crate::soundness::Ledger;
 use line::mapping::Mapping;
 use text::bytes::find_byte;
+use text::search::find_text;
 
 // Files a line that was built under its key, by a table of that size.
 #[inline(never)]

@@ -5,7 +5,7 @@ ghost use Rattle.store.specs.Lines.{lines_of};
 ghost use Rattle.store.specs.Lines as specs;
 
 use crate::lines::{line_length, wanted};
-use crate::search::find_far;
+use text::search::find_far;
 use text::uuid::Form;
 
 // 1 where it is another form than 32 digits.

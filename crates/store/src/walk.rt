@@ -8,8 +8,8 @@ ghost use Rattle.store.specs.Walks.{share_told, record_told, record_at, behind_l
 use crate::lines::line_length;
 use crate::parties::Key;
 use crate::records::{stands, whole_head};
-use crate::search::find_far;
 use crate::shares::{front_share, share_size, starts_share};
+use text::search::find_far;
 
 // The record of a line: whose it is, and where the line lies in the text.
 #[derive(Clone, Copy, PartialEq, Eq)]

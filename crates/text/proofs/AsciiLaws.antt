@@ -1,23 +1,21 @@
 -- UTF-8 at an ASCII byte: a whole is valid exactly where the bytes before it and those after it are.
 -- Assumes nothing.
-use Prim.Native.Nat.{ℕ, zero, suc, ◌+◌, ◌≤◌, ◌<◌}
-use mathlib.Core.Path.{◌≡◌, refl, sym, ap, ◌∙◌}
+use Prim.Native.Nat.{ℕ, zero, suc, ◌+◌, ◌-◌, ◌≤◌, ◌<◌}
+use mathlib.Core.Path.{◌≡◌, refl, sym, subst, ap, ◌∙◌}
 use mathlib.Core.Logic.{⊎_elim}
 use mathlib.Core.Bool.{Bool, true, false}
 use mathlib.Core.List.{List, [], ◌∷◌, ◌++◌}
 use native.Mathlib.Omega.{arith}
-use Rattle.std.specs.List.{position_or_len}
-use Rattle.std.specs.Prelude.{Option, Some, None, cond, not, ltb, unwrap_or}
-use borrow.Author.Tests.{ltb-true, ltb-false, lt-ltb, leb-true, lt-leb, le-leb, eq-eqb, ne_eqb, eqb-true, eqb-false}
-use lib.Dec.{leb, eqb}
-use lib.ListN.{length, take, drop, get_or, length-drop, length-append}
+use borrow.Author.Tests.{ltb-true, leb-true, lt-leb, le-leb, eq-eqb, ne_eqb, eqb-true, eqb-false}
+use lib.Dec.{leb, eqb, ltb}
+use lib.ListN.{length, take, drop, length-drop, length-append}
 use lib.Seq.{drop-append-le, drop-drop}
 use Rattle.text.specs.Bytes.{pick, both}
 use Rattle.text.specs.Utf8.{Range, Alternative, utf8_char, in_range, begins, valid_run}
 use Rattle.text.specs.Utf8.{is_utf8}
-use Rattle.text.specs.Inner.{every, is_ascii, Passed}
-use Rattle.text.proofs.ListLaws.{lt_or_le, off, both_parts, at_next}
-use Rattle.text.proofs.BlockLaws.{every-next, and_parts}
+use Rattle.text.specs.Inner.{every, is_ascii, Passed, Ends}
+use Rattle.text.proofs.ListLaws.{lt_or_le, off, both_parts, part_to_end}
+use Rattle.text.proofs.SeekLaws.{passes_go}
 use Rattle.text.proofs.Utf8Laws.{first_size, char_size, char_long, valid_stop, valid_step}
 
 -- ---- octets after the first of a character are none of ASCII
@@ -59,61 +57,20 @@ module _ (d : ℕ) (ascii : d < 128) where
   char_ascii b = let l = le-leb 0 d (omega arith) in let h = le-leb d 127 (omega arith) in rw (l, h)
 
 -- an ASCII byte is passed
-pub ascii_goes : (s : List ℕ) (i : ℕ) → i < length s → get_or s i 0 < 128
-    → i + 1 + valid_run (drop (i + 1) s) ≡ i + valid_run (drop i s)
-ascii_goes s i h a =
-    let c = ap char_size (at_next s i h) ∙ char_ascii (get_or s i 0) a (drop (i + 1) s) in
-    rw (valid_step (drop i s) (λ z. omega arith), c, drop-drop) (omega arith)
+ascii_goes : (b : ℕ) (s : List ℕ) → b < 128 → valid_run (b ∷ s) ≡ suc (valid_run s)
+ascii_goes b s h =
+    valid_step (b ∷ s) (λ z. omega (arith, char_ascii b h s))
+    ∙ ap (λ (k : ℕ). k + valid_run (drop k (b ∷ s))) (char_ascii b h s) ∙ omega arith
 
--- n ASCII bytes are passed
-pub asciis_go : (s : List ℕ) (i n : ℕ) → i + n ≤ length s → every is_ascii (take n (drop i s)) ≡ true
-    → i + n + valid_run (drop (i + n) s) ≡ i + valid_run (drop i s)
-asciis_go s i zero h e = let z : i + 0 ≡ i = omega arith in ap (λ (k : ℕ). k + valid_run (drop k s)) z
-asciis_go s i (suc n) h e =
-    let w = and_parts (every is_ascii (take n (drop i s))) (is_ascii (get_or s (i + n) 0))
-    (sym (every-next is_ascii s i n (omega arith)) ∙ e) in
-    let z : i + suc n ≡ i + n + 1 = omega arith in
-    ap (λ (k : ℕ). k + valid_run (drop k s)) z
-    ∙ ascii_goes s (i + n) (omega arith) (ltb-true (get_or s (i + n) 0) 128 w.1)
-    ∙ asciis_go s i n (omega arith) w.0
-
--- the bytes before the first that is none of ASCII, or all of them
-high_place : List ℕ → ℕ
-high_place s = position_or_len (λ x. ltb 127 x) s
-
-before_high : (s : List ℕ) → (high_place s ≤ length s) × (every is_ascii (take (high_place s) s) ≡ true)
-unfolding every high_place
-before_high [] = (omega arith, refl)
-before_high (x ∷ s) = go (ltb 127 x) refl (before_high s)
-  where
-    go : (t : Bool) → ltb 127 x ≡ t → (high_place s ≤ length s) × (every is_ascii (take (high_place s) s) ≡ true)
-        → (cond (not t) (1 + high_place s) 0 ≤ suc (length s))
-        × (every is_ascii (take (cond (not t) (1 + high_place s) 0) (x ∷ s)) ≡ true)
-    go true e h = (omega arith, refl)
-    go false e h =
-        let z : 1 + high_place s ≡ suc (high_place s) = omega arith in
-        (omega (arith, h.0), rw (z, lt-ltb x 128 (omega (arith, ltb-false 127 x e))) h.1)
-
--- what a search for that place in the part from i on passes
-pub place_passed : (s part : List ℕ) (i : ℕ) (r : Option ℕ) → i ≤ length s → part ≡ drop i s
-    → r ≡ cond (ltb (position_or_len (λ x. ltb 127 x) part) (length part))
-    (Some (position_or_len (λ x. ltb 127 x) part)) None
-    → Passed s i (i + unwrap_or r (length part))
-unfolding high_place
-place_passed s part i r h f e =
-    rw (f, rw f at e) (go (ltb (high_place (drop i s)) (length (drop i s))) refl)
-  where
-    go : (t : Bool) → ltb (high_place (drop i s)) (length (drop i s)) ≡ t
-        → Passed s i (i + unwrap_or (cond t (Some (high_place (drop i s))) None) (length (drop i s)))
-    go true q =
-        let b = before_high (drop i s) in
-        let l = length-drop i s in
-        (omega arith, omega (arith, b.0), asciis_go s i (high_place (drop i s)) (omega (arith, b.0)) b.1)
-    go false q =
-        let b = before_high (drop i s) in
-        let l = length-drop i s in
-        let k : length (drop i s) ≡ high_place (drop i s) = omega (arith, b.0, ltb-false _ _ q) in
-        (omega arith, omega arith, rw k (asciis_go s i (high_place (drop i s)) (omega (arith, b.0)) b.1))
+-- what a search for another byte in the part from i on passes
+pub asciis_passed : (P : ℕ → Bool → Type 0) (s : List ℕ) (i r : ℕ) → i ≤ length s
+    → Ends P (take (length s - i) (drop i s)) r → ((b : ℕ) (t : Bool) → P b t → t ≡ ltb b 128) → Passed s i (i + r)
+asciis_passed P s i r h e told =
+    let f : Ends P (drop i s) r = subst (λ (l : List ℕ). Ends P l r) (part_to_end s i) e in
+    let step : (b : ℕ) (l : List ℕ) → P b true → valid_run (b ∷ l) ≡ suc (valid_run l)
+    = λ b l p. ascii_goes b l (ltb-true b 128 (sym (told b true p))) in
+    let go = passes_go (λ b. P b true) valid_run step r (drop i s) f.within f.passed in
+    (omega arith, omega (arith, f.within, length-drop i s), rw (sym (drop-drop r i s)) (omega (arith, go)))
 
 -- ---- the longest run of whole characters
 abbrev pub Valid : List ℕ → Type 0

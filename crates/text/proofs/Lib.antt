@@ -1,7 +1,7 @@
 pub mod ListLaws
 pub mod LentLaws
 pub mod BytesLaws
-pub mod BlockLaws
+pub mod SeekLaws
 pub mod Utf8Laws
 pub mod LongestLaws
 pub mod AsciiLaws

@@ -5,7 +5,8 @@ use mathlib.Core.Path.{◌≡◌, refl}
 use mathlib.Core.Bool.{true, false}
 use mathlib.Core.List.{[], ◌∷◌}
 use Prim.Native.Nat.{ℕ, ◌+◌, ◌*◌}
-use Rattle.text.specs.Bytes.{ascii, same}
+use Rattle.text.specs.Bytes.{byte, ascii, same, first_of}
+use Rattle.text.specs.Search.{first_text, platform_key}
 use Rattle.text.specs.Decimal.{digits, decimal, read_digits, unsigned, index_number}
 use Rattle.text.specs.Utf8.{begins, first_length, char_length, run_of, valid_run, is_utf8}
 use Rattle.text.specs.Uuid.{hex_digit, read_hex, hyphenated, uuid_of, hex_text, uuid_text, big_endian, uuid_bytes}
@@ -34,6 +35,35 @@ surrogate = refl
 byte_ff : is_utf8 (0xFF ∷ []) ≡ false
 unfolding is_utf8 valid_run run_of char_length first_length begins
 byte_ff = refl
+
+-- ---- a byte and a text sought
+
+-- document 01: "up to a comma or the end"
+comma : first_of (byte ",") (ascii "0300,T,") ≡ 4
+unfolding first_of
+comma = refl
+
+no_comma : first_of (byte ",") (ascii "q") ≡ 1
+unfolding first_of
+no_comma = refl
+
+-- document 01: "the first `platform:` anywhere in it", also in a name
+in_name : first_text platform_key (ascii "0,xplatform:y,platform:Linux,") ≡ 3
+unfolding first_text same
+in_name = refl
+
+no_platform : first_text platform_key (ascii "0,platform,") ≡ 11
+unfolding first_text same
+no_platform = refl
+
+-- an empty text stands at the front, of an empty one too
+nothing_sought : first_text [] (ascii "q") ≡ 0
+unfolding first_text same
+nothing_sought = refl
+
+nothing_in_nothing : first_text [] [] ≡ 0
+unfolding first_text
+nothing_in_nothing = refl
 
 -- ---- UUID
 

@@ -1,6 +1,7 @@
 -- What the contracts of private functions and the laws for the layers above say.
 -- No public contract rests on these: a reader may leave them out.
-use Rattle.std.specs.Prelude.{ℕ, ◌+◌, ◌≤◌, ◌≡◌, Bool, true, false, ◌&&◌, List, [], ◌∷◌, ltb, length, drop, Option, Some, None}
+use Rattle.std.specs.Prelude.{ℕ, ◌+◌, ◌≤◌, ◌<◌, ◌≡◌, Bool, true, false, ◌&&◌, List, [], ◌∷◌, ltb, length, take, drop, get_or, Option, Some, None}
+use Rattle.std.specs.List.{All}
 use Rattle.text.specs.Bytes.{byte, written}
 use Rattle.text.specs.Decimal.{is_digit}
 use Rattle.text.specs.Utf8.{valid_run}
@@ -27,6 +28,12 @@ is_ascii b = ltb b 128
 -- from i to j are whole characters
 abbrev pub Passed : List ℕ → ℕ → ℕ → Type 0
 Passed s i j = (i ≤ j) × (j ≤ length s) × (j + valid_run (drop j s) ≡ i + valid_run (drop i s))
+
+-- the bytes before n pass a test, and the one at n doesn't; P b t: the test may answer t of b
+pub record Ends (P : ℕ → Bool → Type 0) (s : List ℕ) (n : ℕ) : Type 0 where
+  pub within : n ≤ length s
+  pub passed : All (λ b. P b true) (take n s)
+  pub stops : n < length s → P (get_or s n 0) false
 
 -- digits alone
 abbrev pub all_digits_of : List ℕ → Bool

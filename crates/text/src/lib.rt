@@ -3,5 +3,6 @@
 
 pub mod bytes;
 pub mod decimal;
+pub mod search;
 pub mod utf8;
 pub mod uuid;

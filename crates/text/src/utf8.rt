@@ -1,8 +1,10 @@
 // UTF-8 by the ABNF of RFC 3629, section 4.
-ghost use Rattle.std.specs.Prelude.{◌≡◌, [], ◌∷◌, ◌+◌, ◌≤◌, length, take, drop, replicate};
+ghost use Rattle.std.specs.Prelude.{◌≡◌, [], ◌∷◌, ◌≤◌, length, replicate};
 ghost use Rattle.text.specs.Utf8.{%x, in_range, utf8_tail, utf8_3, utf8_4, begins, first_length, char_length};
 ghost use Rattle.text.specs.Utf8.{valid_run, is_utf8};
-ghost use Rattle.text.specs.Inner.{every, is_ascii, Passed};
+ghost use Rattle.text.specs.Inner.{Passed};
+
+use crate::search::passed_end;
 
 // Whether the byte is from `low` to `high`.
 fn in_range(b: u8, low: u8, high: u8) -> bool
@@ -78,38 +80,12 @@ fn char_length(s: &[u8]) -> Option<usize>
     three_octets(s).or_else(|| four_octets(s))
 }
 
-// Whether the sixteen bytes at k are ASCII.
-fn ascii_block(s: &[u8], k: usize) -> bool
-    requires { k + 16 ≤ length s.now }
-    ensures { result ≡ every is_ascii (take 16 (drop k s.now)) }
-{
-    s[k..k + 16].is_ascii()
-}
-
-// A place that ASCII bytes alone lead to from `from` on, found sixteen at a time.
-fn ascii_front(s: &[u8], from: usize) -> usize
-    requires { from ≤ length s.now }
-    ensures { Passed s.now from result }
-{
-    let blocks = (s.len() - from) / 16;
-    // By the block's number, which tells where it starts: that is the answer.
-    for k in 0..blocks {
-        let at = from + 16 * k;
-        if !ascii_block(s, at) {
-            return at;
-        }
-    }
-    from + 16 * blocks
-}
-
 // The first place from `from` on that has no ASCII byte, or the end.
 fn ascii_end(s: &[u8], from: usize) -> usize
     requires { from ≤ length s.now }
     ensures { Passed s.now from result }
 {
-    let front = ascii_front(s, from);
-    let rest = &s[front..];
-    front + rest.iter().position(|b| 0x7F < *b).unwrap_or(rest.len())
+    from + passed_end(&s[from..], |byte| byte < 0x80)
 }
 
 // The length of the longest run of whole characters from the first byte on. A loop that holds the place: each character
