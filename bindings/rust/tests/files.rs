@@ -2,18 +2,34 @@
 use raspteal::{Error, Store, StoreFile, Uuid, INDEX_MAX, SMALL_MAX, TEXT_MAX};
 use std::fs;
 use std::io::ErrorKind;
+use std::ops::Deref;
 use std::os::unix::fs::{symlink, PermissionsExt};
 use std::path::{Path, PathBuf};
 use std::time::Duration;
 
 const LINE: &str = "00000000000000000000000000000001,Pad,a:b0,";
 
-/// An empty folder for one test.
-fn folder(name: &str) -> PathBuf {
-    let folder = Path::new(env!("CARGO_TARGET_TMPDIR")).join(name);
+/// A folder for one test, which goes with it. It is outside the repository, where the gate takes no link.
+struct Folder(PathBuf);
+
+impl Deref for Folder {
+    type Target = Path;
+    fn deref(&self) -> &Path {
+        &self.0
+    }
+}
+
+impl Drop for Folder {
+    fn drop(&mut self) {
+        let _ = fs::remove_dir_all(&self.0);
+    }
+}
+
+fn folder(name: &str) -> Folder {
+    let folder = std::env::temp_dir().join(format!("raspteal-{name}-{}", std::process::id()));
     let _ = fs::remove_dir_all(&folder);
     fs::create_dir_all(&folder).unwrap();
-    folder
+    Folder(folder)
 }
 
 fn names(folder: &Path) -> Vec<String> {
@@ -46,7 +62,8 @@ fn both_sizes() {
 /// A small file becomes a large one, whose index starts with the small one's bytes.
 #[test]
 fn grown() {
-    let path = folder("grown").join("hall.store");
+    let folder = folder("grown");
+    let path = folder.join("hall.store");
     StoreFile::create(&path, &Store::small()).unwrap();
     let mut file = StoreFile::open(&path).unwrap();
     file.store.insert(LINE).unwrap();
@@ -104,7 +121,7 @@ fn refused() {
         assert_eq!(StoreFile::read(&path).unwrap_err().kind(), ErrorKind::InvalidData);
         assert_eq!(StoreFile::open(&path).unwrap_err().kind(), ErrorKind::InvalidData);
     }
-    assert_eq!(StoreFile::read(&folder).unwrap_err().kind(), ErrorKind::InvalidData);
+    assert_eq!(StoreFile::read(&*folder).unwrap_err().kind(), ErrorKind::InvalidData);
     fs::remove_file(&path).unwrap();
     for store in [Store::new(65535, 65534), Store::new(65534, 65536), Store::new(TEXT_MAX, INDEX_MAX)] {
         assert_eq!(StoreFile::create(&path, &store).unwrap_err().kind(), ErrorKind::InvalidInput);
