@@ -389,8 +389,28 @@ static void clear_store(void) {
     CHECK(r.number != 0 || !raspteal_store_found(STORE, any_party(), any_uuid()).found);
 }
 
+/* The records of an index stand one behind the other; of a sound store each line lies in the text and is found. The
+   lines of a text end where the next one starts, or with the text. */
+static void walk_store(void) {
+    bool sound = raspteal_store_share(STORE, 0).refusal.number == 0;
+    raspteal_record r;
+    for (size_t place = 0; r = raspteal_store_record_at(at(INDEX), lent[INDEX], place), r.found; place += r.size) {
+        CHECK(0 < r.size && r.size <= lent[INDEX] - place);
+        if (!sound || r.is_share)
+            continue;
+        CHECK(r.offset <= lent[TEXT] && r.len <= lent[TEXT] - r.offset);
+        raspteal_party p = {.organiser = r.owner != 0, .owner = r.owner};
+        CHECK(below(20) > 0 || raspteal_store_found(STORE, p, r.id).found);
+    }
+    CHECK(r.size == 0);
+    raspteal_cut c;
+    for (size_t place = 0; c = raspteal_next_line(at(LINE), lent[LINE], place), c.found; place = c.next)
+        CHECK(place < c.next && c.next <= lent[LINE] && c.len <= c.next - place);
+}
+
 static void (*const calls[])(void) = {read_line, walk_line, build_line, insert_lines, insert_lines, save_line,
-                                      save_line, look,      look,       share_text,   share_text,   file_within};
+                                      save_line, look,      look,       share_text,   share_text,   file_within,
+                                      walk_store};
 
 static void prepare(void) {
     for (int k = 0; k < SPACES && ends[k] == NULL; k++) {

@@ -1,6 +1,6 @@
 -- The steps of walks over an index and over a text, as numbers at the C boundary.
 -- The contracts of the exports rest on these definitions; they assume nothing.
-use Rattle.std.specs.Prelude.{ℕ, Bool, true, false, Option, Some, None}
+use Rattle.std.specs.Prelude.{ℕ, true, false, Option, Some, None}
 use Rattle.store.specs.declared.walk.Cut.{Cut}
 use Rattle.store.specs.declared.walk.LineRecord.{LineRecord}
 use Rattle.store.specs.declared.walk.Record.{Record}

@@ -1,42 +1,25 @@
 -- The lines that are cut off a text, one after the other, are those that an insert finds.
 -- Assumes nothing.
-use mathlib.Core.Bool.{Bool, true, false, ◌&&◌}
-use mathlib.Core.List.{List, [], ◌∷◌, ◌++◌}
-use mathlib.Core.Option.{Option, none, some}
+use mathlib.Core.Bool.{Bool, true, false}
+use mathlib.Core.List.{List, ◌∷◌}
 use mathlib.Core.Path.{◌≡◌, refl, sym, ap, ap₂, ◌∙◌, subst}
 use Prim.Native.Nat.{ℕ, zero, suc, ◌+◌, ◌-◌, ◌≤◌, ◌<◌}
 use native.Mathlib.Omega.{arith}
-use lib.Dec.{eqb, leb, ltb}
+use lib.Dec.{eqb, ltb}
 use lib.ListN.{length, get_or, take, drop, length-drop}
-use lib.Seq.{drop-drop, length-take-le}
-use borrow.Author.Tests.{eq-eqb, ne_eqb, eqb-true, eqb-false, ltb-true, ltb-false}
+use lib.Seq.{length-take-le}
+use borrow.Author.Tests.{eqb-true, eqb-false, ltb-true, ltb-false}
 use Rattle.std.specs.Prelude.{Option as Optional, Some, None}
 use Rattle.text.specs.Bytes.{pick, first_of}
 use Rattle.text.specs.Search.{lf}
-use Rattle.store.specs.declared.records.Head.{Head}
 use Rattle.store.specs.declared.walk.Cut.{Cut}
-use Rattle.store.specs.declared.walk.Record.{Record}
-use Rattle.store.specs.declared.walk.Record.TheVariants as R
-use Rattle.store.specs.declared.walk.Stands.{Stands as Standing}
-use Rattle.store.specs.Decode.{head_at, held_of, zeroes, walk, guarded, decode, front_share, and_share, Fronted}
-use Rattle.store.specs.Decode.{kind_at, shares_at, fronted}
-use Rattle.store.specs.Held.{Held, distinct, is_long, index_max, text_max}
 use Rattle.store.specs.Inner.{first_line}
-use Rattle.store.specs.Layout.{Bytes}
 use Rattle.store.specs.Lines.{cr, lines_of}
-use Rattle.store.specs.Shares.{owners, share_size}
-use Rattle.store.specs.Walks.{share_in, record_at, behind_line, next_line}
-use Rattle.store.specs.Walks.{on_stands, records_from, on_cut, lines_from, shares_told, lines_told, lines_read}
-use Rattle.store.specs.Walks.{RecordsWalk, LinesWalk}
-use Rattle.store.proofs.BoolLaws.{and_left}
-use Rattle.store.proofs.DecodeLaws.{never, Stands, ends, goes, stands}
-use Rattle.store.proofs.HeadLaws.{other_told}
+use Rattle.store.specs.Walks.{behind_line, next_line}
+use Rattle.store.specs.Walks.{on_cut, lines_from}
+use Rattle.store.specs.Walks.{LinesWalk}
 use Rattle.store.proofs.LineLaws.{line_last, line_none, line_cr, line_plain, lines_end}
-use Rattle.store.proofs.RecordLaws.{Fits, head_none, head_least, head_within}
-use Rattle.store.proofs.ShareLaws.{content_parts}
-use Rattle.store.proofs.BodyLaws.{bytes_behind}
-use Rattle.store.proofs.ShareRecordLaws.{Stands as Front_share, front_read, size_none, front_none, front_other, shares_more, shares_done}
-use Rattle.store.proofs.StepLaws.{place_is, told_line, told_share, share_none, share_some, cut_none, cut_some, cut_first}
+use Rattle.store.proofs.StepLaws.{cut_none, cut_some, cut_first}
 
 -- the first line stands at the text's front
 record Front (q : List ℕ) : Type 0 where

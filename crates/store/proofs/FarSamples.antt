@@ -1,6 +1,5 @@
 -- Request P12's cases of records, computed by the definitions: a line's offset alone picks the kind.
 -- Assumes nothing.
-use mathlib.Core.Bool.{false, true}
 use mathlib.Core.Path.{◌≡◌, refl}
 use mathlib.Core.Option.{none, some}
 use mathlib.Core.List.{List, [], ◌∷◌, ◌++◌}

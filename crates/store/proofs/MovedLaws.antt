@@ -238,26 +238,26 @@ module _ {a b : List Row} {w : Standing} {u : Key} {r had len : ℕ} (x : Replac
       starts : (j : ℕ) → j < w.border.rows → row_lengths b j ≤ short_max
       starts j l = omega (arith, lengths_least j, x.measured.bordered.near.starts j l)
 
+      near_by : (bytes : ℕ) → bytes ≡ row_lengths b w.border.rows
+          → Near b (w.fill.count + 1) (record { rows = w.border.rows; bytes = bytes })
+      near_by bytes q = record {
+        within = omega (arith, x.measured.bordered.near.within);
+        bytes = q;
+        starts = starts;
+      }
+
       go : (c : Bool) → leb r w.border.rows ≡ c → Near b (w.fill.count + 1)
           (pick c (record { rows = w.border.rows; bytes = w.border.bytes - had }) w.border)
-      go true q = record {
-        within = omega (arith, x.measured.bordered.near.within);
-        bytes = omega (
-          arith,
-          x.measured.bordered.near.bytes,
-          lengths_with w.border.rows (leb-true r w.border.rows q),
-        );
-        starts = starts;
-      }
-      go false q = record {
-        within = omega (arith, x.measured.bordered.near.within);
-        bytes = omega (
-          arith,
-          x.measured.bordered.near.bytes,
-          lengths_before w.border.rows (leb-false r w.border.rows q),
-        );
-        starts = starts;
-      }
+      go true q = near_by (w.border.bytes - had) (omega (
+        arith,
+        x.measured.bordered.near.bytes,
+        lengths_with w.border.rows (leb-true r w.border.rows q),
+      ))
+      go false q = near_by w.border.bytes (omega (
+        arith,
+        x.measured.bordered.near.bytes,
+        lengths_before w.border.rows (leb-false r w.border.rows q),
+      ))
 
   same_rows : (v : Border)
       → v ≡ pick (leb r w.border.rows) (record { rows = w.border.rows; bytes = w.border.bytes - had }) w.border

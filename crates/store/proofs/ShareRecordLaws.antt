@@ -243,29 +243,32 @@ module _ (o : ℕ) (i : List ℕ) (y : Bytes i) where
       sym (be4_is (word4 i 2)) ∙ be4_of i y 2
       ∙ ap₂ (λ (p q : List ℕ). p ++ q) (be2_of i y 2) (be2_of i y 4)
 
+  -- the kind and the owner stand at the front
+  read_front : (k : ℕ) → get_or i 0 0 ≡ k → get_or i 1 0 ≡ o → 2 ≤ length i → i ≡ k ∷ o ∷ drop 2 i
+  read_front k a b l =
+      drop-cons i 0 0 (omega (arith, l))
+      ∙ ap₂ (λ (x : ℕ) (q : List ℕ). x ∷ q) a
+      (drop-cons i 1 0 (omega (arith, l)) ∙ ap (λ (x : ℕ). x ∷ drop 2 i) b)
+
   read_short : IsShare o i → i ≡ share_bytes o (word i 2) ++ drop 4 i
   read_short s =
-      drop-cons i 0 0 (omega (arith, s.whole))
-      ∙ ap₂ (λ (x : ℕ) (q : List ℕ). x ∷ q) s.kind
-      (drop-cons i 1 0 (omega (arith, s.whole))
-      ∙ ap₂ (λ (x : ℕ) (q : List ℕ). x ∷ q) s.owner
+      read_front 4 s.kind s.owner (omega (arith, s.whole))
+      ∙ ap (λ (q : List ℕ). 4 ∷ o ∷ q)
       (drop-cons i 2 0 (omega (arith, s.whole))
       ∙ ap (λ (q : List ℕ). get_or i 2 0 ∷ q) (drop-cons i 3 0 (omega (arith, s.whole)))
-      ∙ sym (two_read (get_or i 2 0) (get_or i 3 0) (drop 4 i) (y 2) (y 3))))
+      ∙ sym (two_read (get_or i 2 0) (get_or i 3 0) (drop 4 i) (y 2) (y 3)))
       ∙ ap (λ (q : List ℕ). q ++ drop 4 i)
       (sym (share_short o (word i 2) (λ z. omega (arith, s.some, z)) (omega (arith, word_below i y 2))))
 
   read_long : IsLong o i → i ≡ share_bytes o (word4 i 2) ++ drop 6 i
   read_long s =
-      drop-cons i 0 0 (omega (arith, s.whole))
-      ∙ ap₂ (λ (x : ℕ) (q : List ℕ). x ∷ q) s.kind
-      (drop-cons i 1 0 (omega (arith, s.whole))
-      ∙ ap₂ (λ (x : ℕ) (q : List ℕ). x ∷ q) s.owner
+      read_front 6 s.kind s.owner (omega (arith, s.whole))
+      ∙ ap (λ (q : List ℕ). 6 ∷ o ∷ q)
       (drop-cons i 2 0 (omega (arith, s.whole))
       ∙ ap (λ (q : List ℕ). get_or i 2 0 ∷ q) (drop-cons i 3 0 (omega (arith, s.whole))
       ∙ ap (λ (q : List ℕ). get_or i 3 0 ∷ q) (drop-cons i 4 0 (omega (arith, s.whole))
       ∙ ap (λ (q : List ℕ). get_or i 4 0 ∷ q) (drop-cons i 5 0 (omega (arith, s.whole)))))
-      ∙ ap (λ (q : List ℕ). q ++ drop 6 i) (sym bytes4)))
+      ∙ ap (λ (q : List ℕ). q ++ drop 6 i) (sym bytes4))
       ∙ ap (λ (q : List ℕ). q ++ drop 6 i) (sym (share_long o (word4 i 2) s.needed))
 
 -- what the share at the front tells of the index

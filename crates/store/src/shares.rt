@@ -9,12 +9,13 @@ ghost use Rattle.store.specs.Decode.{front_share};
 ghost use Rattle.store.specs.Fronts.{starts_share, Fronts, Moved, Changes, Changed};
 
 use crate::bytes::{move_down, put_u32, put_word, u32_at, word_at};
+use crate::records;
 
 // So many parties: the hall and the organisers from 1 to 255.
 pub const OWNERS: usize = 256;
 
 // The greatest share that a record of kind 4 holds; of a larger one the record has kind 6.
-const SHORT_MAX: u32 = 65535;
+const SHORT_MAX: u32 = records::SHORT_MAX as u32;
 
 // The bytes of a record: the kind, the owner, and two bytes or four.
 const SHORT_SIZE: usize = 4;

@@ -75,6 +75,13 @@ pub fn wanted(line: &[u8]) -> Option<Uuid> {
     doc01::uuid(&field(line))
 }
 
+/// What a record tells: an owner's share, or a line's key, where it lies in the text, and its length.
+#[derive(Clone, Copy, Debug, PartialEq, Eq)]
+pub enum Told {
+    Share(u8, usize),
+    Line(Key, usize, usize),
+}
+
 /// The book, told the lengths of index and text.
 #[derive(Clone, Debug)]
 pub struct Book {
@@ -192,6 +199,18 @@ impl Book {
         index.resize(self.index, 0);
         text.resize(self.text, 0);
         (index, text)
+    }
+
+    /// The records of the index, with their sizes, one after the other: the shares by owner, then the lines in list order.
+    pub fn walked(&self) -> Vec<(usize, Told)> {
+        let shares = self.shares.iter().map(|(o, b)| (share_record(*b), Told::Share(*o, *b)));
+        let mut off = 0;
+        let lines = self.lines.iter().map(|(k, l)| {
+            let at = off;
+            off += l.len();
+            (record(*k, at), Told::Line(*k, at, l.len()))
+        });
+        shares.chain(lines).collect()
     }
 
     /// What two buffers encode, or None where the store is not sound.

@@ -28,6 +28,7 @@ pub enum Group {
     Save,
     Clear,
     Buffers,
+    Walks,
     Apart,
     Shares,
     Values,
@@ -37,7 +38,7 @@ pub enum Group {
     TwoPads,
 }
 
-pub const GROUPS: [(&str, &str); 30] = [
+pub const GROUPS: [(&str, &str); 31] = [
     ("utf8", "the longest valid run of UTF-8, with Rust's own reader"),
     ("uuid", "UUID texts, with the crate uuid"),
     ("forms", "how a UUID is spelled, by the reader and in the walker's first token (document 02, P11, alone)"),
@@ -61,6 +62,7 @@ pub const GROUPS: [(&str, &str); 30] = [
     ("save", "from_data filed: map and refusal by the book"),
     ("clear", "clear (document 01 alone)"),
     ("buffers", "both buffers after each call, byte by byte, by the book (document 01 alone)"),
+    ("walks", "the records of a store and the lines of a text, one after the other (document 02, P9 to P12, alone)"),
     ("apart", "a party's look-ups, beside those after its own calls and the clears alone (document 02, P9, alone)"),
     ("shares", "a share is set; each party's share and use (document 02, P10, alone)"),
     ("values", "what every raw value gives to every kind of entry (document 02, P3, alone)"),

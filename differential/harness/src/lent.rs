@@ -1,8 +1,8 @@
 //! The port's store.
-use crate::book::LINE_MAX;
+use crate::book::{Told, LINE_MAX};
 use crate::ffi;
 use crate::plain::{Map, Party, Refusal, Uuid};
-use crate::port::{answer, id, refused, written, Data};
+use crate::port::{answer, bytes, id, refused, written, Data};
 
 /// A party as the library takes it; the hall with a byte that it may not read.
 pub fn party(p: Party) -> ffi::Party {
@@ -72,6 +72,23 @@ impl Store {
             None => Ok((told.share, told.used)),
         }
     }
+    /// The records of the index with their sizes, each behind the one before it, from the front on.
+    pub fn walked(&self) -> Vec<(usize, Told)> {
+        let (mut at, mut all) = (0, Vec::new());
+        loop {
+            let r = unsafe { ffi::raspteal_store_record_at(self.index.as_ptr(), self.index.len(), at) };
+            if !r.found {
+                return all;
+            }
+            let told = if r.is_share {
+                Told::Share(r.owner, r.share)
+            } else {
+                Told::Line((r.owner, bytes(r.id)), r.offset, r.len)
+            };
+            at += r.size;
+            all.push((r.size, told));
+        }
+    }
     /// A party's line under a UUID, by both calls.
     pub fn look_up(&self, p: Party, uuid: Uuid) -> Result<Option<Vec<u8>>, Refusal> {
         let (i, t) = (&self.index, &self.text);
@@ -96,6 +113,19 @@ impl Store {
                 Ok(None)
             }
         }
+    }
+}
+
+/// The lines of a text, cut off one after the other.
+pub fn cuts(lines: &[u8]) -> Vec<&[u8]> {
+    let (mut at, mut all) = (0, Vec::new());
+    loop {
+        let cut = unsafe { ffi::raspteal_next_line(lines.as_ptr(), lines.len(), at) };
+        if !cut.found {
+            return all;
+        }
+        all.push(&lines[at..at + cut.len]);
+        at = cut.next;
     }
 }
 

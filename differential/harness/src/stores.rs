@@ -1,8 +1,8 @@
 //! Histories of a store: each call's answer, both buffers after it, and the look-ups.
-use crate::book::{Book, INDEX_MAX, TEXT_MAX};
+use crate::book::{self, Book, INDEX_MAX, TEXT_MAX};
 use crate::check::{shown, Group, Tally};
 use crate::compare::{number, rust, AllSlots};
-use crate::lent::Store;
+use crate::lent::{cuts, Store};
 use crate::near;
 use crate::plain::{owner, placed, refusal, Map, Party, Refusal, Uuid, HALL};
 use std::collections::BTreeMap;
@@ -76,6 +76,7 @@ impl Sides {
         let here = (&self.store.index[..], &self.store.text[..]);
         let want = self.book.buffers();
         t.case(Group::Buffers, 0, None, &(&want.0[..], &want.1[..]), &here, &|| self.input());
+        t.case(Group::Walks, 0, None, &self.book.walked(), &self.store.walked(), &|| self.input());
     }
 
     pub fn clear(&mut self, t: &mut Tally) {
@@ -110,6 +111,7 @@ impl Sides {
             *db = None;
         }
         self.ids.extend(self.book.lines.iter().map(|l| l.0 .1));
+        t.case(Group::Walks, 0, None, &book::lines(lines), &cuts(lines), &|| shown(lines));
         let here = self.store.insert(p, lines);
         t.case(Group::Insert, doc.0.map_or(0, |r| r.number), None, &doc, &here, &|| self.input());
         self.buffers(t);
