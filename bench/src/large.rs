@@ -141,7 +141,7 @@ fn constructed(call: Call) -> Vec<Case> {
 /// The families whose growth is measured, of those of a row: one of each kind, and the slowest.
 const GROWN: [&str; 7] = [
     "random", "each pad of 255 organisers", "one bucket, first halves alike", "long chains, one too long",
-    "one of 65535 buckets", "long chains, far apart, one too long", "one sum, 255 organisers",
+    "one bucket, 32 sums", "long chains, far apart, one too long", "one sum, 255 organisers",
 ];
 
 fn grown(families: Vec<&'static Family>) -> impl Iterator<Item = &'static Family> {

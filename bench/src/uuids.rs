@@ -32,7 +32,7 @@ pub const CONSTRUCTED: [Family; 6] = [
 
 /// Besides, against the buckets of an index of more than 65535 bytes.
 pub const LARGE: [Family; 4] = [
-    Family { name: "one of 65535 buckets", list: |n, seed| hall(one_of_many(n, seed)) },
+    Family { name: "one bucket, 32 sums", list: |n, seed| hall(one_of_many(n, seed)) },
     Family { name: "long chains, far apart", list: |n, seed| hall(far_chains(n, seed)) },
     Family { name: "long chains, far apart, one too long", list: |n, seed| hall(far_too_long(n, seed)) },
     Family { name: "one sum, many halves", list: |n, seed| hall(one_sum(n, seed)) },
@@ -100,18 +100,17 @@ fn halves(high: u64, low: u64) -> Uuid {
     ((high as u128) << 64 | low as u128).to_be_bytes()
 }
 
-// What the lists aim at: the store puts a key into one of 4096 buckets, (31 high + low + 7919 owner) mod 4096 with the
-// halves taken mod 65521, compares it with at most 16 of its bucket, and sorts all where a bucket has more. Where the
-// index has more than 65535 bytes there are 65535 buckets, by the same sum. An insert compares a key with all of its
+// What the lists aim at: the store puts a key into one of 4096 buckets, (31 high + low + 7919 owner) mod 65449 mod 4096,
+// where the sum wraps at 64 bits, compares it with at most 16 of its bucket, and sorts all where a bucket has more. Where
+// the index has more than 65535 bytes there are 65535 buckets, by the same sum. An insert compares a key with all of its
 // bucket.
-const PRIME: u64 = 65521;
-const BUCKETS: u64 = 65535;
+const PRIME: u64 = 65449;
 const OWNER: u64 = 7919;
 const CHAIN: usize = 17;
 
-/// A multiple of 65521, of any size.
+/// A multiple of 65449, of any size below 2 to the 57th: no sum of such halves wraps.
 fn multiple(r: &mut Rng) -> u64 {
-    PRIME * (r.next() >> 6)
+    PRIME * (r.next() >> 12)
 }
 
 /// All in bucket 0: the sort, at once. Where first halves are alike, each comparison has to look at both.
@@ -123,7 +122,7 @@ fn one_bucket(n: usize, seed: u64, first: fn(&mut Rng) -> u64) -> Vec<Uuid> {
 /// All in bucket 0, whatever their owners.
 fn one_bucket_shared(n: usize, seed: u64) -> Vec<Key> {
     let mut r = Rng::new(5000 + seed);
-    let rest = |o: u8| 4095 - (OWNER * o as u64 + 4095) % 4096;
+    let rest = |o: u8| PRIME - OWNER * o as u64 % PRIME;
     (0..n).map(|k| (owner(k), halves(multiple(&mut r), multiple(&mut r) + rest(owner(k))))).collect()
 }
 
@@ -152,7 +151,7 @@ fn chains(n: usize, buckets: usize, apart: u64, seed: u64, first: fn(&mut Rng) -
     (0..n).map(|k| halves(first(&mut r), multiple(&mut r) + apart * (k % buckets) as u64)).collect()
 }
 
-/// Long chains all over 65521 of the 65535 buckets, so that each step is far from the one before.
+/// Long chains all over 65449 of the 65535 buckets, so that each step is far from the one before.
 fn far_chains(n: usize, seed: u64) -> Vec<Uuid> {
     let buckets = n.div_ceil(CHAIN);
     chains(n, buckets, (PRIME - 1) / buckets as u64, seed, multiple)
@@ -170,13 +169,13 @@ fn of_sum(r: &mut Rng, sum: u64) -> Uuid {
     halves(multiple(r) + high, multiple(r) + sum - 31 * high)
 }
 
-/// All in bucket 0 of the 65535, by sums that are multiples of it; of 4096 buckets they take 32.
+/// All in bucket 0, by 32 sums that are multiples of 65449.
 fn one_of_many(n: usize, seed: u64) -> Vec<Uuid> {
     let mut r = Rng::new(6000 + seed);
-    (0..n).map(|k| of_sum(&mut r, BUCKETS * (k % 32) as u64)).collect()
+    (0..n).map(|k| of_sum(&mut r, PRIME * (k % 32) as u64)).collect()
 }
 
-/// All of one sum, and so in one bucket however many there are, and no half a multiple of 65521.
+/// All of one sum, and so in one bucket however many there are, and no half a multiple of 65449.
 fn one_sum(n: usize, seed: u64) -> Vec<Uuid> {
     let mut r = Rng::new(7000 + seed);
     (0..n)

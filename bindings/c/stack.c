@@ -135,8 +135,8 @@ static const call calls[] = {CALLS}, store_calls[] = {STORE_CALLS{"store_share",
 #undef X
 #define COUNT(a) (sizeof(a) / sizeof((a)[0]))
 
-/* ---- Keys. A key's bucket is 31 high + low + 7919 owner modulo their number, the halves taken mod 65521; one with 17
- * keys before it in its bucket makes the store sort all. */
+/* ---- Keys. A key's bucket is 31 high + low + 7919 owner modulo 65449 and then modulo their number; one with 17 keys
+ * before it in its bucket makes the store sort all. */
 
 typedef struct {
     raspteal_uuid id;
@@ -145,24 +145,25 @@ typedef struct {
 
 static key low_multiple(size_t k, size_t n, size_t buckets) {
     (void)n, (void)buckets;
-    return (key){{0, 65521 * (k + 1)}, 0};
+    return (key){{0, 65449 * (k + 1)}, 0};
 }
 
 static key multiples(size_t k, size_t n, size_t buckets) {
     (void)n, (void)buckets;
-    return (key){{65521 * (k * k % 99991), 65521 * (k + 1)}, 0};
+    return (key){{65449 * (k * k % 99991), 65449 * (k + 1)}, 0};
 }
 
 static key too_long(size_t k, size_t n, size_t buckets) {
     (void)buckets;
     size_t chains = (n - 1 + 16) / 17;
-    return k + 1 == n ? (key){{0, 0}, 0} : (key){{0, 65521 * (k + 1) + k % chains}, 0};
+    return k + 1 == n ? (key){{0, 0}, 0} : (key){{0, 65449 * (k + 1) + k % chains}, 0};
 }
 
 static key shared(size_t k, size_t n, size_t buckets) {
     (void)n;
-    size_t owner = 1 + k % 255, rest = (buckets - 7919 * owner % buckets) % buckets, high = rest < 65521 ? 0 : 1;
-    return (key){{65521 * (k + 1) + high, 65521 * (k % 7) + rest - 31 * high}, (uint8_t)owner};
+    (void)buckets;
+    size_t owner = 1 + k % 255, rest = 65449 - 7919 * owner % 65449;
+    return (key){{65449 * (k + 1), 65449 * (k % 7) + rest}, (uint8_t)owner};
 }
 
 static key twice(size_t k, size_t n, size_t buckets) {

@@ -20,14 +20,20 @@ pub enum Verdict {
     Unsure,
 }
 
-// A number below `N` that the key gives.
+// A number below `N` that the key gives. The sum wraps: one division by a prime then serves both halves, and by this one
+// it is a product and a shift.
 fn bucket_of<const N: usize>(key: Key) -> usize
     requires { 0 < N }
     ensures { (result ≡ bucket N key) × (result < N) }
 {
     let uuid = key.uuid;
     let owner = key.owner as u64;
-    ((31 * (uuid.high % 65521) + uuid.low % 65521 + 7919 * owner) % N as u64) as usize
+    let sum = uuid
+        .high
+        .wrapping_mul(31)
+        .wrapping_add(uuid.low)
+        .wrapping_add(7919 * owner);
+    (sum % 65449 % N as u64) as usize
 }
 
 // Seeks the key of number k in the chain that starts before `from`: one more than the number that has it, 0 where none

@@ -2,7 +2,7 @@
 //
 // Where a call asks that a number is below that of the rows, a type for such a number would be made anew at each call
 // and taken apart in it: it is a loop's number, a count, or a link less one.
-ghost use Rattle.std.specs.Prelude.{length};
+ghost use Rattle.std.specs.Prelude.{◌≡◌, length};
 ghost use Rattle.store.specs.Keys.{Suits};
 
 use crate::parties::Key;
@@ -57,4 +57,15 @@ impl Row {
         start: 0,
         len: 0,
     };
+
+    // Writes a line down. Number by number: a key that is copied whole takes the unused bytes behind its owner along, and
+    // a look-up waits for them at each record.
+    pub fn put(&mut self, key: Key, start: usize, len: usize)
+        ensures { self.new ≡ record { key = key; start = start; len = len } }
+    {
+        self.key.owner = key.owner;
+        self.key.uuid = key.uuid;
+        self.start = start;
+        self.len = len;
+    }
 }

@@ -39,7 +39,7 @@ impl<const N: usize> Table<N> {
         ensures sought { Sought (key_in self.new.rows) n result × (length self.old.rows ≤ most → result ≤ n) }
         ensures chained_2 { Chained (key_in self.new.rows) self.new.heads self.new.next (n + 1) }
     {
-        self.rows[n] = Row { key, start, len };
+        self.rows[n].put(key, start, len);
         self.link(n, most)
     }
 }

@@ -13,13 +13,14 @@ pub link-requires : goal.link-requires
 link-requires g c =
     let args = c.args in
     let pre = c.requires in
+    let row = c.put.new.self in
     let long : length args.self.now.heads ≡ g.row.N = search rules in
     let most : g.row.N ≤ 65535 = omega (arith, pre.chained.most, long) in (
       search rules,
       (
-        omega (arith, pre.n_lt_rows, put_long args.self.now.rows args.n args.key args.start args.len),
+        omega (arith, pre.n_lt_rows, put_long args.self.now.rows args.n row.key row.start row.len),
         chained_agree (key_in args.self.now.rows) _ args.n
-            (λ k l. sym (ap (λ (r : Row). r.key) (row_other args.self.now.rows args.n args.key args.start args.len k
+            (λ k l. sym (ap (λ (r : Row). r.key) (row_other args.self.now.rows args.n row.key row.start row.len k
             (λ e. omega arith))))
             args.self.now.heads args.self.now.next pre.chained,
       ),
