@@ -17,6 +17,8 @@ CROSSES_AS = {
     "Parser::next_token": "raspteal_parser_step",
     # The tables do not cross, nor places in them: the name in an element's row does.
     "find_row": "raspteal_ident_of",
+    # What is read crosses from where it is read: the C function goes by `read_mapping`, which has the same definition.
+    "parse_sdl_mapping": "raspteal_parse_sdl_mapping",
     # Of a list of numbers a map is made within a build; a C program puts its entries.
     "Mapping::of_numbers": "raspteal_from_data",
     # A refusal crosses within the answer that has it, as number, place and code.
@@ -46,7 +48,8 @@ CROSSES_AS = {
 WITHIN = {"find_byte", "find_far", "find_text", "fits", "first_token"}
 
 # Calls whose C function has another name.
-NAMED = {"event": "raspteal_mapping_event", "share_of": "raspteal_store_share", "next_line": "raspteal_next_line"}
+NAMED = {"event": "raspteal_mapping_event", "share_of": "raspteal_store_share", "next_line": "raspteal_next_line",
+         "read_mapping": "raspteal_parse_sdl_mapping"}
 
 # The definitions that give an answer its number.
 REFUSING = re.compile(r"^(kind_number|\w+_refusal) :")

@@ -52,7 +52,7 @@ pub extern "C" fn raspteal_default(buttons: &[u32], axes: &[u32]) -> FlatDefault
     let made = map::default::default(buttons, axes);
     let mut flat = FlatDefault {
         refusal: mapping_outcome(made.answer).into(),
-        map: FlatMapping::EMPTY,
+        map: FlatMapping::empty(),
     };
     flat.map.lay_out(&made.map);
     flat
@@ -73,7 +73,7 @@ pub extern "C" fn raspteal_from_data(
     let built = map::from_data::from_data(data.into(), buttons, axes, name, id, out);
     let mut flat = FlatBuilt {
         refusal: mapping_outcome(built.answer).into(),
-        map: FlatMapping::EMPTY,
+        map: FlatMapping::empty(),
         len: built.len,
     };
     flat.map.lay_out(&built.map);

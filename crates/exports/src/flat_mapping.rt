@@ -70,16 +70,24 @@ impl From<Mapping> for FlatMapping {
     }
 }
 
+static UNUSED: [FlatEntry; CODES_MAX] = [FlatEntry::UNUSED; CODES_MAX];
+
 impl FlatMapping {
-    // No entries: what a map is laid out into.
-    pub const EMPTY: FlatMapping = FlatMapping {
-        count: 0,
-        entries: [FlatEntry::UNUSED; CODES_MAX],
-        name_start: 0,
-        name_len: 0,
-        is_default: false,
-        hats_mapped: 0,
-    };
+    // No entries: what a map is laid out into. They are copied from a static that is lent: a constant, or the static by
+    // value, is made anew, entry by entry, wherever it is read.
+    pub fn empty() -> FlatMapping
+        ensures { Blank result }
+    {
+        let unused = &UNUSED;
+        FlatMapping {
+            count: 0,
+            entries: *unused,
+            name_start: 0,
+            name_len: 0,
+            is_default: false,
+            hats_mapped: 0,
+        }
+    }
 
     // Lays out a map that has nothing after its entries, as one that was built: only those in use, one by one, and where
     // C gets them, which spares a build a quarter of its time. By place: with lent places in a `zip`, which was tried,

@@ -10,8 +10,10 @@ ghost use Rattle.exports.specs.FlatMaps.{flat_reading};
 use crate::flat::{FlatRefusal, form_number};
 use crate::flat_mapping::FlatMapping;
 use crate::flat_token::{FlatToken, state_number, state_of};
+use line::mapping::Mapping;
 use line::parser::Stepped;
 use line::parser::tokens::{Tokens, count_tokens, token_at};
+use line::reading::read_mapping;
 use line::refusal::reading_outcome;
 
 // A step of the walker: its answer, and where it goes on.
@@ -100,11 +102,12 @@ pub extern "C" fn raspteal_parse_sdl_mapping(
 ) -> FlatReading
     ensures { result ≡ flat_reading (reading_of line.now buttons.now axes.now) }
 {
-    let read = line::reading::parse_sdl_mapping(line, buttons, axes);
+    let mut map = Mapping::new();
+    let answer = read_mapping(&mut map, line, buttons, axes);
     let mut flat = FlatReading {
-        refusal: reading_outcome(read.answer).into(),
-        map: FlatMapping::EMPTY,
+        refusal: reading_outcome(answer).into(),
+        map: FlatMapping::empty(),
     };
-    flat.map.lay_out(&read.map);
+    flat.map.lay_out(&map);
     flat
 }

@@ -176,6 +176,7 @@ pub fn start_state(line: &[u8]) -> State
 
 // One step of the walker, over plain values: `Parser`'s calls are thin ones over it, and the reading of a whole line
 // takes the same steps without a `Parser`.
+#[inline(always)]
 pub fn step(line: &[u8], pos: usize, state: State) -> Stepped
     ensures { result ≡ step_of line.now pos state }
 {
@@ -200,6 +201,7 @@ fn refused(kind: ErrorKind, position: usize) -> Option<Result<Token, Error>>
 
 // A step at p, before the line's end; e is the place of the next comma, or the end.
 #[tactic(auto, unfolding(crate::specs::Walker::field_step_of))]
+#[inline(always)]
 fn field_step(line: &[u8], p: usize, e: usize, state: State) -> Stepped
     requires { (p ≤ e) × (e ≤ length line.now) }
     ensures { result ≡ field_step_of line.now p e state }

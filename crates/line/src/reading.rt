@@ -29,7 +29,7 @@ pub struct SdlMapping {
     pub map: Mapping,
 }
 
-// The map of a line by the pad's lists of codes. The two lists are the rule's own parameters, and nothing but this call
+// The map of a line by the pad's lists of codes. The two lists are the rule's own parameters, and nothing but these calls
 // would make a struct of them.
 pub fn parse_sdl_mapping(line: &[u8], buttons: &[u32], axes: &[u32]) -> SdlMapping
     ensures { result ≡ reading_of line.now buttons.now axes.now }
@@ -38,11 +38,25 @@ pub fn parse_sdl_mapping(line: &[u8], buttons: &[u32], axes: &[u32]) -> SdlMappi
         answer: Ok(()),
         map: Mapping::new(),
     };
-    reading.answer = read(&mut reading.map, line, buttons, axes);
-    if reading.answer.is_err() {
-        reading.map = Mapping::new();
-    }
+    reading.answer = read_mapping(&mut reading.map, line, buttons, axes);
     reading
+}
+
+// The same into a map that is lent, which spares a caller the copy of 3 KB that a map handed back is.
+pub fn read_mapping(
+    map: &mut Mapping,
+    line: &[u8],
+    buttons: &[u32],
+    axes: &[u32],
+) -> Result<(), ParseSdlMappingError>
+    ensures { reading_of line.now buttons.now axes.now ≡ record { answer = result; map = map.new } }
+{
+    *map = Mapping::new();
+    let answer = read(map, line, buttons, axes);
+    if answer.is_err() {
+        *map = Mapping::new();
+    }
+    answer
 }
 
 // The reading into the empty map: 10, 12, then line order. After a refusal the map says nothing.

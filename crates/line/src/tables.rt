@@ -89,6 +89,7 @@ pub static AXES: [AxisOrBtn; ROWS] = [
 ];
 
 // The element that `key` names.
+#[inline(always)]
 pub fn find_element(key: &[u8]) -> Option<AxisOrBtn>
     ensures { result ≡ key_element key.now }
 {

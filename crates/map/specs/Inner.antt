@@ -49,16 +49,20 @@ filled_after kind slots i =
     filled_from (λ k. get_or slots k empty_slot) (element_of kind) (length slots - i) i
 
 -- they are gathered, each with its place in the list, or the first code that is missing there is refused
-abbrev pub Gathers : List ℕ → Kind → List (Option Code) → Result (ArrayVec Placed) MappingError → Type 0
-Gathers codes kind slots r =
+abbrev pub Gathers : List ℕ → Kind → List (Option Code) → Result ⊤ MappingError → ArrayVec Placed → Type 0
+Gathers codes kind slots r f =
     MatchResult r
-    (λ f. (missing_of (filled_after kind slots 0) codes ≡ None)
+    (λ _. (missing_of (filled_after kind slots 0) codes ≡ None)
     × (f.items ≡ placed_in codes (filled_after kind slots 0)))
     (λ e. (rest : Result ⊤ MappingError) → when_missing (missing_of (filled_after kind slots 0) codes) rest ≡ Err e)
 
 -- a check hands back what P says where it passes, and the refusal else
 abbrev pub Passes : {A : Type 0} → Result A MappingError → Result ⊤ MappingError → (A → Type 0) → Type 0
 Passes r checks P = MatchResult r (λ x. (checks ≡ Ok tt) × P x) (λ e. checks ≡ Err e)
+
+-- no pair is gathered yet
+abbrev pub Ungathered : Pairs → Type 0
+Ungathered p = (p.buttons.items ≡ []) × (p.axes.items ≡ [])
 
 -- the pairs are those of the slots
 pub record Gathered (d : MappingData) (buttons axes : List ℕ) (p : Pairs) : Type 0 where

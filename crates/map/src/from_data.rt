@@ -9,6 +9,7 @@ ghost use Rattle.map.specs.Build.{Builds};
 
 use crate::error::MappingError;
 use crate::from_data::checks::checked;
+use crate::from_data::filled::Pairs;
 use crate::from_data::output::{put_line, too_short};
 use crate::from_data::puts::put_map;
 use crate::lists::Codes;
@@ -55,9 +56,10 @@ pub fn from_data(
         map: Mapping::new(),
         len: 0,
     };
-    match checked(&data, Codes { buttons, axes }, name) {
+    let mut pairs = Pairs::new();
+    match checked(&mut pairs, &data, Codes { buttons, axes }, name) {
         Err(e) => built.answer = Err(e),
-        Ok(pairs) => {
+        Ok(()) => {
             if too_short(out.len(), &pairs, name) {
                 built.answer = Err(MappingError::OutputTooShort);
             } else {

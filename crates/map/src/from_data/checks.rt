@@ -1,7 +1,7 @@
 // What a build checks before its line is made: 10, 17, 12, 13, 14, 15, 14, 15, 16, in this order.
-ghost use Rattle.std.specs.Prelude.{◌≡◌};
+ghost use Rattle.std.specs.Prelude.{◌≡◌, []};
 ghost use Rattle.map.specs.Build.{filled_axes, axis_checks, slot_checks, checks_of};
-ghost use Rattle.map.specs.Inner.{placed_in, Passes, Gathered};
+ghost use Rattle.map.specs.Inner.{placed_in, Passes, Gathered, Ungathered};
 
 use crate::error::MappingError;
 use crate::from_data::NAME_MAX;
@@ -15,42 +15,51 @@ use text::utf8::valid_up_to;
 
 // The axes' slots: 14, 15, 16.
 #[tactic(auto, using(crate::proofs::FilledLaws::axes_after), unfolding(crate::specs::Build::axis_checks))]
-fn axes_checked(slots: &MappingData, axes: &[u32]) -> Result<Filled, MappingError>
+fn axes_checked(filled: &mut Filled, slots: &MappingData, axes: &[u32]) -> Result<(), MappingError>
+    requires { filled.old.items ≡ [] }
     ensures { Passes result (axis_checks slots.now axes.now)
-        (λ f. f.items ≡ placed_in axes.now (filled_axes slots.now)) }
+        (λ _. filled.new.items ≡ placed_in axes.now (filled_axes slots.now)) }
 {
     if slots.axis(Axis::Unknown).is_some() {
         return Err(MappingError::UnknownElement);
     }
-    let filled = gather(&slots.axes, Kind::Axis, axes)?;
+    gather(filled, &slots.axes, Kind::Axis, axes)?;
     if slots.axis(Axis::DPadX).is_some() || slots.axis(Axis::DPadY).is_some() {
         return Err(MappingError::NotSdl2Compatible);
     }
-    Ok(filled)
+    Ok(())
 }
 
 // The buttons' slots: 14, 15; then the axes'.
 #[tactic(auto, using(crate::proofs::FilledLaws::buttons_after), unfolding(crate::specs::Build::slot_checks))]
-fn slots_checked(slots: &MappingData, codes: Codes) -> Result<Pairs, MappingError>
+fn slots_checked(pairs: &mut Pairs, slots: &MappingData, codes: Codes) -> Result<(), MappingError>
+    requires { Ungathered pairs.old }
     ensures { Passes result (slot_checks slots.now codes.entry.buttons.now codes.entry.axes.now)
-        (Gathered slots.now codes.entry.buttons.now codes.entry.axes.now) }
+        (λ _. Gathered slots.now codes.entry.buttons.now codes.entry.axes.now pairs.new) }
 {
     if slots.button(Button::Unknown).is_some() {
         return Err(MappingError::UnknownElement);
     }
-    let first = gather(&slots.buttons, Kind::Button, codes.buttons)?;
-    let last = axes_checked(slots, codes.axes)?;
-    Ok(Pairs {
-        buttons: first,
-        axes: last,
-    })
+    gather(
+        &mut pairs.buttons,
+        &slots.buttons,
+        Kind::Button,
+        codes.buttons,
+    )?;
+    axes_checked(&mut pairs.axes, slots, codes.axes)
 }
 
-// The name and the lists: 10, 17, 12, 13; then the slots, whose pairs are handed back.
+// The name and the lists: 10, 17, 12, 13; then the slots, whose pairs are gathered.
 #[tactic(auto, unfolding(crate::specs::Build::checks_of, text::specs::Utf8::is_utf8))]
-pub fn checked(slots: &MappingData, codes: Codes, name: &[u8]) -> Result<Pairs, MappingError>
+pub fn checked(
+    pairs: &mut Pairs,
+    slots: &MappingData,
+    codes: Codes,
+    name: &[u8],
+) -> Result<(), MappingError>
+    requires { Ungathered pairs.old }
     ensures { Passes result (checks_of slots.now codes.entry.buttons.now codes.entry.axes.now name.now)
-        (Gathered slots.now codes.entry.buttons.now codes.entry.axes.now) }
+        (λ _. Gathered slots.now codes.entry.buttons.now codes.entry.axes.now pairs.new) }
 {
     let run = valid_up_to(name);
     if run != name.len() {
@@ -65,5 +74,5 @@ pub fn checked(slots: &MappingData, codes: Codes, name: &[u8]) -> Result<Pairs, 
     if find_byte(name, b',') != name.len() {
         return Err(MappingError::InvalidName);
     }
-    slots_checked(slots, codes)
+    slots_checked(pairs, slots, codes)
 }

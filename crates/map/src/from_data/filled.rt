@@ -1,4 +1,6 @@
 // The filled slots as entries, in ascending order, each with the place of its code.
+ghost use Rattle.map.specs.Inner.{Ungathered};
+
 use crate::mapping_data::BUTTONS;
 use arrayvec::ArrayVec;
 use line::mapping::Entry;
@@ -28,4 +30,16 @@ pub type Filled = ArrayVec<Placed, BUTTONS>;
 pub struct Pairs {
     pub buttons: Filled,
     pub axes: Filled,
+}
+
+impl Pairs {
+    // Those of no slot.
+    pub fn new() -> Pairs
+        ensures { Ungathered result }
+    {
+        Pairs {
+            buttons: ArrayVec::new(),
+            axes: ArrayVec::new(),
+        }
+    }
 }

@@ -1,12 +1,11 @@
 // The filled slots gathered, in ascending order. A code that is not in the list ends it.
-ghost use Rattle.std.specs.Prelude.{◌≡◌, ◌≤◌, length};
+ghost use Rattle.std.specs.Prelude.{◌≡◌, ◌≤◌, [], length};
 ghost use Rattle.map.specs.Slots.{button_slots};
 ghost use Rattle.map.specs.Inner.{element_of, letter_of, Gathers};
 
 use crate::error::MappingError;
 use crate::from_data::filled::{Filled, Placed};
 use crate::lists::find_code;
-use arrayvec::ArrayVec;
 use line::ev::{Axis, AxisOrBtn, Button, Code};
 use line::mapping::Entry;
 
@@ -39,12 +38,18 @@ impl Kind {
     }
 }
 
-// The filled slots with the places of their codes. The first code that is not in the list is refused: 15.
-pub fn gather(slots: &[Option<Code>], kind: Kind, list: &[u32]) -> Result<Filled, MappingError>
-    requires { length slots.now ≤ button_slots }
-    ensures { Gathers list.now kind slots.now result }
+// The filled slots with the places of their codes, put where they are kept: handed back in a `Result` they would be copied
+// at each step. The first code that is not in the list is refused: 15.
+pub fn gather(
+    filled: &mut Filled,
+    slots: &[Option<Code>],
+    kind: Kind,
+    list: &[u32],
+) -> Result<(), MappingError>
+    requires few { length slots.now ≤ button_slots }
+    requires none { filled.old.items ≡ [] }
+    ensures { Gathers list.now kind slots.now result filled.new }
 {
-    let mut filled = ArrayVec::new();
     for (i, slot) in slots.iter().enumerate() {
         if let Some(code) = *slot {
             let place = find_code(list, code).ok_or(MappingError::InvalidCode(code))?;
@@ -52,5 +57,5 @@ pub fn gather(slots: &[Option<Code>], kind: Kind, list: &[u32]) -> Result<Filled
             filled.push(Placed { entry, place });
         }
     }
-    Ok(filled)
+    Ok(())
 }

@@ -1,6 +1,6 @@
 -- The contract of the call, and that of the layout, give the result: a default map has document 01's shape.
 -- Assumes nothing.
-use mathlib.Core.Path.{refl, subst, sym}
+use mathlib.Core.Path.{subst, sym}
 use Rattle.map.specs.declared.default.DefaultMap.{DefaultMap}
 use Rattle.map.proofs.ShapedLaws.{default_shaped}
 use Rattle.exports.specs.FlatMaps.{Unused}
@@ -12,5 +12,5 @@ lay_out-requires c =
     let a = c.args in (
       subst (λ (d : DefaultMap). Unused d.map.count d.map.entries) (sym c.default-made.ensures)
           (shaped_unused _ (default_shaped a.buttons.now a.axes.now)),
-      refl,
+      c.empty.ensures,
     )
