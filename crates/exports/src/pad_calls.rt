@@ -29,15 +29,21 @@ pub struct FlatEmitted {
     pub value: i16,
 }
 
-// What a pad reports: 1 is a button pressed, 2 the axis value v, another number a button released.
+// What a pad reports: 1 is a button pressed, 2 the axis value v, another number a button released. Two questions one
+// after the other: a match with three answers is a branch, and one that no processor foresees where codes come mixed.
 #[tactic(auto, unfolding(crate::specs::FlatPads::raw_of))]
 pub fn raw_of(raw: u8, v: i16) -> Raw
     ensures { result ≡ raw_of raw v }
 {
-    match raw {
-        1 => Raw::ButtonPressed,
-        2 => Raw::AxisValueChanged(v),
-        _ => Raw::ButtonReleased,
+    let button = if raw == 1 {
+        Raw::ButtonPressed
+    } else {
+        Raw::ButtonReleased
+    };
+    if raw == 2 {
+        Raw::AxisValueChanged(v)
+    } else {
+        button
     }
 }
 

@@ -1,6 +1,8 @@
 pub mod ShareLaws
 pub mod BiasLaws
 pub mod ValueLaws
+pub mod SumLaws
+pub mod LineLaws
 pub mod OrderLaws
 pub mod PlaceLaws
 pub mod TouchLaws

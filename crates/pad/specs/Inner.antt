@@ -1,10 +1,9 @@
 -- Values counted from the least one: what private functions compute with. No public contract cites these.
 -- Assumes nothing.
-use Rattle.std.specs.Prelude.{ℕ, suc, ◌+◌, ◌-◌, ◌*◌, ◌/◌, ◌%◌, ◌≤◌, ◌<◌, ◌≡◌, Bool, false, List, [], ◌∷◌, ◌++◌, map, eqb, ltb, length, take, drop, get_or, ℤ, pos, negsuc, ◌-ℤ◌, Option, Some, None, set, MatchOption, Result, Ok, MatchResult}
+use Rattle.std.specs.Prelude.{ℕ, suc, ◌+◌, ◌-◌, ◌/◌, ◌%◌, ◌≤◌, ◌<◌, ◌≡◌, Bool, false, List, [], ◌∷◌, ◌++◌, map, eqb, ltb, length, take, drop, get_or, ℤ, pos, negsuc, ◌-ℤ◌, Option, Some, None, set, MatchOption, Result, Ok, MatchResult}
 use Rattle.std.specs.Borrow.{MutBor, Fml, Lends}
 use Rattle.text.specs.Bytes.{pick}
 use Rattle.line.specs.declared.ev.AxisOrBtn.{AxisOrBtn}
-use Rattle.line.specs.declared.ev.AxisOrBtn.TheVariants as El
 use Rattle.line.specs.declared.parser.AxisRange.{AxisRange}
 use Rattle.line.specs.declared.parser.AxisRange.TheVariants as Ar
 use Rattle.line.specs.declared.ev.Code.{Code}
@@ -36,27 +35,17 @@ shifted (negsuc k) = 32767 - k
 abbrev pub unshifted : ℕ → ℤ
 unshifted x = pos x -ℤ pos 32768
 
--- as `part_of` and `output_of`, on these numbers
+-- as `part_of`, on these numbers
 abbrev pub share_of : ℕ → AxisRange → Option (ℕ × ℕ)
 share_of x Ar.Full = Some (x, 65535)
 share_of x Ar.UpperHalf = pick (ltb x 32768) None (Some ((x - 32768), 32767))
 share_of x Ar.LowerHalf = pick (ltb 32768 x) None (Some ((32768 - x), 32768))
-
-abbrev pub output_at : AxisOrBtn → AxisRange → ℕ → ℕ → ℕ
-output_at (El.Btn b) half n d = 32768 + n * 32767 / d
-output_at (El.Axis a) Ar.UpperHalf n d = 32768 + n * 32767 / d
-output_at (El.Axis a) Ar.LowerHalf n d = 32768 - n * 32768 / d
-output_at (El.Axis a) Ar.Full n d = n * 65535 / d
 
 -- n of d, d one of the three
 pub record Proper (n d : ℕ) : Type 0 where
   pub within : n ≤ d
   pub some : 0 < d
   pub most : d ≤ 65535
-
-abbrev pub ProperPart : Option (ℕ × ℕ) → Type 0
-ProperPart (Some (n, d)) = Proper n d
-ProperPart None = Unit {0}
 
 -- ---- a pad's state in numbers
 -- the first n held codes, and the first m entries

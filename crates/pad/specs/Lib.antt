@@ -8,4 +8,5 @@ pub mod PadGuarantee
 pub mod TwoPads
 pub mod TwoGuarantee
 -- what private functions and proofs need
+pub mod Lines
 pub mod Inner

@@ -3,6 +3,7 @@
 
 mod choice;
 pub mod events;
+mod lines;
 mod numbers;
 mod put;
 pub mod state;
