@@ -23,9 +23,12 @@ impl Work for Values {
         self.0.len()
     }
     fn go(&mut self) {
+        // (the library is an archive of its own, into which nobody looks: no call can be left out)
+        let mut sum = 0i32;
         for (e, raw, v) in &self.0 {
-            black_box(unsafe { ffi::raspteal_entry_value(*black_box(e), *raw, *v) });
+            sum += unsafe { ffi::raspteal_entry_value(*e, *raw, *v) }.value as i32;
         }
+        black_box(sum);
     }
 }
 

@@ -194,7 +194,7 @@ pub fn history(t: &mut Tally, r: &mut Rng) {
             0 => s.clear(t),
             1 => s.insert(t, owners::party(r), b"00000000000000000000000000000001\n\n"),
             2..=4 => {
-                let bytes = r.pick(&[0, 40, 65534, 65535, 65536, 65537, room / 2, room - used]);
+                let bytes = r.pick(&[0, 40, 65534, 65535, 65536, 65537, room / 2, room.saturating_sub(used)]);
                 s.share(t, r.pick(&[0, 1, 254, 255]), bytes);
             }
             5 | 6 => {

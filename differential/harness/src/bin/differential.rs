@@ -1,5 +1,5 @@
 //! The port against gilrs, unchanged, on document 01's domain, and against document 01 on all inputs.
-//! Arguments: seconds, seed, corpus files. The last line is the summary; status 0 only without a difference or a panic.
+//! Arguments: seconds of random inputs, seed, corpus files. The last line is the summary; status 0 only without a difference or a panic.
 use harness::check::{Tally, GROUPS};
 use harness::compare::{self, AllSlots};
 use harness::far;
@@ -44,13 +44,13 @@ fn compared() -> i32 {
     (t.differences() + t.panics > 0) as i32
 }
 
-/// The rounds of random inputs that are run however long what is fixed took: each group has cases then.
+/// The rounds of random inputs that are run however long they take: each group has cases then.
 const ROUNDS: usize = 4;
 
-/// Random inputs until the time is over.
+/// Random inputs for that time, beside what is fixed.
 fn random(t: &mut Tally, lines: &[&[u8]], secs: u64, seed: u64) {
     let mut r = Rng::new(seed);
-    let end = Duration::from_secs(secs);
+    let end = t.start.elapsed() + Duration::from_secs(secs);
     let mut rounds = 0;
     while rounds < ROUNDS || t.start.elapsed() < end {
         rounds += 1;
