@@ -17,9 +17,9 @@
  *
  * Stack
  *   A call takes up to RASPTEAL_STACK bytes of the caller's stack, 384 KB; a call of the store on an index of more than
- *   65535 bytes takes up to RASPTEAL_STACK_LARGE. bindings/c/stack.c runs every call on a thread that has no more, on
- *   the dearest stores there are. A program's first thread has 8 MB as a rule, which hold either; others may have less,
- *   and pthread_attr_setstacksize gives them more.
+ *   65535 bytes takes up to RASPTEAL_STACK_LARGE, 4.5 MiB, and RASPTEAL_STACK_FOR says what one on a shorter index takes.
+ *   bindings/c/stack.c runs every call on a thread that has no more, on the dearest stores there are. A program's first
+ *   thread has 8 MB as a rule, which hold any; others may have less, and pthread_attr_setstacksize gives them more.
  *
  * What numbers mean
  *   A code is an event code of the pad, 32 bits (10130 hexadecimal is the first gamepad button of Linux).
@@ -56,10 +56,17 @@ extern "C" {
 #define RASPTEAL_ELEMENTS 27      /* elements that have events: buttons 1 to 19, axes 1 to 8 */
 
 /* The bytes of stack that a call takes at most: the first on an index of up to RASPTEAL_SMALL_MAX bytes, the second on a
- * longer one. The smaller of a hub's store files has RASPTEAL_SMALL_MAX bytes of index and as many of text. */
+ * longer one; by the index's length 384 KB, 640 KB, 1.25 MiB, 2.25 MiB or 4.5 MiB. The smaller of a hub's store files
+ * has RASPTEAL_SMALL_MAX bytes of index and as many of text. */
 #define RASPTEAL_SMALL_MAX 65535
 #define RASPTEAL_STACK 393216
 #define RASPTEAL_STACK_LARGE 4718592
+#define RASPTEAL_STACK_FOR(index_len)                                                                                  \
+    ((index_len) <= RASPTEAL_SMALL_MAX ? RASPTEAL_STACK                                                                \
+     : (index_len) <= 131072           ? 655360                                                                        \
+     : (index_len) <= 262144           ? 1310720                                                                       \
+     : (index_len) <= 524288           ? 2359296                                                                       \
+                                       : RASPTEAL_STACK_LARGE)
 
 /* ---- What crosses ---------------------------------------------------------------------------------------------- */
 

@@ -6,7 +6,7 @@ use harness::plain::{Uuid, HALL};
 pub const BUFFER: usize = 65535;
 pub const RECORD: usize = 21;
 
-/// The least index that has the buckets and the work area of a large store.
+/// The least index of a large store: its work area is a larger one.
 pub const LARGE: usize = 65536;
 
 /// A mapping list: the file's name and its text.

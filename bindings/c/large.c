@@ -150,6 +150,50 @@ static void full(void) {
     drop(&s);
 }
 
+/* A list of lines of 32 bytes, under the UUIDs from 1 on. */
+static char *short_lines(size_t n) {
+    char *list = malloc(33 * n + 1), *to = list;
+    if (list == NULL)
+        exit(1);
+    for (size_t k = 1; k <= n; k++)
+        to += sprintf(to, "%032zx\n", k);
+    return list;
+}
+
+/* A full index of that length; a line of it saved, and all lines filed again, which leave the store as it was. */
+static void full_index(size_t index_len) {
+    size_t near = 65536 / 32, all = near + (index_len - 21 * near) / 23;
+    store s = new_store(index_len, 32 * all + 100), was = new_store(index_len, 32 * all + 100);
+    char *list = short_lines(all + 1);
+    const uint8_t *lines = (const uint8_t *)list;
+    raspteal_inserted i = raspteal_store_insert(STORE(&s), HALL, lines, 33 * (all + 1));
+    CHECK(i.refusal.number == 21 && i.count == all);
+    memcpy(was.index, s.index, s.index_len);
+    memcpy(was.text, s.text, s.text_len);
+    CHECK(found(&s, HALL, 1) == 1 && found(&s, HALL, all) == 1 && found(&s, HALL, all + 1) == 0);
+    CHECK(raspteal_store_found_near(STORE(&s), HALL, uuid(all)).how == 1);
+    CHECK(raspteal_store_share(STORE(&s), 0).used == 32 * all);
+    raspteal_data d = raspteal_data_insert_btn(raspteal_data_new(), 0x10130, 1).slots;
+    CHECK(raspteal_store_save(STORE(&s), HALL, d, LIST(buttons), LIST(axes), TEXT("T"), uuid(7)).refusal.number == 0);
+    CHECK(found(&s, HALL, 7) == 1 && found(&s, HALL, all) == 1 && memcmp(was.index, s.index, s.index_len) != 0);
+    i = raspteal_store_insert(STORE(&s), HALL, lines, 33 * (all + 1));
+    CHECK(i.refusal.number == 21 && i.count == all);
+    CHECK(memcmp(was.index, s.index, s.index_len) == 0 && memcmp(was.text, s.text, s.text_len) == 0);
+    size_t left = index_len - 21 * near - 23 * (all - near);
+    CHECK(raspteal_store_set_share(STORE(&s), 7, 1).number == (left < 4 ? 21 : 0));
+    free(list);
+    drop(&was);
+    drop(&s);
+}
+
+/* Indexes on either side of each length from which on a call takes a larger table, and at lengths between. */
+static void tables(void) {
+    static const size_t lengths[] = {65535,  65536,  65537,  131072, 131073,
+                                     262144, 262145, 524288, 524289, RASPTEAL_INDEX_MAX};
+    for (size_t k = 0; k < sizeof lengths / sizeof lengths[0]; k++)
+        full_index(lengths[k]);
+}
+
 /* A line at an offset from 65534 to 65537, of the hall and of an organiser: in an index that has just the room for its
  * record, and in one of one byte less. */
 static void borders(void) {
@@ -269,6 +313,7 @@ static void damaged(void) {
 int main(void) {
     limits();
     full();
+    tables();
     borders();
     refilings();
     counted();

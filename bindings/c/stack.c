@@ -1,6 +1,6 @@
 /* Runs every call on a thread that has the stack that raspteal.h states and no more: RASPTEAL_STACK, and for the calls of
- * the store on an index of more than RASPTEAL_SMALL_MAX bytes RASPTEAL_STACK_LARGE. The stores of both sizes have as many
- * records as can be, with keys that were constructed against the search for one that stands twice. A call that takes
+ * the store RASPTEAL_STACK_FOR their index. The stores, of the longest index for each of these, have as many records as
+ * can be, with keys that were constructed against the search for one that stands twice. A call that takes
  * more ends the program. Says how much of the stack each took where there is an argument, the most in any case, and last
  * 'N passed, M failed'. */
 #define _GNU_SOURCE
@@ -18,12 +18,15 @@
 /* The size of a store, and the number of buckets that its keys fall into. */
 typedef struct {
     const char *name;
-    size_t index, text, stack, buckets;
+    size_t index, text, buckets;
 } size;
 
 static const size sizes[] = {
-    {"small", RASPTEAL_SMALL_MAX, RASPTEAL_SMALL_MAX, RASPTEAL_STACK, 4096},
-    {"large", RASPTEAL_INDEX_MAX, RASPTEAL_TEXT_MAX, RASPTEAL_STACK_LARGE, 65535},
+    {"small", RASPTEAL_SMALL_MAX, RASPTEAL_SMALL_MAX, 4096},
+    {"double", 131072, RASPTEAL_TEXT_MAX / 8, 8192},
+    {"fourfold", 262144, RASPTEAL_TEXT_MAX / 4, 16384},
+    {"eightfold", 524288, RASPTEAL_TEXT_MAX / 2, 32768},
+    {"large", RASPTEAL_INDEX_MAX, RASPTEAL_TEXT_MAX, 65535},
 };
 
 #define SPREAD 40000 /* ordinary keys of a list that files each twice: more lines than an insert keeps in mind at once */
@@ -315,22 +318,23 @@ static uint8_t *new_stack(size_t len) {
 
 /* The store's calls on every family's stores of one size. */
 static void run_size(const size *s) {
-    uint8_t *stack = new_stack(s->stack);
+    size_t len = RASPTEAL_STACK_FOR(s->index);
+    uint8_t *stack = new_stack(len);
     index_len = s->index;
     text_len = s->text;
     spread();
-    deepest most = run(store_calls, COUNT(store_calls), "fresh", stack, s->stack);
+    deepest most = run(store_calls, COUNT(store_calls), "fresh", stack, len);
     for (size_t f = 0; f < COUNT(families); f++)
         for (size_t line = 1; line <= 33; line += 32) {
             fill(f, line, s->buckets);
-            most = deeper(most, run(store_calls, COUNT(store_calls), families[f].name, stack, s->stack));
+            most = deeper(most, run(store_calls, COUNT(store_calls), families[f].name, stack, len));
             if (sound == families[f].damaged)
                 printf("failed: a %s store is not as it was constructed: %s\n", s->name, families[f].name);
             passed += sound != families[f].damaged;
             failed += sound == families[f].damaged;
         }
     printf("the most stack on a %s store was taken by %s: %zu KB of %zu\n", s->name, most.name, most.bytes / 1024,
-           s->stack / 1024);
+           len / 1024);
 }
 
 int main(int argc, char **argv) {

@@ -12,7 +12,7 @@ use crate::batch::insert_batch;
 use crate::look::{line_at, look};
 use crate::owners::owner_of;
 use crate::parties::{Key, Party};
-use crate::rows::{Area, MANY_ROWS, ROWS, area_for};
+use crate::rows::by_area;
 use crate::saving::{file_built, refused_save, saved_as, unsaved_name};
 use crate::shares::{OWNERS, read_shares};
 use crate::soundness::{INDEX_MAX, LINE_MAX, TEXT_MAX, sound_in};
@@ -202,11 +202,7 @@ fn walk_insert(index: &mut [u8], text: &mut [u8], owner: u8, lines: &[u8]) -> Ta
     ensures { record { answer = result; index = index.new; text = text.new }
         ≡ store_walk index.old text.old owner lines.now }
 {
-    match area_for(index) {
-        None => UNSOUND,
-        Some(Area::Small) => walk_in::<ROWS>(index, text, owner, lines),
-        Some(Area::Large) => walk_in::<MANY_ROWS>(index, text, owner, lines),
-    }
+    by_area!(index, UNSOUND, walk_in(index, text, owner, lines))
 }
 
 // The same for a party, with the number of lines that were filed in another form of the UUID than 32 digits.

@@ -118,6 +118,7 @@ impl<const N: usize> Table<N> {
     }
 
     // Puts number k in front of its chain, and answers as `seek` does.
+    #[inline(always)]
     pub fn link(&mut self, k: usize, most: usize) -> usize
         requires k_lt_rows { k < length self.old.rows }
         requires chained { Chained (key_in self.old.rows) self.old.heads self.old.next k }

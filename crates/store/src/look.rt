@@ -8,7 +8,7 @@ use crate::calls::LookError;
 use crate::chains::Table;
 use crate::owners::owner_of;
 use crate::parties::{Key, Party};
-use crate::rows::{Area, MANY_ROWS, ROWS, Row, area_for};
+use crate::rows::{Row, by_area};
 use crate::soundness::Ledger;
 use crate::table::{Fill, len_before};
 use text::uuid::Uuid;
@@ -61,11 +61,7 @@ fn look_in<const N: usize>(index: &[u8], text: &[u8], key: Key) -> Result<Option
 fn look_by(index: &[u8], text: &[u8], key: Key) -> Result<Option<Part>, LookError>
     ensures { Sees text.now (look_by key index.now text.now) result }
 {
-    match area_for(index) {
-        None => Err(LookError::Unsound),
-        Some(Area::Small) => look_in::<ROWS>(index, text, key),
-        Some(Area::Large) => look_in::<MANY_ROWS>(index, text, key),
-    }
+    by_area!(index, Err(LookError::Unsound), look_in(index, text, key))
 }
 
 // Looks the line of a party's UUID up.

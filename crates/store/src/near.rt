@@ -9,7 +9,7 @@ use crate::chains::Table;
 use crate::look::{Part, line_at, part_of};
 use crate::owners::owner_of;
 use crate::parties::{Key, Party};
-use crate::rows::{Area, MANY_ROWS, ROWS, area_for};
+use crate::rows::by_area;
 use crate::soundness::Ledger;
 use crate::table::Fill;
 use text::uuid::Uuid;
@@ -59,11 +59,7 @@ fn near_in<const N: usize>(
 fn near_by(index: &[u8], text: &[u8], key: Key) -> Result<Option<(Nearness, Part)>, LookError>
     ensures { NearSees text.now (near_by key index.now text.now) result }
 {
-    match area_for(index) {
-        None => Err(LookError::Unsound),
-        Some(Area::Small) => near_in::<ROWS>(index, text, key),
-        Some(Area::Large) => near_in::<MANY_ROWS>(index, text, key),
-    }
+    by_area!(index, Err(LookError::Unsound), near_in(index, text, key))
 }
 
 // Looks the line of a party's UUID up, or that of the same without its checksum.

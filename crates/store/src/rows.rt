@@ -9,20 +9,30 @@ use crate::parties::Key;
 use crate::soundness::INDEX_MAX;
 use text::uuid::Uuid;
 
-// The rows of a small table and of a large one: more than an index of that size has records. A link is one more than a
-// number and has two bytes, so the large one has not 65536.
-pub const ROWS: usize = 4096;
+// The rows of the tables, each of twice as many as the one before. A link is one more than a number and has two bytes,
+// so the largest has not 65536.
+pub const SMALL_ROWS: usize = 4096;
 
-pub const MANY_ROWS: usize = 65535;
+pub const DOUBLE_ROWS: usize = 2 * SMALL_ROWS;
 
-// The longest index that a small table is for.
-const SMALL_MAX: usize = 65535;
+pub const FOURFOLD_ROWS: usize = 4 * SMALL_ROWS;
+
+pub const EIGHTFOLD_ROWS: usize = 8 * SMALL_ROWS;
+
+pub const LARGE_ROWS: usize = 65535;
+
+// The bytes of an index for which a table has a row. A record has 21 or more, so a quarter of the rows is left for the
+// lines of an insert.
+const BYTES_FOR_ROW: usize = 16;
 
 // Which table a call works with. The call's work is a function for a table of any size, which the compiler does not put
 // into the call: so on a small index no call takes the stack of a large table.
 #[derive(Clone, Copy)]
 pub enum Area {
     Small,
+    Double,
+    Fourfold,
+    Eightfold,
     Large,
 }
 
@@ -30,14 +40,38 @@ pub enum Area {
 pub fn area_for(index: &[u8]) -> Option<Area>
     ensures { Suits (length index.now) result }
 {
-    if INDEX_MAX < index.len() {
-        return None;
+    let len = index.len();
+    if len <= BYTES_FOR_ROW * SMALL_ROWS {
+        Some(Area::Small)
+    } else if len <= BYTES_FOR_ROW * DOUBLE_ROWS {
+        Some(Area::Double)
+    } else if len <= BYTES_FOR_ROW * FOURFOLD_ROWS {
+        Some(Area::Fourfold)
+    } else if len <= BYTES_FOR_ROW * EIGHTFOLD_ROWS {
+        Some(Area::Eightfold)
+    } else if len <= INDEX_MAX {
+        Some(Area::Large)
+    } else {
+        None
     }
-    if SMALL_MAX < index.len() {
-        return Some(Area::Large);
-    }
-    Some(Area::Small)
 }
+
+// Calls a function for a table of any size with the table for an index; one value where the index is too long. A macro,
+// since a function would take that function by its type, whose contract it had to say again.
+macro_rules! by_area {
+    ($index:expr, $too_long:expr, $work:ident($($argument:expr),*)) => {
+        match $crate::rows::area_for($index) {
+            None => $too_long,
+            Some($crate::rows::Area::Small) => $work::<{ $crate::rows::SMALL_ROWS }>($($argument),*),
+            Some($crate::rows::Area::Double) => $work::<{ $crate::rows::DOUBLE_ROWS }>($($argument),*),
+            Some($crate::rows::Area::Fourfold) => $work::<{ $crate::rows::FOURFOLD_ROWS }>($($argument),*),
+            Some($crate::rows::Area::Eightfold) => $work::<{ $crate::rows::EIGHTFOLD_ROWS }>($($argument),*),
+            Some($crate::rows::Area::Large) => $work::<{ $crate::rows::LARGE_ROWS }>($($argument),*),
+        }
+    };
+}
+
+pub(crate) use by_area;
 
 // The length is 0 where the line is struck out.
 #[derive(Clone, Copy)]

@@ -9,7 +9,7 @@ use crate::calls::{SaveError, Saved};
 use crate::claims::dues_of;
 use crate::filing::file_line;
 use crate::parties::Key;
-use crate::rows::{Area, MANY_ROWS, ROWS, area_for};
+use crate::rows::by_area;
 use crate::soundness::Ledger;
 use line::mapping::Mapping;
 use text::bytes::find_byte;
@@ -51,11 +51,11 @@ pub fn file_built(index: &mut [u8], text: &mut [u8], key: Key, line: &[u8]) -> R
     ensures { record { answer = result; index = index.new; text = text.new }
         ≡ store_file index.old text.old (record { key = key; line = line.now }) }
 {
-    match area_for(index) {
-        None => Err(SaveError::Unsound),
-        Some(Area::Small) => file_in::<ROWS>(index, text, key, line),
-        Some(Area::Large) => file_in::<MANY_ROWS>(index, text, key, line),
-    }
+    by_area!(
+        index,
+        Err(SaveError::Unsound),
+        file_in(index, text, key, line)
+    )
 }
 
 // Whether a name has LF or `platform:`.

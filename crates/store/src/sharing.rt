@@ -6,7 +6,7 @@ ghost use Rattle.store.specs.Store.{store_share, store_told};
 
 use crate::calls::StoreError;
 use crate::claims::{Listed, claims_of};
-use crate::rows::{Area, MANY_ROWS, ROWS, area_for};
+use crate::rows::by_area;
 use crate::shares::{OWNERS, change_share, share_place, share_size};
 use crate::soundness::Ledger;
 
@@ -45,11 +45,7 @@ fn share_in<const N: usize>(index: &[u8], text: &[u8], owner: u8) -> Result<Shar
 pub fn share_of(index: &[u8], text: &[u8], owner: u8) -> Result<ShareUse, Unsound>
     ensures { result ≡ store_told index.now text.now owner }
 {
-    match area_for(index) {
-        None => Err(Unsound),
-        Some(Area::Small) => share_in::<ROWS>(index, text, owner),
-        Some(Area::Large) => share_in::<MANY_ROWS>(index, text, owner),
-    }
+    by_area!(index, Err(Unsound), share_in(index, text, owner))
 }
 
 impl Listed<'_> {
@@ -130,9 +126,9 @@ pub fn set_share(index: &mut [u8], text: &[u8], owner: u8, bytes: usize) -> Resu
     ensures { record { answer = result; index = index.new; text = text.now }
         ≡ store_share index.old text.now owner bytes }
 {
-    match area_for(index) {
-        None => Err(StoreError::Unsound),
-        Some(Area::Small) => set_in::<ROWS>(index, text, owner, bytes),
-        Some(Area::Large) => set_in::<MANY_ROWS>(index, text, owner, bytes),
-    }
+    by_area!(
+        index,
+        Err(StoreError::Unsound),
+        set_in(index, text, owner, bytes)
+    )
 }

@@ -11,7 +11,7 @@ use crate::bytes::all_zero;
 use crate::chains::{Keyed, Table, Verdict, steps, told};
 use crate::order::each_once;
 use crate::records::{Head, stands, whole_head};
-use crate::rows::{Area, MANY_ROWS, ROWS, area_for};
+use crate::rows::by_area;
 use crate::shares::{OWNERS, read_shares};
 use crate::table::Fill;
 
@@ -157,9 +157,5 @@ pub fn sound_in<const N: usize>(index: &[u8], text: &[u8]) -> bool
 pub fn sound(index: &[u8], text: &[u8]) -> bool
     ensures { result ≡ known (content index.now text.now) }
 {
-    match area_for(index) {
-        None => false,
-        Some(Area::Small) => sound_in::<ROWS>(index, text),
-        Some(Area::Large) => sound_in::<MANY_ROWS>(index, text),
-    }
+    by_area!(index, false, sound_in(index, text))
 }

@@ -32,6 +32,7 @@ pub struct Fill {
 impl<const N: usize> Table<N> {
     // Writes a line down under number n, and answers as `seek` does: one more than the last number before it with the same
     // key, 0 where none has it, or n + 1 where the chain has more than `most` steps.
+    #[inline(always)]
     pub fn add_row(&mut self, n: usize, key: Key, start: usize, len: usize, most: usize) -> usize
         requires n_lt_rows { n < length self.old.rows }
         requires chained { Chained (key_in self.old.rows) self.old.heads self.old.next n }
