@@ -1,6 +1,7 @@
 -- The lines that raw values run along: what private functions compute with. No public contract cites these.
 -- Assumes nothing.
-use Rattle.std.specs.Prelude.{ℕ, ◌+◌, ◌/◌, ◌%◌, ◌≤◌, ◌≡◌, Bool, List, [], ◌∷◌, get_or, ℤ, pos, negsuc, ◌+ℤ◌, ◌*ℤ◌, Option, unsigned_abs}
+use Rattle.std.specs.Prelude.{ℕ, ◌+◌, ◌/◌, ◌%◌, ◌≤◌, ◌≡◌, Bool, List, [], ◌∷◌, get_or, ℤ, pos, negsuc, ◌+ℤ◌, ◌*ℤ◌}
+use Rattle.std.specs.Prelude.{Option, unsigned_abs}
 use Rattle.std.specs.Bool.{then_some}
 use Rattle.std.specs.Int.{w16, cast_signed, from_bool}
 use lib.Signed.{le_z}

@@ -2,7 +2,8 @@
 // branch asks for it: where codes come mixed, a processor foresees no such branch, and each that it takes for the wrong
 // one costs more than all that is computed here.
 ghost use Rattle.std.specs.Prelude.{◌≡◌, ◌<◌};
-ghost use Rattle.pad.specs.Lines.{input_rows, half_rows, output_rows, raw_rows, button_step, raw_step, line_in, line_of, Gentle, along, counts};
+ghost use Rattle.pad.specs.Lines.{input_rows, half_rows, output_rows, raw_rows, button_step, raw_step};
+ghost use Rattle.pad.specs.Lines.{line_in, line_of, Gentle, along, counts};
 ghost use Rattle.pad.specs.ValueClaims.{RawWithin};
 
 use crate::events::Raw;
@@ -230,6 +231,8 @@ pub fn line_of(e: AxisOrBtn, r: Ranges, raw: Raw) -> Line
     line_in(raw_rows(r.input, raw) + output_rows(e, r.output) + r.inverted as usize)
 }
 
+// What both methods ask is that no sum is below 0 or too large, which `line_of` promises. No field says it: the lines
+// stand in a static, which is plain data.
 impl Line {
     // The value at v.
     pub fn along(self, v: i16) -> i16

@@ -8,11 +8,11 @@ use crate::lines::{line_of, raw_step};
 use line::ev::Code;
 use line::mapping::{Entry, Mapping};
 
-// What a raw value gives to the element of an entry: a value, or none. Its line is looked up and the value computed
-// whatever comes, also where there is none: lines.rt says why no branch asks.
+// What a raw value gives to the element of an entry: a value, or none.
 pub fn entry_value(e: Entry, raw: Raw) -> Option<i16>
     ensures { result ≡ entry_value e raw }
 {
+    // The value is computed whatever comes, also where there is none: lines.rt says why no branch asks.
     let line = line_of(e.element, e.ranges, raw);
     let v = raw_step(raw);
     line.counts(v).then_some(line.along(v))
