@@ -38,7 +38,7 @@ FOLDERS = ("crates/", "docs/", "tests/", "bindings/", "differential/", "share/",
 KEYWORDS = set("pub abbrev unfoldable record data where let in use mod as ensures requires result now old new ghost "
                "Type Unit TheVariants".split())
 LAYERS = ("text", "line", "map", "store", "pad")
-FOR_PROGRAMS = ("desk", "desk_pads", "desk_store")
+FOR_PROGRAMS = ("desk", "desk_records", "desk_pads", "desk_store")
 FOR_TESTS = ("parts", "spelling")
 NOT_OURS = ("add_env_mappings add_included_mappings black_box gilrs_core pg_terminate_backend pg_xact_status "
             "synchronous_commit").split()

@@ -10,7 +10,6 @@ pub mod layout;
 pub mod pairs;
 pub mod playing;
 pub mod plugged;
-pub mod refusals;
 pub mod reports;
 pub mod slots;
 pub mod table;

@@ -1,9 +1,9 @@
 // What an insert makes of each line of a list.
-use crate::records::View;
 use desk::fields::{bare, before, first};
 use desk::files::arg_space;
 use desk::tally::count_one;
 use desk_pads::pairs::is_readable;
+use desk_records::records::View;
 use store::calls::{StoreError, insert};
 use store::parties::Party;
 use text::uuid::Uuid;

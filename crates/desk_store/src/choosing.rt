@@ -1,10 +1,10 @@
 // Which lines of a list an insert with `only=TEXT` is about.
-use crate::records::{name_of, uuid_of};
 use desk::console::Console;
 use desk::fields::{after, bare, before};
 use desk::matching::has_part;
 use desk::say::Failure;
 use desk_pads::plugged::{Guids, plugged_guids};
+use desk_records::records::{name_of, uuid_of};
 use std::alloc::{AllocError, Global};
 use text::uuid::Uuid;
 

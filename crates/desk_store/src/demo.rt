@@ -1,12 +1,12 @@
 // The main job in one go, on a store in memory and a small list. Each step is headed by the command that does the same.
-use crate::holding::{say_line, say_list, say_sound};
-use crate::records::{LineKey, View};
 use crate::reports::Report;
 use crate::saving::say_saved;
 use desk::console::Console;
 use desk::files::{Size, StoreFile};
 use desk::say::{Failure, say};
 use desk_pads::table::say_reading;
+use desk_records::holding::{say_line, say_list, say_sound};
+use desk_records::records::{LineKey, View};
 use line::ev::{Axis, Button, Code};
 use map::mapping_data::MappingData;
 use store::calls::{insert, save};

@@ -1,8 +1,4 @@
 // The command edit: pairs of a line that is held, changed by arguments as `a:b1`.
-use crate::parties::Caller;
-use crate::records::{LineKey, View};
-use crate::targets::Target;
-use crate::wrong::{id_named, wrong};
 use arrayvec::ArrayVec;
 use desk::arguments::is_party;
 use desk::console::{Console, argument, argument_count};
@@ -15,7 +11,11 @@ use desk::shown::say_shown;
 use desk::words::none;
 use desk_pads::bound::say_lost;
 use desk_pads::pairs::readable_status;
-use desk_pads::refusals::{refused_by, refused_outcome};
+use desk_records::parties::Caller;
+use desk_records::records::{LineKey, View};
+use desk_records::refusals::{refused_by, refused_outcome};
+use desk_records::targets::Target;
+use desk_records::wrong::{id_named, wrong};
 use line::parser::ErrorKind;
 use line::refusal::Refusal;
 use store::calls::{StoreError, insert};

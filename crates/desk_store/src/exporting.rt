@@ -1,14 +1,14 @@
 // The command export: lines for other programs.
 use crate::choosing::is_one;
-use crate::holding::sound;
-use crate::parties::{Caller, owner_of};
-use crate::records::{View, uuid_of};
 use desk::arguments::has_word;
 use desk::console::Console;
 use desk::files::load;
 use desk::help::wrong_use;
 use desk::matching::has_text;
 use desk::say::{Failure, OUT, put_uuid, say};
+use desk_records::holding::sound;
+use desk_records::parties::{Caller, owner_of};
+use desk_records::records::{View, uuid_of};
 
 // A line, or its UUID in 32 digits and the rest of it. `digits` is the word that was typed or was not: a line has one of
 // two forms, and nothing more comes with either.

@@ -1,13 +1,13 @@
 // The commands that change a whole store: new, grow, clear, undo.
-use crate::holding::{say_extent, say_sound, sound};
-use crate::records::View;
-use crate::targets::Target;
 use desk::changing::load_old;
 use desk::console::Console;
 use desk::files::{Size, StoreFile, stands};
 use desk::say::{Failure, complain, say};
 use desk::shown::{complain_shown, say_shown};
-use desk_pads::refusals::refused_outcome;
+use desk_records::holding::{say_extent, say_sound, sound};
+use desk_records::records::View;
+use desk_records::refusals::refused_outcome;
+use desk_records::targets::Target;
 use store::calls::clear;
 use store::parties::Party;
 use store::refusal::store_outcome;

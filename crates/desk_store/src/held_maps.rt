@@ -1,12 +1,12 @@
 // The map of a line that is held, read with a pad's codes.
-use crate::holding::near_line;
-use crate::records::{LineKey, View};
-use crate::wrong::complain_about;
 use desk::codes::Codes;
 use desk::console::Console;
 use desk::say::{ERR, Failure};
 use desk_pads::excerpt::put_reading_refused;
 use desk_pads::plugged::Plugged;
+use desk_records::holding::near_line;
+use desk_records::records::{LineKey, View};
+use desk_records::wrong::complain_about;
 use line::mapping::Mapping;
 use line::reading::{SdlMapping, parse_sdl_mapping};
 

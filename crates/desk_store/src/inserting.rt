@@ -1,11 +1,7 @@
 // The command insert.
 use crate::census::count_lines;
 use crate::choosing::{Choice, is_one};
-use crate::holding::lines_held;
-use crate::parties::Caller;
-use crate::records::View;
 use crate::reports::{Report, has_filed};
-use crate::targets::Target;
 use desk::arguments::argument_with;
 use desk::console::{Console, argument};
 use desk::fields::after;
@@ -14,6 +10,10 @@ use desk::help::wrong_use;
 use desk::say::{Failure, say, say_number};
 use desk::shown::say_shown;
 use desk::words::none;
+use desk_records::holding::lines_held;
+use desk_records::parties::Caller;
+use desk_records::records::View;
+use desk_records::targets::Target;
 use store::calls::insert;
 use store::parties::Party;
 

@@ -1,9 +1,5 @@
 // The arguments of commands on mappings, and two of these: show, default.
 use crate::held_maps::Lists;
-use crate::holding::{near_line, say_shown_line};
-use crate::parties::Caller;
-use crate::records::{LineKey, View};
-use crate::wrong::id_named;
 use desk::arguments::has_word;
 use desk::codes::{Kind, codes_named};
 use desk::console::Console;
@@ -11,9 +7,13 @@ use desk::files::load;
 use desk::say::{Failure, complain};
 use desk_pads::pairs::say_pairs;
 use desk_pads::plugged::{Plugged, is_pad_name, pad_named};
-use desk_pads::refusals::refused_by;
 use desk_pads::slots::{Slots, slots_named};
 use desk_pads::table::{say_map, say_reading};
+use desk_records::holding::{near_line, say_shown_line};
+use desk_records::parties::Caller;
+use desk_records::records::{LineKey, View};
+use desk_records::refusals::refused_by;
+use desk_records::wrong::id_named;
 use map::default::default;
 use store::parties::Party;
 use text::uuid::Uuid;

@@ -2,15 +2,15 @@
 // library lays one out, and what is written is looked at. Unless it is sound, and all else in it as it was, nothing is
 // changed.
 use crate::editing::exact;
-use crate::holding::{say_shown_line, say_sound};
-use crate::parties::Caller;
-use crate::records::{Entry, LineKey, Record, View};
-use crate::targets::Target;
-use crate::wrong::id_named;
 use desk::console::Console;
 use desk::files::StoreFile;
 use desk::help::wrong_use;
 use desk::say::{Failure, complain, say};
+use desk_records::holding::{say_shown_line, say_sound};
+use desk_records::parties::Caller;
+use desk_records::records::{Entry, LineKey, Record, View};
+use desk_records::targets::Target;
+use desk_records::wrong::id_named;
 use std::alloc::{AllocError, Global};
 use store::calls::found;
 use store::parties::Party;

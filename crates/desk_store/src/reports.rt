@@ -1,15 +1,15 @@
 // What the command insert says of a list, and why a store has no room.
 use crate::census::{Census, count_lines, nth_line};
-use crate::holding::{line_room, lines_held};
-use crate::records::{LineKey, View};
-use crate::shares::{complain_claims, free_for};
 use desk::console::Console;
 use desk::fields::{before, first};
 use desk::forms::say_other_forms;
 use desk::say::{ERR, Failure, OUT, complain, put_number, say, say_number};
 use desk::words::put_refused;
 use desk_pads::excerpt::put_start;
-use desk_pads::refusals::refused_by;
+use desk_records::holding::{line_room, lines_held};
+use desk_records::records::{LineKey, View};
+use desk_records::refusals::refused_by;
+use desk_records::shares::{complain_claims, free_for};
 use store::calls::{Inserted, StoreError};
 use store::parties::Party;
 use text::uuid::Uuid;

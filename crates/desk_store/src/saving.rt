@@ -1,11 +1,7 @@
 // The command save.
 use crate::held_maps::Lists;
-use crate::holding::say_shown_line;
 use crate::mappings::Request;
-use crate::records::{LineKey, View};
 use crate::reports::{Full, NoRoom};
-use crate::targets::Target;
-use crate::wrong::id_named;
 use desk::console::{Console, argument};
 use desk::files::{StoreFile, arg_space};
 use desk::say::{ERR, Failure, complain, put_code, say};
@@ -14,9 +10,13 @@ use desk::words::put_refused;
 use desk_pads::bound::{say_lost, slot_with, twins};
 use desk_pads::elements::{BUTTONS, ELEMENTS, element_at, put_element, put_ident};
 use desk_pads::plugged::{is_pad_name, pad_named};
-use desk_pads::refusals::refused_by;
 use desk_pads::slots::Slots;
 use desk_pads::table::say_map;
+use desk_records::holding::say_shown_line;
+use desk_records::records::{LineKey, View};
+use desk_records::refusals::refused_by;
+use desk_records::targets::Target;
+use desk_records::wrong::id_named;
 use line::ev::Code;
 use line::mapping::Mapping;
 use map::error::MappingError;

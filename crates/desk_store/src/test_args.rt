@@ -1,9 +1,6 @@
 // The arguments of the command test after the store and the UUID.
 use crate::held_maps::Lists;
 use crate::map_changes::{is_change, parse_count};
-use crate::parties::Caller;
-use crate::records::{LineKey, View};
-use crate::wrong::wrong;
 use desk::arguments::is_party;
 use desk::codes::{Codes, Kind, codes_named};
 use desk::console::{Console, argument, argument_count};
@@ -13,6 +10,9 @@ use desk::help::wrong_use;
 use desk::say::{Failure, complain};
 use desk::shown::complain_shown;
 use desk_pads::plugged::Plugged;
+use desk_records::parties::Caller;
+use desk_records::records::{LineKey, View};
+use desk_records::wrong::wrong;
 use pad::two::Which;
 use store::parties::Party;
 use text::uuid::Uuid;

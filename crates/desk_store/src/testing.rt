@@ -1,10 +1,7 @@
 // The command test: lines that are held are read, and what the events of recordings give by them is told.
 use crate::held_maps::map_of;
-use crate::holding::{near_line, say_shown_line};
 use crate::map_changes::{all_came, due_from};
-use crate::records::View;
 use crate::test_args::{Request, Seen, Test};
-use crate::wrong::{id_named, wrong};
 use desk::console::{Console, argument};
 use desk::fields::after;
 use desk::files::{arg_space, load};
@@ -15,6 +12,9 @@ use desk::tally::{say_tally, tally_status};
 use desk_pads::playing::{Play, Seat, say_end};
 use desk_pads::plugged::{is_pad_name, pad_named};
 use desk_pads::telling::tell_input;
+use desk_records::holding::{near_line, say_shown_line};
+use desk_records::records::View;
+use desk_records::wrong::{id_named, wrong};
 use line::mapping::Mapping;
 use pad::two::Which;
 use text::uuid::Uuid;

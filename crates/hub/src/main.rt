@@ -9,10 +9,10 @@ use desk::help::wrong_use;
 use desk::say::{Failure, STATUS, complain, complain_memory, exit_status};
 use desk::{advice, help};
 use desk_pads::{elements, layout, plugged, tidying};
-use desk_store::targets::Target;
+use desk_records::targets::Target;
+use desk_records::{holding, shares};
 use desk_store::{
-    demo, editing, exporting, filing, holding, inserting, lint, mappings, removing, saving, shares,
-    testing,
+    demo, editing, exporting, filing, inserting, lint, mappings, removing, saving, testing,
 };
 use std::process::ExitCode;
 use text::decimal::parse_u16;
@@ -100,7 +100,27 @@ fn run_default(console: &Console, call: &Call) -> Result<(), Failure> {
     mappings::default_mapping(console, call.behind(0))
 }
 
-// The commands on a store.
+// The commands that change a store.
+fn change_store(console: &Console, call: &Call) -> Result<(), Failure> {
+    let (target, key, from) = (call.target(), call.b, call.behind(2));
+    match (call.name, call.given) {
+        (b"new", 1) => filing::new_store(console, target, Size::Small),
+        (b"new", 2) if key == b"large".as_slice() => {
+            filing::new_store(console, target, Size::Large)
+        }
+        (b"grow", 1) => filing::grow_store(console, target),
+        (b"insert", 2..) => inserting::insert_list(console, target, key, from),
+        (b"save", 3..) => saving::save_mapping(console, target, key, from),
+        (b"share", 3) => shares::give_share(console, target, key, from),
+        (b"edit", 3..) => editing::edit_line(console, target, key, from),
+        (b"remove", 2..) => removing::remove_line(console, target, key, from),
+        (b"clear", 1) => filing::clear_store(console, target),
+        (b"undo", 1) => filing::undo(console, target),
+        _ => Err(wrong_use(console, call.name)),
+    }
+}
+
+// The commands on a store: those that look in stand here.
 fn run_on_store(console: &Console, call: &Call) -> Result<(), Failure> {
     let (path, key, from) = (call.a, call.b, call.behind(2));
     match (call.name, call.given) {
@@ -112,19 +132,7 @@ fn run_on_store(console: &Console, call: &Call) -> Result<(), Failure> {
         (b"shares", 1) => shares::list_shares(console, path),
         (b"show", 2..) => mappings::show_mapping(console, path, key, from),
         (b"test", 2..) => testing::test_mapping(console, path, key, from),
-        (b"new", 1) => filing::new_store(console, call.target(), Size::Small),
-        (b"new", 2) if key == b"large".as_slice() => {
-            filing::new_store(console, call.target(), Size::Large)
-        }
-        (b"grow", 1) => filing::grow_store(console, call.target()),
-        (b"insert", 2..) => inserting::insert_list(console, call.target(), key, from),
-        (b"save", 3..) => saving::save_mapping(console, call.target(), key, from),
-        (b"share", 3) => shares::give_share(console, call.target(), key, from),
-        (b"edit", 3..) => editing::edit_line(console, call.target(), key, from),
-        (b"remove", 2..) => removing::remove_line(console, call.target(), key, from),
-        (b"clear", 1) => filing::clear_store(console, call.target()),
-        (b"undo", 1) => filing::undo(console, call.target()),
-        _ => Err(wrong_use(console, call.name)),
+        _ => change_store(console, call),
     }
 }
 

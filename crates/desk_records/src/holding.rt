@@ -2,6 +2,7 @@
 use crate::names::{say_named, say_owner, say_rows};
 use crate::parties::Caller;
 use crate::records::{LineKey, Record, View};
+use crate::refusals::refused_by;
 use crate::shares::{Ledger, put_sum};
 use crate::wrong::complain_about;
 use desk::console::Console;
@@ -12,7 +13,6 @@ use desk::say::{Failure, OUT, say, say_number};
 use desk::shown::say_shown;
 use desk::tally::count_one;
 use desk::words::none;
-use desk_pads::refusals::refused_by;
 use store::calls::found;
 use store::near::{Nearness, found_near};
 use store::parties::Party;
@@ -30,7 +30,7 @@ struct Extent {
 
 // The line that a party holds under a UUID, or else under that without its checksum. What is not exact is said, of the
 // argument `arg` where that is not empty.
-pub(crate) fn near_line<'a>(
+pub fn near_line<'a>(
     console: &Console,
     store: View<'a>,
     key: LineKey,
@@ -52,7 +52,7 @@ pub(crate) fn near_line<'a>(
 }
 
 // Prints a line, shown, and its end.
-pub(crate) fn say_shown_line(console: &Console, line: &[u8]) {
+pub fn say_shown_line(console: &Console, line: &[u8]) {
     say_shown(console, line);
     say(console, b"\n");
 }
@@ -64,7 +64,7 @@ pub fn say_line(console: &Console, store: View, key: LineKey) -> Result<(), Fail
 }
 
 // Whether a store is sound, and the party one that may look into it: what is refused is said.
-pub(crate) fn sound(console: &Console, store: View, party: Party) -> Result<(), Failure> {
+pub fn sound(console: &Console, store: View, party: Party) -> Result<(), Failure> {
     found(store.index, store.text, party, Uuid::NIL).map_err(|e| refused_by(console, e.refusal()))?;
     Ok(())
 }
@@ -172,7 +172,7 @@ pub fn line_room(store: View, party: Party) -> usize {
 }
 
 // What is held and what room is left, and where a share is set what the parties claim.
-pub(crate) fn say_extent(console: &Console, store: View) {
+pub fn say_extent(console: &Console, store: View) {
     let held = Extent::of(store);
     if held.shares == 0 {
         let left = store.text.len().saturating_sub(held.bytes);
@@ -188,7 +188,7 @@ pub(crate) fn say_extent(console: &Console, store: View) {
 
 // That a store is sound, and what it holds. This, say_long and say_list differ in what is printed between two calls:
 // one function for all would take that as a closure, ask a `requires` of it, and be no shorter.
-pub(crate) fn say_sound(console: &Console, store: View) -> Result<(), Failure> {
+pub fn say_sound(console: &Console, store: View) -> Result<(), Failure> {
     sound(console, store, Party::Hall)?;
     say(console, b"sound: ");
     say_extent(console, store);
@@ -206,7 +206,7 @@ fn say_long(console: &Console, store: View) -> Result<(), Failure> {
 }
 
 // The rows of a store, by name, and what it holds.
-pub(crate) fn say_list(console: &Console, store: View) -> Result<(), Failure> {
+pub fn say_list(console: &Console, store: View) -> Result<(), Failure> {
     sound(console, store, Party::Hall)?;
     say_rows(console, store)?;
     say_extent(console, store);

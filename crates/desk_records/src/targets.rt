@@ -13,21 +13,21 @@ pub struct Target<'a> {
 
 impl Target<'_> {
     // Only where the lock is held.
-    pub(crate) fn may_change(self, console: &Console) -> Result<(), Failure> {
+    pub fn may_change(self, console: &Console) -> Result<(), Failure> {
         may_change(console, self.held)
     }
 
-    pub(crate) fn load(self, console: &Console) -> Result<StoreFile, Failure> {
+    pub fn load(self, console: &Console) -> Result<StoreFile, Failure> {
         load(console, self.path)
     }
 
     // Puts a store where there is none.
-    pub(crate) fn place(self, console: &Console, file: &StoreFile) -> Result<(), Failure> {
+    pub fn place(self, console: &Console, file: &StoreFile) -> Result<(), Failure> {
         place(console, self.path, self.held, Halves::from(file))
     }
 
     // Puts a store in the place of the former one, which is kept as STORE.old.
-    pub(crate) fn replace(
+    pub fn replace(
         self,
         console: &Console,
         former: &StoreFile,

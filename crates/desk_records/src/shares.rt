@@ -1,13 +1,13 @@
 // The parties' shares of the text: the commands share and shares, and who claims what of it.
 use crate::parties::owner_of;
 use crate::records::{Entry, Record, View};
+use crate::refusals::refused_by;
 use crate::targets::Target;
 use crate::wrong::wrong;
 use desk::console::{Console, argument};
 use desk::files::{arg_space, load};
 use desk::say::{ERR, Failure, OUT, complain, put, put_number};
 use desk::words::put_refused;
-use desk_pads::refusals::refused_by;
 use std::str;
 use store::calls::StoreError;
 use store::parties::Party;

@@ -3,7 +3,7 @@ use borrow.Author.Rules.{rules}
 use mathlib.Core.Path.{sym, ◌∙◌}
 use Prim.Native.Nat.{◌≤◌}
 use Rattle.store.proofs.WalkedLaws.{record_in}
-use Rattle.desk_store.proofs.records.RecordsIterator.next.Goals as goal
+use Rattle.desk_records.proofs.records.RecordsIterator.next.Goals as goal
 
 pub returns-clause-goes : goal.returns-clause-goes
 returns-clause-goes c =
