@@ -13,8 +13,11 @@ pub struct Hold {
 }
 
 /// Rows of ordinary lists, and those of constructed ones beside them.
-const AIMS: [[&str; 2]; 2] =
-    [["found-growth", "found-worst-growth"], ["found-large-growth", "found-large-worst-growth"]];
+const AIMS: [[&str; 2]; 3] = [
+    ["found-growth", "found-worst-growth"],
+    ["found-large-growth", "found-large-worst-growth"],
+    ["insert-growth", "insert-tree-growth"],
+];
 
 /// How many times as much as ordinary lists the worst of the constructed ones has to cost.
 const AIMED: f64 = 1.5;

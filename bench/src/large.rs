@@ -14,7 +14,7 @@ const WORST: Goal = Goal::AtMostEach(15.0, [Side::Sum, Side::Random]);
 const AGAINST_RANDOM: Goal = Goal::AtMost(15.0, Side::Random);
 const BYTES: Goal = Goal::AtMost(3.0, Side::Sum);
 
-pub const ROWS: [Row; 19] = [
+pub const ROWS: [Row; 21] = [
     row("found-large", "`found`, large stores, ordinary UUIDs", ORDINARY, |_| sizes(Call::Found)),
     row("get-large", "`get`, large stores, ordinary UUIDs", ORDINARY, |_| sizes(Call::Get)),
     row("found-bytes", "`found`, lines of 1 byte", BYTES, |_| of_bytes(Call::Found)),
@@ -34,6 +34,8 @@ pub const ROWS: [Row; 19] = [
     row("insert-large-again", "`insert` of the whole list again, 1 in 16 new", LINEAR, |_| insert_again()),
     row("insert-worst", "`insert` into a fresh store, every family", AGAINST_RANDOM, |_| insert_worst()),
     row("insert-worst-growth", "`insert` into a fresh store, every family", LINEAR, |_| insert_growth()),
+    row("insert-growth", "`insert` into a fresh store, random UUIDs", LINEAR, |_| inserts(vec![random()])),
+    row("insert-tree-growth", "`insert` into a fresh store, UUIDs that want its tree", LINEAR, |_| inserts(deep())),
 ];
 
 /// Lines of 32 bytes, the shortest that a call files, and how many of them there are: each size is twice the one before,
@@ -49,6 +51,8 @@ const AGAIN: [usize; 5] = [2688, 5376, 10752, 21504, 43008];
 /// Lists that are inserted into a fresh store; the first three have room in a small one.
 const INSERTED: [usize; 7] = [715, 1430, 2860, 5720, 11440, 22880, 45760];
 const SMALL: usize = 3;
+/// Some of them, for counts of instructions.
+const COUNTED: [usize; 3] = [2860, 5720, 11440];
 /// As many lines as the lists of a platform have.
 const COMMUNITY: usize = 2000;
 
@@ -67,6 +71,11 @@ fn against() -> Vec<&'static Family> {
 /// Those whose stores are sound, and the hall's.
 fn sound() -> Vec<&'static Family> {
     all(&[&uuids::CONSTRUCTED[..5], &uuids::LARGE])
+}
+
+/// Those that an insert puts into its tree from the nineteenth line on, or soon after.
+fn deep() -> Vec<&'static Family> {
+    all(&[&uuids::CONSTRUCTED[1..2], &uuids::LARGE[3..], &uuids::PATHS])
 }
 
 fn random() -> &'static Family {
@@ -240,4 +249,8 @@ fn insert_growth() -> Vec<Case> {
         of_size(&family, n, inserted(f, n, least))
     };
     every().into_iter().flat_map(|f| each_size().into_iter().map(move |size| one(f, size))).collect()
+}
+
+fn inserts(families: Vec<&'static Family>) -> Vec<Case> {
+    families.into_iter().flat_map(|f| COUNTED.map(|n| of_size(f.name, n, inserted(f, n, LARGE)))).collect()
 }

@@ -38,8 +38,13 @@ pub const LARGE: [Family; 4] = [
     Family { name: "one sum, many halves", list: |n, seed| hall(one_sum(n, seed)) },
 ];
 
-/// Against a search tree by the bits of a key, from the last one on.
-pub const PATHS: [Family; 1] = [Family { name: "one bucket, then ends alike", list: |n, seed| hall(ends_alike(n, seed)) }];
+/// Against the search tree of an insert, whose paths go by the bits of a key.
+pub const PATHS: [Family; 4] = [
+    Family { name: "one bucket, then ends alike", list: |n, seed| hall(alike(n, seed, |bit| bit)) },
+    Family { name: "one bucket, then paths alike", list: |n, seed| hall(alike(n, seed, |bit| (bit + 64) % 128)) },
+    Family { name: "one bucket, then one long path", list: |n, seed| hall(long_paths(n, seed, 16)) },
+    Family { name: "one bucket, then long paths", list: |n, seed| hall(long_paths(n, seed, 8)) },
+];
 
 /// Lists that name a UUID more than once, for inserts.
 pub const REPEATED: [Family; 2] = [
@@ -85,10 +90,15 @@ pub fn pads(n: usize, seed: u64) -> Vec<Uuid> {
         .collect()
 }
 
+/// Any half of a UUID.
+fn half(r: &mut Rng) -> u64 {
+    r.next() << 11 ^ r.next()
+}
+
 /// Version 4, as a generator makes them.
 pub fn random(n: usize, seed: u64) -> Vec<Uuid> {
     let mut r = Rng::new(2000 + seed);
-    (0..n).map(|_| halves(r.next() << 11 ^ r.next(), r.next() << 11 ^ r.next())).collect()
+    (0..n).map(|_| halves(half(&mut r), half(&mut r))).collect()
 }
 
 fn ascending(n: usize, seed: u64) -> Vec<Uuid> {
@@ -102,8 +112,9 @@ fn halves(high: u64, low: u64) -> Uuid {
 
 // What the lists aim at: the store puts a key into one of 4096 buckets, (31 high + low + 7919 owner) mod 65449 mod 4096,
 // where the sum wraps at 64 bits, compares it with at most 16 of its bucket, and sorts all where a bucket has more. Where
-// the index has more than 65535 bytes there are 65535 buckets, by the same sum. An insert compares a key with all of its
-// bucket.
+// the index has more than 65536 bytes there are 8192 to 65535 buckets, by the same sum. An insert compares a key with at
+// most 16 of its bucket and its first; where a bucket has more, it puts all keys into a tree, three bits a step: those of
+// the first half, then of the second, each from the last bit on.
 const PRIME: u64 = 65449;
 const OWNER: u64 = 7919;
 const CHAIN: usize = 17;
@@ -186,15 +197,33 @@ fn one_sum(n: usize, seed: u64) -> Vec<Uuid> {
         .collect()
 }
 
-/// Paths of 128 UUIDs, each of which has a bit more at its end in common with the first than the one before; and in
-/// front a bucket with one too many.
-fn ends_alike(n: usize, seed: u64) -> Vec<Uuid> {
+/// A bucket with too many, for the front of a list.
+fn overfull(n: usize, seed: u64) -> Vec<Uuid> {
+    one_bucket(n.min(2 * CHAIN), seed, multiple)
+}
+
+/// Paths of 128 UUIDs, each of which has a bit more in common with the first than the one before, in that order of bits.
+fn alike(n: usize, seed: u64, order: fn(u32) -> u32) -> Vec<Uuid> {
     let mut r = Rng::new(9000 + seed);
-    let mut list = one_bucket(n.min(CHAIN + 1), seed, multiple);
+    let mut list = overfull(n, seed);
     while list.len() < n {
-        let first = u128::from_be_bytes(halves(r.next() << 11 ^ r.next(), r.next() << 11 ^ r.next()));
-        list.extend((0..128).map(|bit| (first ^ 1 << bit).to_be_bytes()).take(n - list.len()));
+        let first = u128::from_be_bytes(halves(half(&mut r), half(&mut r)));
+        list.extend((0..128).map(|bit| (first ^ 1 << order(bit)).to_be_bytes()).take(n - list.len()));
     }
+    list
+}
+
+/// UUIDs that differ at the end of their paths alone, in that many bits, in turn from as many groups as there have to be:
+/// each group's first ones make a long path, and the others stand at its end.
+fn long_paths(n: usize, seed: u64, bits: u32) -> Vec<Uuid> {
+    let mut r = Rng::new(10000 + seed);
+    let groups: Vec<(u64, u64)> = (0..n.div_ceil(1 << bits)).map(|_| (half(&mut r), half(&mut r) >> bits)).collect();
+    let mut list = overfull(n, seed);
+    let one = |k: usize| {
+        let (high, low) = groups[k % groups.len()];
+        halves(high, low | ((k / groups.len()) as u64) << (64 - bits))
+    };
+    list.extend((0..n - list.len()).map(one));
     list
 }
 

@@ -31,9 +31,9 @@ use Rattle.store.specs.Layout.{Bytes}
 use Rattle.store.specs.Inner.{GoodFor, behind, first_line, known, insert_full}
 use Rattle.store.specs.Claims.{not_of, Owed}
 use Rattle.store.specs.Lines.{lines_of, wanted}
-use Rattle.store.specs.Table.{Tabled, Settles, Settled, InStanding, Loads, Files', Filed, fits, full}
+use Rattle.store.specs.Table.{Settles, Settled, InStanding, Loads, Files', Filed, fits, full}
 use Rattle.store.specs.Table.{FilesRow, Comes, goes, stops}
-use Rattle.store.specs.Table.{SomeRows, ReachesRow, Takes, onward, halted, Went, TakesLines, Encoded, Batches}
+use Rattle.store.specs.Table.{SomeRows, ReachesRow, Takes, onward, halted, Went, Stood, TakesLines, Encoded, Batches}
 use Rattle.store.proofs.BookLaws.{Kept, keeps_reach}
 use Rattle.store.proofs.WantedLaws.{wanted-some}
 use Rattle.store.proofs.DecodeLaws.{laid, lines_of_lem}
@@ -170,13 +170,14 @@ module _ {d : Dues} {i t s : List ℕ} {a₀ : List Row} {heads₀ next₀ : Lis
 
     -- the insert goes on from `at`
     pub take_on : (w₀.fill.count < length a₀ → from < length s → from < at)
-        → TakesLines d i t s a₀ heads₀ next₀ own from w₀ a
-        (record { answer = Ok tt; at = at; count = count; filled = w.fill.count })
-        × Went s from w₀.fill.count (length a₀) (record { answer = Ok tt; at = at; count = count; filled = w.fill.count })
+        → TakesLines d i t s a₀ heads₀ next₀ own from w₀ a heads next
+        (record { answer = Ok tt; at = at; count = count; standing = w })
+        × Went s from w₀.fill.count (length a₀) (record { answer = Ok tt; at = at; count = count; standing = w })
     take_on moves = (
       λ g old hs o p.
           let x : Took g i t s a heads next own from old w at count hs = k.took g old hs o p in
-          onward x.ks refl x.run x.keeps x.standing.in_rows.tabled,
+          onward x.ks refl x.run x.keeps
+          (record { tabled = x.standing.in_rows.tabled; others = x.others; goes_on = λ e. x.standing }),
       record { within = k.within; counted = k.counted; moved = λ p q o. moves p q },
     )
 
@@ -207,14 +208,19 @@ module _ {d : Dues} {i t s : List ℕ} {a₀ : List Row} {heads₀ next₀ : Lis
             (λ js. insert_lines by js (suc (c + count)) (lines_of (drop (at + (end + 1)) s)))) q
 
         stopped_at : (e : StoreError) → r ≡ Err e → Comes g i t s a' heads' next' old own line x.ks w r
-            → Takes (behind g i t own) s from hs (record { answer = Err e; at = at; count = count; filled = w.fill.count })
-            (Tabled i t s a' old w.fill.count)
+            → Takes (behind g i t own) s from hs (record { answer = Err e; at = at; count = count; standing = w })
+            (Stood i t s a' heads' next' old own hs (record { answer = Err e; at = at; count = count; standing = w }))
         stopped_at e z (goes w' js q v p) = let n : ◌≡◌ {A = ℕ} 0 1 = cc in absurd (omega arith)
         stopped_at e z (stops e' q v p) =
             let n : e' ≡ e = cc in
             halted x.ks e refl
             (subst (λ (m : StoreError). (c : ℕ) → insert_lines by hs c (lines_of (drop from s))
-            ≡ insert_turn x.ks (Err m) (c + count)) n (runs (stopped (Err e')) q)) x.keeps p
+            ≡ insert_turn x.ks (Err m) (c + count)) n (runs (stopped (Err e')) q)) x.keeps
+            (record {
+              tabled = p;
+              others = x.others;
+              goes_on = λ z. let n : ◌≡◌ {A = ℕ} 0 1 = cc in absurd (omega arith);
+            })
 
         next_line : own < 256 → (w' : Standing) → r ≡ Ok w' → Comes g i t s a' heads' next' old own line x.ks w r
             → Took g i t s a' heads' next' own from old w' (at + (end + 1)) (count + 1) hs
@@ -233,9 +239,9 @@ module _ {d : Dues} {i t s : List ℕ} {a₀ : List Row} {heads₀ next₀ : Lis
             }
 
       pub take_off : (e : StoreError) → r ≡ Err e
-          → TakesLines d i t s a₀ heads₀ next₀ own from w₀ a'
-          (record { answer = Err e; at = at; count = count; filled = w.fill.count })
-          × Went s from w₀.fill.count (length a₀) (record { answer = Err e; at = at; count = count; filled = w.fill.count })
+          → TakesLines d i t s a₀ heads₀ next₀ own from w₀ a' heads' next'
+          (record { answer = Err e; at = at; count = count; standing = w })
+          × Went s from w₀.fill.count (length a₀) (record { answer = Err e; at = at; count = count; standing = w })
       take_off e z = (
         λ g old hs o p.
             let x : Took g i t s a heads next own from old w at count hs = k.took g old hs o p in
@@ -258,6 +264,60 @@ module _ {d : Dues} {i t s : List ℕ} {a₀ : List Row} {heads₀ next₀ : Lis
             next_line g old hs o x byte w' z (comes g old hs o x);
       }
 
+-- two walks, one behind the other
+module _ {d : Dues} {i t s : List ℕ} {a₀ : List Row} {heads₀ next₀ : List ℕ} {own from : ℕ} {w₀ : Standing}
+    {a : List Row} {heads next : List ℕ} {r : Walked} (x : TakesLines d i t s a₀ heads₀ next₀ own from w₀ a heads next r)
+    (e : r.answer ≡ Ok tt) where
+  pub some_on : SomeRows d own i t s a₀ heads₀ next₀ w₀ → SomeRows d own i t s a heads next r.standing
+  some_on (g, (old, (hs, (o, p)))) = go (x g old hs o p)
+    where
+      go : Takes (behind g i t own) s from hs r (Stood i t s a heads next old own hs r)
+          → SomeRows d own i t s a heads next r.standing
+      go (onward ks z run k q) = (g, (old, (ks, (owed_on g own hs ks d q.others o, q.goes_on e))))
+      go (halted ks v z run k q) = let n : ◌≡◌ {A = ℕ} 0 1 = cc in absurd (omega arith)
+
+  module _ {a' : List Row} {heads' next' : List ℕ} {r' : Walked}
+      (y : TakesLines d i t s a heads next own r.at r.standing a' heads' next' r') where
+    abbrev both : Walked
+    both = record { answer = r'.answer; at = r'.at; count = r.count + r'.count; standing = r'.standing }
+
+    pub takes_both : TakesLines d i t s a₀ heads₀ next₀ own from w₀ a' heads' next'
+        (record { answer = r'.answer; at = r'.at; count = r.count + r'.count; standing = r'.standing })
+    takes_both g old hs o p = go (x g old hs o p)
+      where
+        more : (c : ℕ) → c + r.count + r'.count ≡ c + (r.count + r'.count)
+        more c = omega arith
+
+        on : (ks : List Held) → ((c : ℕ) → insert_lines (behind g i t own) hs c (lines_of (drop from s))
+            ≡ insert_lines (behind g i t own) ks (c + r.count) (lines_of (drop r.at s)))
+            → (GoodFor (behind g i t own) hs → GoodFor (behind g i t own) ks) → not_of own ks ≡ not_of own hs
+            → Takes (behind g i t own) s r.at ks r' (Stood i t s a' heads' next' old own ks r')
+            → Takes (behind g i t own) s from hs both (Stood i t s a' heads' next' old own hs both)
+        on ks run k m (onward js z run' k' q) =
+            onward js z
+            (λ c. run c ∙ run' (c + r.count)
+            ∙ ap (λ (v : ℕ). insert_lines (behind g i t own) js v (lines_of (drop r'.at s))) (more c))
+            (λ b. k' (k b)) (record { tabled = q.tabled; others = q.others ∙ m; goes_on = q.goes_on })
+        on ks run k m (halted js v z run' k' q) =
+            halted js v z (λ c. run c ∙ run' (c + r.count) ∙ ap (insert_turn js (Err v)) (more c))
+            (λ b. k' (k b)) (record { tabled = q.tabled; others = q.others ∙ m; goes_on = q.goes_on })
+
+        go : Takes (behind g i t own) s from hs r (Stood i t s a heads next old own hs r)
+            → Takes (behind g i t own) s from hs both (Stood i t s a' heads' next' old own hs both)
+        go (onward ks z run k q) =
+            on ks run k q.others (y g old ks (owed_on g own hs ks d q.others o) (q.goes_on e))
+        go (halted ks v z run k q) = let n : ◌≡◌ {A = ℕ} 0 1 = cc in absurd (omega arith)
+
+pub went_both : {s : List ℕ} {from f f' n : ℕ} {r r' : Walked} → r.answer ≡ Ok tt → Went s from f n r
+    → Went s r.at f' n r'
+    → Went s from f n
+    (record { answer = r'.answer; at = r'.at; count = r.count + r'.count; standing = r'.standing })
+went_both e x y = record {
+  within = y.within;
+  counted = omega (arith, x.counted, y.counted);
+  moved = λ p q o. omega (arith, x.moved p q e, y.counted);
+}
+
 -- the end of a batch
 takes_held : {by : Caller} {from : ℕ} {s : List ℕ} {hs : List Held} {r : Walked} {P : List Held → Type 0}
     → Takes by s from hs r P → (ks : List Held) × P ks
@@ -279,26 +339,28 @@ module _ (d : Dues) (g i t s : List ℕ) (a : List Row) (heads next : List ℕ) 
       (g, (f.count, (q.0, (owed q.0 q.1, stood q.0 q.1))))
 
   module _ (from : ℕ) (b : List Row) (r : Walked)
-      (takes : TakesLines d i t s a heads next own from (record { fill = f; border = b₀ }) b r) where
+      {heads' next' : List ℕ}
+      (takes : TakesLines d i t s a heads next own from (record { fill = f; border = b₀ }) b heads' next' r) where
     abbrev By : (List Held → Type 0) → List Held → Type 0
     By P hs = Takes (behind g i t own) s from hs r P
 
-    took : (hs : List Held) → decode i t ≡ some hs → By (Tabled i t s b f.count r.filled) hs
+    took : (hs : List Held) → decode i t ≡ some hs → By (Stood i t s b heads' next' f.count own hs r) hs
     took hs e = takes g f.count hs (owed hs e) (stood hs e)
 
-    pub batch_settles : known (decode i t) ≡ true → Settles i t s b f r.filled
+    pub batch_settles : known (decode i t) ≡ true → Settles i t s b f r.standing.fill.count
     batch_settles k =
         let q : (hs : List Held) × (decode i t ≡ some hs) = lines_of_lem (decode i t) k in
-        takes_held (took q.0 q.1)
+        let x = takes_held (took q.0 q.1) in
+        (x.0, x.1.tabled)
 
-    pub batch_end : (i' t' : List ℕ) → Settled i t s b f r.filled i' t' → Batches g i t own s from r i' t'
+    pub batch_end : (i' t' : List ℕ) → Settled i t s b f r.standing.fill.count i' t' → Batches g i t own s from r i' t'
     batch_end i' t' w hs e = go (took hs e)
       where
-        held : (ks : List Held) → Tabled i t s b f.count r.filled ks
+        held : (ks : List Held) → Stood i t s b heads' next' f.count own hs r ks
             → Encoded (length i) (length t) i' t' ks
-        held ks p = record { index = (w ks p).0; text = (w ks p).1 }
+        held ks p = record { index = (w ks p.tabled).0; text = (w ks p.tabled).1 }
 
-        go : By (Tabled i t s b f.count r.filled) hs → By (Encoded (length i) (length t) i' t') hs
+        go : By (Stood i t s b heads' next' f.count own hs r) hs → By (Encoded (length i) (length t) i' t') hs
         go (onward ks o run k p) = onward ks o run k (held ks p)
         go (halted ks v o run k p) = halted ks v o run k (held ks p)
 

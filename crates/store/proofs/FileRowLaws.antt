@@ -25,6 +25,8 @@ use Rattle.store.specs.Held.{Key, Held, file}
 use Rattle.store.specs.Inner.{sizes, behind}
 use Rattle.store.specs.Keys.{Chained, Sought}
 use Rattle.store.specs.Layout.{texts}
+use Rattle.store.specs.Tree.{Searched}
+use Rattle.store.specs.declared.tree.Node.{Node}
 use Rattle.store.specs.Rows.{row_in, key_in, start_in, len_in, row_put, len_put, len_before, put_before}
 use Rattle.store.specs.Table.{living, source_of, line_at, Tabled, InRows, InStanding, Begins}
 use Rattle.store.specs.Table.{Weighable, room_by, Files', Filed, fits, full}
@@ -34,7 +36,8 @@ use Rattle.store.proofs.RowLaws.{texts-none}
 use Rattle.store.proofs.StandingLaws.{measured_end, measured_used, measured_same, standing_measured}
 use Rattle.store.proofs.StruckLaws.{Struck, struck, Before, before, tabled_same, row_before, row_new, key_before, key_new}
 use Rattle.store.proofs.TableLaws.{chained_agree, living-same, living_most, gives_same}
-use Rattle.store.proofs.WriteLaws.{put_long, len_back}
+use Rattle.store.proofs.TreeLaws.{searched_keys}
+use Rattle.store.proofs.WriteLaws.{put_long, len_back, put_before_long, put_before_key}
 use Rattle.store.specs.declared.table.Full.{Full}
 
 module _ {g : List ℕ} {d : Dues} {i t s : List ℕ} {a : List Row} {heads next : List ℕ} {old : ℕ} {w : Standing}
@@ -254,3 +257,12 @@ module _ {g : List ℕ} {d : Dues} {i t s : List ℕ} {a : List Row} {heads next
               fits v (sym (room_same c goes_out v q) ∙ l) refl
               (rows_more c goes_out v q l heads' next'
               (subst (λ (y : List Row). Chained (key_in y) heads' next' (n + 1)) p.put ch))
+
+-- a line that is struck out leaves the tree
+pub searched_on : (w : List Node) (a b : List Row) (n m r : ℕ) → r ≤ length a → b ≡ put_before a r 0 → m ≡ n + 1
+    → Searched (key_in a) w (n + 1) (length a) → Searched (key_in b) w m (length b)
+searched_on w a b n m r l e c x =
+    subst (λ (q : ℕ). Searched (key_in b) w q (length b)) (sym c)
+    (subst (Searched (key_in b) w (n + 1)) (sym (ap length e ∙ put_before_long a r 0))
+    (searched_keys (key_in a) (key_in b) w (n + 1) (length a)
+    (λ k p. sym (ap (λ (v : List Row). key_in v k) e ∙ put_before_key a r 0 l k)) x))

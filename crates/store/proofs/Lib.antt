@@ -7,6 +7,8 @@ pub mod BufferLaws
 pub mod ByteLaws
 pub mod WriteLaws
 pub mod ChainLaws
+pub mod TreeLaws
+pub mod PutLaws
 pub mod OrderLaws
 pub mod OnceLaws
 pub mod BodyLaws

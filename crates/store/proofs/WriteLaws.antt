@@ -2,11 +2,13 @@
 -- Assumes nothing.
 use mathlib.Core.Bool.{Bool, true, false}
 use mathlib.Core.List.{List}
-use mathlib.Core.Path.{◌≡◌, refl, ap, ◌∙◌}
-use Prim.Native.Nat.{ℕ, ◌-◌, ◌<◌}
+use mathlib.Core.Path.{◌≡◌, refl, sym, ap, ◌∙◌}
+use Prim.Native.Nat.{ℕ, ◌-◌, ◌≤◌, ◌<◌}
+use native.Mathlib.Omega.{arith}
 use lib.Dec.{eqb}
 use lib.ListN.{length, set, length-set}
 use lib.Seq.{get_or-set_same, get_or-set_other, set-set, set-get_or}
+use borrow.Author.Tests.{eqb-true, eqb-false}
 use Rattle.text.specs.Bytes.{pick}
 use Rattle.store.specs.declared.rows.Row.{Row}
 use Rattle.store.specs.Held.{Key}
@@ -49,3 +51,18 @@ put_before_long a r len = go (eqb r 0)
     go : (b : Bool) → length (pick b a (len_put a (r - 1) len)) ≡ length a
     go true = refl
     go false = len_long a (r - 1) len
+
+pub put_before_key : (a : List Row) (r len : ℕ) → r ≤ length a → (k : ℕ) → key_in (put_before a r len) k ≡ key_in a k
+put_before_key a r len l k = go (eqb r 0) refl
+  where
+    written : (b : Bool) → eqb k (r - 1) ≡ b → (r ≡ 0 → ⊥) → key_in (len_put a (r - 1) len) k ≡ key_in a k
+    written true e n =
+        let same : k ≡ r - 1 = eqb-true k (r - 1) e in
+        ap (λ (j : ℕ). key_in (len_put a (r - 1) len) j) same
+        ∙ ap (λ (v : Row). v.key) (len_same a (r - 1) len (omega (arith, l, n)))
+        ∙ ap (λ (j : ℕ). key_in a j) (sym same)
+    written false e n = ap (λ (v : Row). v.key) (len_other a (r - 1) len k (eqb-false k (r - 1) e))
+
+    go : (b : Bool) → eqb r 0 ≡ b → key_in (pick b a (len_put a (r - 1) len)) k ≡ key_in a k
+    go true e = refl
+    go false e = written (eqb k (r - 1)) refl (eqb-false r 0 e)

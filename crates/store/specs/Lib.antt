@@ -1,4 +1,4 @@
--- The definitions of the store layer, in reading order. Decode computes what Layout says; Inner, Keys, Rows,
+-- The definitions of the store layer, in reading order. Decode computes what Layout says; Inner, Keys, Rows, Tree,
 -- Table and Sights serve private functions only.
 pub mod Parties
 pub mod Held
@@ -27,5 +27,6 @@ pub mod Settings
 pub mod Keys
 pub mod Rows
 pub mod Border
+pub mod Tree
 pub mod Table
 pub mod Sights

@@ -13,11 +13,12 @@ use Rattle.store.specs.declared.soundness.Surveyed.{Surveyed}
 use Rattle.store.specs.declared.soundness.Stock.{Stock}
 use Rattle.store.specs.declared.soundness.Ledger.{Ledger}
 use Rattle.store.specs.declared.calls.Tally.{Tally}
+use Rattle.store.specs.declared.tree.Node.{Node}
 use Rattle.store.specs.declared.batch.Walked.{Walked}
 use Rattle.store.specs.Held.{Key, Held, file, index_max, text_max, line_max}
 use Rattle.store.specs.Decode.{walk, decode, content}
 use Rattle.store.specs.Fronts.{Fronts}
-use Rattle.store.specs.Claims.{Owed}
+use Rattle.store.specs.Claims.{not_of, Owed}
 use Rattle.store.specs.Shares.{owners, no_shares, larger}
 use Rattle.store.specs.Book.{Caller, room_for, by_room, after, stopped, reach, insert_turn, insert_lines}
 use Rattle.store.specs.Lines.{lines_of}
@@ -25,6 +26,7 @@ use Rattle.store.specs.Layout.{records, texts, encode_records, encode_text}
 use Rattle.store.specs.Keys.{Says, Lists, Chained}
 use Rattle.store.specs.Rows.{key_in, start_in, len_in}
 use Rattle.store.specs.Border.{Bordered}
+use Rattle.store.specs.Tree.{Searched}
 use Rattle.store.specs.Inner.{known, Fitted, behind, GoodFor, sizes}
 use Rattle.store.specs.declared.table.Full.{Full}
 use Rattle.store.specs.declared.table.Full.TheVariants as R
@@ -224,6 +226,11 @@ FilesRow d i t a heads next w u start len a' heads' next' r =
     (g s : List ℕ) (old : ℕ) (hs : List Held) → Files' g d i t s a heads next old w u start len hs
     → Filed g i t s a' heads' next' old w (record { key = u; line = take len (drop start s) }) hs r
 
+-- the numbers that are taken then are in the tree, where there is one
+abbrev pub SearchedOn : {E : Type 0} → List Row → List Node → Result Standing E → Type 0
+SearchedOn a w (Ok v) = Searched (key_in a) w v.fill.count (length a)
+SearchedOn a w (Err e) = Unit {0}
+
 -- the buffers encode those lines
 pub record Encoded (n m : ℕ) (i t : List ℕ) (hs : List Held) : Type 0 where
   pub index : i ≡ encode_records n hs
@@ -275,11 +282,18 @@ pub record Went (s : List ℕ) (from f n : ℕ) (r : Walked) : Type 0 where
   pub counted : from + r.count ≤ r.at
   pub moved : f < n → from < length s → r.answer ≡ Ok tt → from < r.at
 
-abbrev pub TakesLines : Dues → List ℕ → List ℕ → List ℕ → List Row → List ℕ → List ℕ → ℕ → ℕ → Standing → List Row → Walked
-    → Type 0
-TakesLines d i t s a heads next o from w a' r =
+-- the lines ks are held by number then; where nothing stopped the walk, it can go on from there
+pub record Stood (i t s : List ℕ) (a : List Row) (heads next : List ℕ) (old o : ℕ) (hs : List Held) (r : Walked)
+    (ks : List Held) : Type 0 where
+  pub tabled : Tabled i t s a old r.standing.fill.count ks
+  pub others : not_of o ks ≡ not_of o hs
+  pub goes_on : r.answer ≡ Ok tt → InStanding i t s a heads next old r.standing ks
+
+abbrev pub TakesLines : Dues → List ℕ → List ℕ → List ℕ → List Row → List ℕ → List ℕ → ℕ → ℕ → Standing → List Row → List ℕ
+    → List ℕ → Walked → Type 0
+TakesLines d i t s a heads next o from w a' heads' next' r =
     (g : List ℕ) (old : ℕ) (hs : List Held) → Owed g o hs d → InStanding i t s a heads next old w hs
-    → Takes (behind g i t o) s from hs r (Tabled i t s a' old r.filled)
+    → Takes (behind g i t o) s from hs r (Stood i t s a' heads' next' old o hs r)
 
 abbrev pub Batches : List ℕ → List ℕ → List ℕ → ℕ → List ℕ → ℕ → Walked → List ℕ → List ℕ → Type 0
 Batches g i t o s from r i' t' =

@@ -3,7 +3,9 @@ ghost use Rattle.std.specs.Prelude.{◌≡◌, true, false, ℕ, suc, ◌+◌, �
 ghost use Rattle.store.specs.Decode.{decode};
 ghost use Rattle.store.specs.Inner.{known};
 ghost use Rattle.store.specs.Keys.{Enough};
-ghost use Rattle.store.specs.Table.{SomeRows, ReachesRow, TakesLines, Went, Batches};
+ghost use Rattle.store.specs.Rows.{key_in};
+ghost use Rattle.store.specs.Tree.{Searched};
+ghost use Rattle.store.specs.Table.{SomeRows, ReachesRow, TakesLines, Went, Batches, SearchedOn};
 
 use crate::border::{Standing, border_of};
 use crate::calls::StoreError;
@@ -14,16 +16,16 @@ use crate::settle::settle;
 use crate::shares::OWNERS;
 use crate::soundness::{LINE_MAX, survey};
 use crate::table::Filing;
+use crate::tree::{Node, grow};
 use text::search::find_far;
 
-// How far lines were walked: what stops the insert, if anything does, the place, the lines walked, and how many numbers
-// are taken.
+// How far lines were walked: what stops the insert, if anything does, the place, the lines walked, and what is filled.
 #[derive(Clone, Copy)]
 pub struct Walked {
     pub answer: Result<(), StoreError>,
     pub at: usize,
     pub count: usize,
-    pub filled: usize,
+    pub standing: Standing,
 }
 
 impl Filing<'_> {
@@ -31,6 +33,7 @@ impl Filing<'_> {
     fn reach_row<const N: usize>(
         &self,
         table: &mut Table<N>,
+        nodes: &mut [Node],
         standing: Standing,
         at: usize,
         len: usize,
@@ -40,11 +43,13 @@ impl Filing<'_> {
             self.now.lines.now
             table.old.rows table.old.heads table.old.next
             standing }
+        requires searched { Searched (key_in table.old.rows) nodes.old standing.fill.count (length table.old.rows) }
         ensures reaches { ReachesRow self.now.dues self.now.index.now self.now.text.now
             self.now.lines.now
             table.old.rows table.old.heads table.old.next standing self.now.owner
             (take len (drop at self.now.lines.now))
             table.new.rows table.new.heads table.new.next result }
+        ensures searched_2 { SearchedOn table.new.rows nodes.new result }
         ensures rows_kept { length table.new.rows ≡ length table.old.rows }
     {
         let Some(spelled) = wanted(&self.lines[at..at + len]) else {
@@ -54,14 +59,16 @@ impl Filing<'_> {
             return Err(StoreError::LineTooLong);
         }
         let uuid = spelled.id;
-        let filed = self.file_row(table, standing, uuid, at, len)?;
+        let filed = self.file_row(table, nodes, standing, uuid, at, len)?;
         Ok(filed)
     }
 
-    // Walks the lines from a place on, while there are numbers for them.
+    // Walks the lines from a place on, while there are numbers for them, up to the first whose chain is too long where there
+    // is no tree.
     fn take_lines<const N: usize>(
         &self,
         table: &mut Table<N>,
+        nodes: &mut [Node],
         first: Standing,
         from: usize,
     ) -> Walked
@@ -70,10 +77,11 @@ impl Filing<'_> {
             self.now.lines.now
             table.old.rows table.old.heads table.old.next
             first }
+        requires searched { Searched (key_in table.old.rows) nodes.old first.fill.count (length table.old.rows) }
         ensures takes_lines { TakesLines self.now.dues self.now.index.now self.now.text.now
             self.now.lines.now
             table.old.rows table.old.heads table.old.next self.now.owner from first
-            table.new.rows result }
+            table.new.rows table.new.heads table.new.next result }
         ensures went { Went self.now.lines.now from first.fill.count (length table.old.rows) result }
     {
         let mut at = from;
@@ -84,25 +92,58 @@ impl Filing<'_> {
             let end = find_far(&self.lines[at..], b'\n');
             let len = line_length(&self.lines[at..], end);
             let start = at;
-            match self.reach_row(table, standing, start, len) {
+            match self.reach_row(table, nodes, standing, start, len) {
                 Ok(filed) => standing = filed,
                 Err(e) => {
                     return Walked {
                         answer: Err(e),
                         at,
                         count,
-                        filled: standing.fill.count,
+                        standing,
                     };
                 }
             }
             count += 1;
             at += end + 1;
+            if table.long {
+                break;
+            }
         }
         Walked {
             answer: Ok(()),
             at,
             count,
-            filled: standing.fill.count,
+            standing,
+        }
+    }
+
+    // The same to the end; where a chain was too long, from the next line on by a tree. It is cleared only where it is
+    // needed.
+    fn take_all<const N: usize>(&self, table: &mut Table<N>, first: Standing, from: usize) -> Walked
+        requires from_in_bounds { from ≤ length self.now.lines.now + 1 }
+        requires some_rows { SomeRows self.now.dues self.now.owner self.now.index.now self.now.text.now
+            self.now.lines.now
+            table.old.rows table.old.heads table.old.next
+            first }
+        ensures takes_lines { TakesLines self.now.dues self.now.index.now self.now.text.now
+            self.now.lines.now
+            table.old.rows table.old.heads table.old.next self.now.owner from first
+            table.new.rows table.new.heads table.new.next result }
+        ensures went { Went self.now.lines.now from first.fill.count (length table.old.rows) result }
+    {
+        let some = self.take_lines(table, &mut [], first, from);
+        if some.answer.is_err() || !table.long {
+            return some;
+        }
+        table.long = false;
+        let mut nodes = [Node::UNUSED; N];
+        grow(&mut nodes, &table.rows, some.standing.fill.count);
+        let rest = self.take_lines(table, &mut nodes, some.standing, some.at);
+        Walked {
+            answer: rest.answer,
+            at: rest.at,
+            count: some.count + rest.count,
+            standing: rest.standing,
         }
     }
 }
@@ -140,8 +181,8 @@ pub fn insert_batch<const N: usize>(
         fill,
         border: border_of(&table.rows, fill),
     };
-    let part = filing.take_lines(&mut table, standing, from);
-    let count = part.filled;
+    let part = filing.take_all(&mut table, standing, from);
+    let count = part.standing.fill.count;
     settle(index, text, lines, &table.rows, fill, count);
     part
 }

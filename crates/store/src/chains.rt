@@ -8,8 +8,8 @@ ghost use Rattle.store.specs.Rows.{key_in};
 use crate::parties::Key;
 use crate::rows::Row;
 
-// The most steps in a chain where an order can be had instead.
-const CHAIN_MAX: usize = 16;
+// The most steps in a chain where an order or a tree can be had instead.
+pub const CHAIN_MAX: usize = 16;
 
 // Whether a key stands twice, as far as a check shows it: three kinds of their own, and none stands for a missing
 // value.
@@ -89,6 +89,9 @@ pub struct Table<const N: usize> {
     pub rows: [Row; N],
     pub heads: [u16; N],
     pub next: [u16; N],
+    // Whether a line was filed whose chain is too long to be walked for each line. It only says how the next ones are best
+    // sought: nothing rests on it.
+    pub long: bool,
 }
 
 impl<const N: usize> Table<N> {
@@ -101,6 +104,7 @@ impl<const N: usize> Table<N> {
             rows: [Row::UNUSED; N],
             heads: [0; N],
             next: [0; N],
+            long: false,
         }
     }
 
@@ -117,6 +121,17 @@ impl<const N: usize> Table<N> {
         seek(&self.rows, &self.next, usize::from(head), k, N)
     }
 
+    // The same for number k that is in its chain.
+    pub fn seek_behind(&self, k: usize) -> usize
+        requires k_lt_rows { k < length self.now.rows }
+        requires chained { Chained (key_in self.now.rows) self.now.heads self.now.next (k + 1) }
+        ensures sought { Sought (key_in self.now.rows) k result }
+        ensures upper_bound { result ≤ k }
+    {
+        let next = self.next[k];
+        seek(&self.rows, &self.next, usize::from(next), k, N)
+    }
+
     // Puts number k in front of its chain, and answers as `seek` does.
     #[inline(always)]
     pub fn link(&mut self, k: usize, most: usize) -> usize
@@ -125,7 +140,6 @@ impl<const N: usize> Table<N> {
         ensures rows_kept { self.new.rows ≡ self.old.rows }
         ensures sought { Sought (key_in self.new.rows) k result }
         ensures chained_2 { Chained (key_in self.new.rows) self.new.heads self.new.next (k + 1) }
-        ensures upper_bound { length self.old.rows ≤ most → result ≤ k }
     {
         let h = bucket_of::<N>(self.rows[k].key);
         let head = self.heads[h];

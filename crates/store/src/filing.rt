@@ -44,7 +44,7 @@ pub fn file_line<const N: usize>(
         fill,
         border: border_of(&table.rows, fill),
     };
-    let filed = filing.file_row(table, standing, key.uuid, 0, len)?;
+    let filed = filing.file_row(table, &mut [], standing, key.uuid, 0, len)?;
     settle(index, text, line, &table.rows, fill, filed.fill.count);
     Ok(())
 }

@@ -24,4 +24,5 @@ pub mod sharing;
 mod soundness;
 mod spellings;
 mod table;
+mod tree;
 pub mod walk;

@@ -2,13 +2,15 @@
 ghost use Rattle.std.specs.Prelude.{◌≡◌, List, ℕ, suc, ◌+◌, ◌-◌, ◌≤◌, ◌<◌, length, take, drop};
 ghost use Rattle.store.specs.Keys.{Chained, Sought};
 ghost use Rattle.store.specs.Rows.{key_in, row_put, len_before, put_before};
-ghost use Rattle.store.specs.Table.{Weighable, room_by, Fileable, FilesRow};
+ghost use Rattle.store.specs.Tree.{Searched};
+ghost use Rattle.store.specs.Table.{Weighable, room_by, Fileable, FilesRow, SearchedOn};
 
 use crate::border::Standing;
-use crate::chains::Table;
+use crate::chains::{CHAIN_MAX, Table};
 use crate::claims::{Dues, claimed};
 use crate::parties::Key;
 use crate::rows::Row;
+use crate::tree::{Node, put};
 use text::uuid::Uuid;
 
 // Why a line has no room: the index has none for its record, or the text none for the line.
@@ -37,11 +39,35 @@ impl<const N: usize> Table<N> {
         requires n_lt_rows { n < length self.old.rows }
         requires chained { Chained (key_in self.old.rows) self.old.heads self.old.next n }
         ensures rows_after { self.new.rows ≡ row_put self.old.rows n key start len }
-        ensures sought { Sought (key_in self.new.rows) n result × (length self.old.rows ≤ most → result ≤ n) }
+        ensures sought { Sought (key_in self.new.rows) n result }
         ensures chained_2 { Chained (key_in self.new.rows) self.new.heads self.new.next (n + 1) }
     {
         self.rows[n].put(key, start, len);
         self.link(n, most)
+    }
+
+    // The same, by the tree where there is one: one more than the last number before it with the same key, 0 where none has
+    // it. Without one there are no nodes: an `Option` of a lent slice would have to be lent anew for each line. A chain that
+    // is too long is walked to its end then, and the table says so.
+    fn add_by(&mut self, nodes: &mut [Node], n: usize, key: Key, start: usize, len: usize) -> usize
+        requires n_lt_rows { n < length self.old.rows }
+        requires chained { Chained (key_in self.old.rows) self.old.heads self.old.next n }
+        requires searched { Searched (key_in self.old.rows) nodes.old n (length self.old.rows) }
+        ensures rows_after { self.new.rows ≡ row_put self.old.rows n key start len }
+        ensures sought { Sought (key_in self.new.rows) n result × (result ≤ n) }
+        ensures chained_2 { Chained (key_in self.new.rows) self.new.heads self.new.next (n + 1) }
+        ensures searched_2 { Searched (key_in self.new.rows) nodes.new (n + 1) (length self.new.rows) }
+    {
+        if !nodes.is_empty() {
+            self.add_row(n, key, start, len, 0);
+            return put(nodes, &self.rows, n);
+        }
+        let r = self.add_row(n, key, start, len, CHAIN_MAX);
+        if n < r {
+            self.long = true;
+            return self.seek_behind(n);
+        }
+        r
     }
 }
 
@@ -99,6 +125,7 @@ impl Filing<'_> {
     pub fn file_row<const N: usize>(
         &self,
         table: &mut Table<N>,
+        nodes: &mut [Node],
         standing: Standing,
         uuid: Uuid,
         start: usize,
@@ -108,16 +135,18 @@ impl Filing<'_> {
         requires fileable { Fileable self.now.dues self.now.index.now self.now.text.now
             table.old.rows table.old.heads table.old.next
             standing (record { owner = self.now.owner; uuid = uuid }) start len }
+        requires searched { Searched (key_in table.old.rows) nodes.old standing.fill.count (length table.old.rows) }
         ensures files { FilesRow self.now.dues self.now.index.now self.now.text.now
             table.old.rows table.old.heads table.old.next
             standing (record { owner = self.now.owner; uuid = uuid }) start len
             table.new.rows table.new.heads table.new.next result }
+        ensures searched_2 { SearchedOn table.new.rows nodes.new result }
         ensures rows_kept { length table.new.rows ≡ length table.old.rows }
     {
         let n = standing.fill.count;
         let owner = self.owner;
         let key = Key { owner, uuid };
-        let r = table.add_row(n, key, start, len, N);
+        let r = table.add_by(nodes, n, key, start, len);
         let had = len_before(&table.rows, r);
         put_len_before(&mut table.rows, r, 0);
         let filed = standing.with_row(&table.rows, key, r, had, len);

@@ -63,9 +63,9 @@ border_of-requires-clause-within g c = (border g (goal.at.border_of-requires-cla
 pub border_of-requires-clause-is : goal.border_of-requires-clause-is
 border_of-requires-clause-is g c = (border g (goal.at.border_of-requires-clause-is g c).After-dues_of-dues).1
 
-pub take_lines-part-requires : goal.take_lines-part-requires
-take_lines-part-requires g c =
-    let from = (goal.at.take_lines-part-requires g c).After-dues_of-dues in
+pub take_all-part-requires : goal.take_all-part-requires
+take_all-part-requires g c =
+    let from = (goal.at.take_all-part-requires g c).After-dues_of-dues in
     let most : g.row.N ≤ 65535 = c.requires.enough.most in (
       search rules,
       (
@@ -80,7 +80,7 @@ settle-requires g c =
     record {
       extends = loads_extend _ _ _ _ _ _ (walked g from).loads;
       settles = batch_settles _ _ _ _ _ _ _ _ _ _ (walked g from).loads _ c.border_of.ensures (owed g from) c.args.from _ _
-          c.take_lines-part.ensures.takes_lines c.requires.text_value;
+          c.take_all-part.ensures.takes_lines c.requires.text_value;
     }
 
 pub returns : goal.returns
@@ -89,6 +89,6 @@ returns g c =
     let long : length c.new-table.result.rows ≡ g.row.N = search rules in
     record {
       batches = batch_end _ _ _ _ _ _ _ _ _ _ (walked g from).loads _ c.border_of.ensures (owed g from) c.args.from _ _
-          c.take_lines-part.ensures.takes_lines _ _ c.settle.ensures;
-      went = rw (c.survey.ensures.rows_kept ∙ long) at (went_from c.args.lines.now c.args.from _ _ _ (walked g from).most c.take_lines-part.ensures.went);
+          c.take_all-part.ensures.takes_lines _ _ c.settle.ensures;
+      went = rw (c.survey.ensures.rows_kept ∙ long) at (went_from c.args.lines.now c.args.from _ _ _ (walked g from).most c.take_all-part.ensures.went);
     }

@@ -54,7 +54,7 @@ loop-head-preserved g c =
     let head = c.whole_head-head.result in (
       survey_turn c.loop-head.invariant.0 (c.stands.ensures.0 c.loop-head-test.true) _ c.whole_head-head.ensures _
           c.head_fits.ensures c.if-not-head_fits.false _ put.rows_after _ _ put.chained_2 c.add_row-r.result
-          put.sought.0 _ c.told-verdict.ensures,
+          put.sought _ c.told-verdict.ensures,
       ap length put.rows_after ∙ put_long c.loop-head.table.rows c.loop-head.n head.key head.off head.len
           ∙ c.loop-head.invariant.1,
     )

@@ -66,7 +66,4 @@ returns g c =
       sought = sought pre.chained (long g from) c.bucket_of-h.ensures c.from.ensures (less g from)
           (seeks_from (key_in c.args.self.now.rows) c.args.k _ _ _ first.not_in.0 c.seek-r.ensures.seeks);
       chained_2 = chained_turn pre.chained (long g from) c.bucket_of-h.ensures refl (less g from) _ (omega arith);
-      upper_bound = λ l.
-          c.seek-r.ensures.upper_bound
-          (omega (arith, first.not_in.1, (last g from).within, pre.k_lt_rows, l));
     }

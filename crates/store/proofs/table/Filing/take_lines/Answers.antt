@@ -17,10 +17,10 @@ reach_row-requires g c =
       search rules,
       (
         (
-          omega (arith, c.if-standing.true, c.loop-at.invariant.1),
+          omega (arith, c.if-standing.true, c.loop-at.invariant.1.0),
           omega (arith, tail_length c.loop-at.at c.args.self.now.lines.now, c.line_length-len.ensures.0),
         ),
-        some,
+        (some, c.loop-at.invariant.1.1),
       ),
     )
 
@@ -35,7 +35,7 @@ loop-at-preserved g c =
     let good = c.type_inv in (
       take-turn c.loop-at.invariant.0 c.loop-at-test.true c.find_far-end.ensures c.line_length-len.result
           c.line_length-len.ensures.1 c.reach_row.result _ _ _ c.reach_row.ensures.reaches (omega arith) _ c.in-Ok.is,
-      c.reach_row.ensures.rows_kept ∙ c.loop-at.invariant.1,
+      (c.reach_row.ensures.rows_kept ∙ c.loop-at.invariant.1.0, c.in-Ok.ensures.searched_2),
     )
 
 pub overflow_add-at : goal.overflow_add-at
@@ -59,4 +59,13 @@ returns-else-standing g c =
     (λ p q. ⊎_elim
     (λ e. absurd (omega (arith, p, long, c.loop-at.invariant.0.still (sym e), c.if-standing.false))) (λ l. l)
     (eq-or-lt_of_le (first_at_lem c.loop-at.invariant.0))) in
+    record { takes_lines = r.0; went = r.1 }
+
+-- a chain was too long
+pub returns-then-table : goal.returns-then-table
+returns-then-table g c =
+    let good = c.type_inv in
+    let on = take-turn c.loop-at.invariant.0 c.loop-at-test.true c.find_far-end.ensures c.line_length-len.result
+    c.line_length-len.ensures.1 c.reach_row.result _ _ _ c.reach_row.ensures.reaches (omega arith) _ c.in-Ok.is in
+    let r = take_on on (λ p q. omega (arith, on.counted)) in
     record { takes_lines = r.0; went = r.1 }
