@@ -322,7 +322,8 @@ typedef struct {
     size_t not_simple;
 } raspteal_inserted;
 
-/* Whether a line is held; 19 where the store is not sound, 24 where an organiser has owner 0. */
+/* Whether a line is held, or was until it was taken out; 19 where the store is not sound, 24 where an organiser has owner
+ * 0. */
 typedef struct {
     raspteal_refusal refusal;
     bool found;
@@ -545,6 +546,11 @@ raspteal_answer raspteal_store_save(uint8_t *index, size_t index_len, uint8_t *t
                                     raspteal_party party, raspteal_data data, const uint32_t *buttons,
                                     size_t buttons_len, const uint32_t *axes, size_t axes_len, const uint8_t *name,
                                     size_t name_len, raspteal_uuid id);
+
+/* Takes the party's line under a UUID out; found says whether it held one. The lines behind it move down, in their order,
+ * and the shares stay. Refusals, with nothing changed: 24, 19. */
+raspteal_look raspteal_store_remove(uint8_t *index, size_t index_len, uint8_t *text, size_t text_len,
+                                    raspteal_party party, raspteal_uuid id);
 
 /* Gives a party a share of the text, in bytes; 0 takes it away. The owner byte names it, 0 is the hall. A line that
  * leaves its party within its share is never refused for text (25), whatever the others file. Refusals, with nothing

@@ -45,7 +45,7 @@ CROSSES_AS = {
 }
 
 # Small functions that the crates above call, and no program: they have no C function.
-WITHIN = {"find_byte", "find_far", "find_text", "fits", "first_token"}
+WITHIN = {"find_byte", "find_far", "find_text", "fits", "first_token", "line_size"}
 
 # Calls whose C function has another name.
 NAMED = {"event": "raspteal_mapping_event", "share_of": "raspteal_store_share", "next_line": "raspteal_next_line",

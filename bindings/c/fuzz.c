@@ -333,6 +333,25 @@ static void look(void) {
     CHECK(w.fits ? w.next <= lent[OUT] && l.found == (w.next > 0) : l.found && w.next == 0);
 }
 
+/* A line is taken out: what its look-up found decides, no other is touched, and what is left takes less room. */
+static void remove_line(void) {
+    raspteal_uuid id = any_uuid(), other = any_uuid();
+    raspteal_party p = any_party(), q = any_party();
+    raspteal_look had = raspteal_store_found(STORE, p, id), beside = raspteal_store_found(STORE, q, other);
+    size_t used = raspteal_store_share(STORE, p.organiser ? p.owner : 0).used;
+    keep();
+    raspteal_look gone = raspteal_store_remove(STORE, p, id);
+    check_owner(p, gone.refusal);
+    CHECK(gone.refusal.number == had.refusal.number && gone.found == had.found && (gone.found || unchanged()));
+    if (gone.refusal.number != 0)
+        return;
+    CHECK(!raspteal_store_found(STORE, p, id).found && raspteal_store_remove(STORE, p, id).found == false);
+    bool same_party = p.organiser == q.organiser && (!p.organiser || p.owner == q.owner);
+    bool same = same_party && id.high == other.high && id.low == other.low;
+    CHECK(same || raspteal_store_found(STORE, q, other).found == beside.found);
+    CHECK((raspteal_store_share(STORE, p.organiser ? p.owner : 0).used < used) == gone.found);
+}
+
 static size_t larger(raspteal_share s) { return s.used < s.share ? s.share : s.used; }
 
 /* What all parties claim of the text, of each the larger of use and share. */
@@ -410,7 +429,7 @@ static void walk_store(void) {
 
 static void (*const calls[])(void) = {read_line, walk_line, build_line, insert_lines, insert_lines, save_line,
                                       save_line, look,      look,       share_text,   share_text,   file_within,
-                                      walk_store};
+                                      walk_store, remove_line};
 
 static void prepare(void) {
     for (int k = 0; k < SPACES && ends[k] == NULL; k++) {

@@ -114,6 +114,7 @@ static raspteal_element element;
     X(store_found_near, (STORE, party, pad))                                                                           \
     X(store_get_near, (STORE, party, pad, OUT))                                                                        \
     X(store_save, (STORE, party, data, CODES, CODES, NAME, pad))                                                       \
+    X(store_remove, (STORE, party, pad))                                                                               \
     X(store_set_share, (STORE, 7, 9))                                                                                  \
     X(store_share, (STORE, 7))                                                                                         \
     X(store_record_at, (index_, index_len, 0))                                                                         \

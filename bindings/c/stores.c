@@ -151,6 +151,48 @@ static void near_stores(void) {
     CHECK(raspteal_store_get_near(STORE, HALL, pad, BUFFER(out)).next == 0);
 }
 
+/* A line is taken out: those behind it move down, and a long record becomes a short one. */
+static void removals(void) {
+    static uint8_t index[300], text[90000], was[sizeof index + sizeof text];
+    static char lines[5 * 16385];
+    const raspteal_party seven = {true, 7};
+    for (int k = 0; k < 5; k++) {
+        char *l = lines + k * 16385;
+        memset(l, 'n', 16384);
+        snprintf(l, 34, "%032x,", k + 1);
+        l[33] = 'n';
+        l[16384] = '\n';
+    }
+    raspteal_look gone = raspteal_store_remove(STORE, HALL, one);
+    CHECK(gone.refusal.number == 0 && !gone.found);
+    CHECK(raspteal_store_set_share(STORE, 7, 40).number == 0);
+    CHECK(raspteal_store_insert(STORE, HALL, (uint8_t *)lines, sizeof lines).refusal.number == 0);
+    CHECK(raspteal_store_insert(STORE, seven, TEXT("00000000000000000000000000000001,7")).refusal.number == 0);
+    raspteal_record r = raspteal_store_record_at(BUFFER(index), 4 + 4 * 21);
+    CHECK(r.found && r.id.low == 5 && r.offset == 65536 && r.size == 23);
+    memcpy(was, index, sizeof index);
+    memcpy(was + sizeof index, text, sizeof text);
+    CHECK(raspteal_store_remove(STORE, (raspteal_party){true, 0}, one).refusal.number == 24);
+    CHECK(!raspteal_store_remove(STORE, (raspteal_party){true, 8}, one).found);
+    CHECK(!raspteal_store_remove(STORE, HALL, nil).found);
+    CHECK(memcmp(was, index, sizeof index) == 0 && memcmp(was + sizeof index, text, sizeof text) == 0);
+    gone = raspteal_store_remove(STORE, HALL, one);
+    CHECK(gone.refusal.number == 0 && gone.found && !raspteal_store_found(STORE, HALL, one).found);
+    CHECK(raspteal_store_found(STORE, seven, one).found && raspteal_store_share(STORE, 7).share == 40);
+    r = raspteal_store_record_at(BUFFER(index), 4 + 3 * 21);
+    CHECK(r.found && r.id.low == 5 && r.offset == 49152 && r.size == 21);
+    CHECK(memcmp(text + 49152, lines + 4 * 16385, 16384) == 0);
+    CHECK(raspteal_store_share(STORE, 0).used == 65536 && text[65536 + 34] == 0 && text[5 * 16384 + 33] == 0);
+    CHECK(raspteal_store_remove(STORE, seven, one).found);
+    for (uint64_t k = 2; k < 6; k++)
+        CHECK(raspteal_store_remove(STORE, HALL, (raspteal_uuid){0, k}).found);
+    index[0] = 0;
+    for (size_t k = 4; k < sizeof index; k++)
+        CHECK(index[k] == 0);
+    index[0] = 9;
+    CHECK(raspteal_store_remove(STORE, HALL, one).refusal.number == 19 && index[0] == 9);
+}
+
 /* A walk over the records meets the shares by owner, then the lines in list order; damage ends it. */
 static void walk(void) {
     uint8_t index[70] = {0}, text[70000] = {0};
@@ -192,6 +234,7 @@ static void cuts(void) {
 
 int main(void) {
     stores();
+    removals();
     walk();
     cuts();
     near_stores();

@@ -131,6 +131,7 @@ CALLS = {
     "store_clear": (refusal, STORE),
     "store_insert": (inserted, [*STORE, party, *BYTES]),
     "store_save": (answer, [*STORE, party, data, *LISTS, *BYTES, uuid]),
+    "store_remove": (look, [*STORE, party, uuid]),
     "store_set_share": (refusal, [*STORE, c_uint8, c_size_t]),
     "store_share": (share, [*STORE, c_uint8]),
     "store_record_at": (record, [*BYTES, c_size_t]),
@@ -564,6 +565,12 @@ class Store:
         lists = *listed(buttons), *listed(axes)
         slots = slots_of(bound)
         return Mapping.accepted(self.call("store_save", who(party), slots, *lists, *lent(name), uuid(*pad)))
+
+    def remove(self, pad, party=None):
+        """Takes the line held under the UUID out, and hands back whether there was one; all else stays."""
+        gone = self.call("store_remove", who(party), uuid(*pad))
+        accepted(gone.refusal)
+        return gone.found
 
     def set_share(self, party, size):
         """Gives a party, None being the hall, a share of the text in bytes, which others can't fill; 0 takes it away."""

@@ -134,6 +134,21 @@ class Cases(unittest.TestCase):
         store.clear()
         self.assertFalse(any(store.found(ONE, party) for party in (None, 1, 255)))
 
+    def test_removals(self):
+        store = Store.over(bytes(21 + 22 + 21), bytes(200))
+        store.insert(f"{ONE},One\n{Uuid(U)},Nil")
+        store.insert(f"{ONE},7", 7)
+        before = bytes(store)
+        self.assertFalse(store.remove(ONE, 8) or store.remove(Uuid("2" * 32)))
+        self.refused(24, store.remove, ONE, 0)
+        self.assertEqual(bytes(store), before)
+        self.assertTrue(store.remove(ONE))
+        self.assertFalse(store.remove(ONE))
+        self.assertEqual([line for *_, line in store.lines()], [f"{Uuid(U)},Nil".encode(), f"{ONE},7".encode()])
+        self.assertTrue(store.remove(ONE, 7) and store.remove(Uuid(U)))
+        self.assertEqual(bytes(store), bytes(64 + 200))
+        self.refused(19, Store(b"\t" + bytes(65)).remove, ONE)
+
     def test_shares(self):
         store = Store(bytes(2 * 110))
         self.assertEqual(store.share(), (0, 0))

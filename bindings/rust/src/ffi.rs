@@ -427,6 +427,14 @@ extern "C" {
         name_len: usize,
         id: Uuid,
     ) -> Answer;
+    pub fn raspteal_store_remove(
+        index: *mut u8,
+        index_len: usize,
+        text: *mut u8,
+        text_len: usize,
+        party: Party,
+        id: Uuid,
+    ) -> Look;
     pub fn raspteal_store_set_share(
         index: *mut u8,
         index_len: usize,

@@ -166,4 +166,12 @@ impl<B: AsRef<[u8]> + AsMut<[u8]>> By<B> {
             safe::store_save(index, text, party, slots, buttons, axes, name, id)
         }))
     }
+    /// Takes the party's line under a UUID out, and hands back whether it held one. The lines behind it move down, in
+    /// their order, and the shares stay. Refusals, with nothing changed: 24, 19.
+    pub fn remove(&mut self, id: Uuid) -> Result<bool, Error> {
+        let (index, text, party) = (self.index.as_mut(), self.text.as_mut(), self.party);
+        let gone = on_stack_for(index.len(), || safe::store_remove(index, text, party, id.into()));
+        Error::check(gone.refusal)?;
+        Ok(gone.found)
+    }
 }

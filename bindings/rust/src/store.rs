@@ -262,4 +262,21 @@ impl<B: AsRef<[u8]> + AsMut<[u8]>> Store<B> {
     ) -> Result<Mapping, Error> {
         self.by(Party::Hall).save(data, buttons, axes, name, id)
     }
+
+    /// Takes the line under a UUID out, and hands back whether one was held. The lines behind it move down, in their
+    /// order, and the shares stay. Refusal, with nothing changed: 19.
+    ///
+    /// ```
+    /// use raspteal::{Store, Uuid};
+    ///
+    /// let mut store = Store::new(42, 100);
+    /// store.insert("00000000000000000000000000000001,a\n00000000000000000000000000000002,b")?;
+    /// assert!(store.remove(Uuid::from_u128(1))?);
+    /// assert!(!store.remove(Uuid::from_u128(1))?);
+    /// assert_eq!(store.get(Uuid::from_u128(2))?.unwrap(), b"00000000000000000000000000000002,b");
+    /// # Ok::<(), Box<dyn std::error::Error>>(())
+    /// ```
+    pub fn remove(&mut self, id: Uuid) -> Result<bool, Error> {
+        self.by(Party::Hall).remove(id)
+    }
 }

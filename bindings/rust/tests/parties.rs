@@ -43,6 +43,33 @@ fn every_party_under_one_uuid() {
     assert!(parties.iter().all(|&party| store.seen_by(party).found(id) == Ok(false)));
 }
 
+/// A removal takes out the line of its party and UUID alone, from both sizes of buffers; what is left is as those that
+/// never had the line.
+#[test]
+fn removals() {
+    for (index, text) in [(200, 300), (70_000, 100_000)] {
+        let mut store = Store::new(index, text);
+        store.set_share(7, 50).unwrap();
+        let mut without = Store::new(index, text);
+        without.set_share(7, 50).unwrap();
+        for (party, id) in [(Party::Hall, 1), (SEVEN, 1), (Party::Hall, 2), (SEVEN, 2)] {
+            store.by(party).insert(line(id, "T")).unwrap();
+            if (party, id) != (SEVEN, 1) {
+                without.by(party).insert(line(id, "T")).unwrap();
+            }
+        }
+        let held = store.clone();
+        assert_eq!(store.by(Party::Organiser(8)).remove(Uuid::from_u128(1)), Ok(false));
+        assert_eq!(store.by(Party::Organiser(0)).remove(Uuid::from_u128(1)), Err(Error::NoOwner));
+        assert_eq!(store.remove(Uuid::from_u128(3)), Ok(false));
+        assert_eq!(store, held);
+        assert_eq!(store.by(SEVEN).remove(Uuid::from_u128(1)), Ok(true));
+        assert_eq!(store, without);
+        assert_eq!(store.by(SEVEN).remove(Uuid::from_u128(1)), Ok(false));
+        assert_eq!(store.get(Uuid::from_u128(1)), Ok(Some(line(1, "T"))));
+    }
+}
+
 /// A hall's record has 21 bytes and an organiser's 22; the caller's own line of that UUID counts for nothing.
 #[test]
 fn room() {

@@ -3,6 +3,7 @@ ghost use Rattle.std.specs.Prelude.{◌≡◌};
 ghost use Rattle.text.specs.Bytes.{write_answer, write_buffer};
 ghost use Rattle.store.specs.Store.{store_clear, store_insert, look_up, says_of, line_of};
 ghost use Rattle.store.specs.Saves.{save_args, store_save};
+ghost use Rattle.store.specs.Removing.{store_remove};
 ghost use Rattle.exports.specs.Flat.{flat_written};
 ghost use Rattle.exports.specs.FlatSlots.{data_in};
 ghost use Rattle.exports.specs.FlatStore.{party_in, flat_store_answer, flat_inserted, flat_look, flat_saved};
@@ -33,7 +34,7 @@ pub struct FlatSaved {
     pub map: FlatMapping,
 }
 
-// Whether a line is held, or 19 or 24.
+// Whether a line is held, or was until it was taken out; or 19 or 24.
 #[repr(C)]
 #[derive(Clone, Copy)]
 pub struct FlatLook {
@@ -124,6 +125,20 @@ pub extern "C" fn raspteal_store_save(
         id,
     )
     .into()
+}
+
+#[unsafe(no_mangle)]
+pub extern "C" fn raspteal_store_remove(
+    index: &mut [u8],
+    text: &mut [u8],
+    party: FlatParty,
+    id: Uuid,
+) -> FlatLook
+    ensures value { result ≡ flat_look (store_remove index.old text.old (party_in party) id).answer }
+    ensures index_after { index.new ≡ (store_remove index.old text.old (party_in party) id).index }
+    ensures text_after { text.new ≡ (store_remove index.old text.old (party_in party) id).text }
+{
+    store::removing::remove(index, text, party.into(), id).into()
 }
 
 #[unsafe(no_mangle)]

@@ -54,10 +54,10 @@ content_encodes i t c b e =
       text_most = l.text;
     }
 
-pub encodes_content : (i t : List ℕ) (c : Content) → Encodes i t c → content i t ≡ some c
-encodes_content i t c e =
-    ap₂ content e.index e.text
-    ∙ content_encoded (length i) (length t) c e.given (omega (arith, fits)) good e.index_most e.text_most
+-- what a store encodes has room in it
+pub encodes_fit : (i t : List ℕ) (c : Content) → Encodes i t c
+    → (share_sizes c.shares ≤ length i) × Good (length i - share_sizes c.shares) (length t) c.held
+encodes_fit i t c e = (omega (arith, fits), good)
   where
     fits : share_sizes c.shares + sizes 0 c.held ≤ length i
     fits =
@@ -78,3 +78,9 @@ encodes_content i t c e =
       index = omega (arith, fits);
       text = padded_fits (length t) (texts c.held) t (e.text ∙ unfold encode_text in refl) refl;
     }
+
+pub encodes_content : (i t : List ℕ) (c : Content) → Encodes i t c → content i t ≡ some c
+encodes_content i t c e =
+    let f = encodes_fit i t c e in
+    ap₂ content e.index e.text
+    ∙ content_encoded (length i) (length t) c e.given f.0 f.1 e.index_most e.text_most

@@ -20,7 +20,6 @@ use Rattle.store.specs.declared.border.Standing.{Standing}
 use Rattle.store.specs.declared.claims.Dues.{Dues}
 use Rattle.store.specs.Book.{room_for}
 use Rattle.store.specs.Border.{Replaces, Replaced}
-use Rattle.store.specs.Decode.{decode}
 use Rattle.store.specs.Held.{Key, Held, file}
 use Rattle.store.specs.Inner.{sizes, behind}
 use Rattle.store.specs.Keys.{Chained, Sought}
@@ -28,14 +27,13 @@ use Rattle.store.specs.Layout.{texts}
 use Rattle.store.specs.Tree.{Searched}
 use Rattle.store.specs.declared.tree.Node.{Node}
 use Rattle.store.specs.Rows.{row_in, key_in, start_in, len_in, row_put, len_put, len_before, put_before}
-use Rattle.store.specs.Table.{living, source_of, line_at, Tabled, InRows, InStanding, Begins}
+use Rattle.store.specs.Table.{living, source_of, line_at, Tabled, InRows, InStanding}
 use Rattle.store.specs.Table.{Weighable, room_by, Files', Filed, fits, full}
 use Rattle.store.proofs.FilingLaws.{others_less, room_is, index_there, text_there}
-use Rattle.store.proofs.LivingLaws.{gives_none}
-use Rattle.store.proofs.RowLaws.{texts-none}
 use Rattle.store.proofs.StandingLaws.{measured_end, measured_used, measured_same, standing_measured}
 use Rattle.store.proofs.StruckLaws.{Struck, struck, Before, before, tabled_same, row_before, row_new, key_before, key_new}
-use Rattle.store.proofs.TableLaws.{chained_agree, living-same, living_most, gives_same}
+use Rattle.store.proofs.StruckLaws.{inside_still, ahead_still, stands_still}
+use Rattle.store.proofs.TableLaws.{chained_agree}
 use Rattle.store.proofs.TreeLaws.{searched_keys}
 use Rattle.store.proofs.WriteLaws.{put_long, len_back, put_before_long, put_before_key}
 use Rattle.store.specs.declared.table.Full.{Full}
@@ -85,23 +83,9 @@ module _ {g : List ℕ} {d : Dues} {i t s : List ℕ} {a : List Row} {heads next
             unfold file in (ap₂ (λ (v q : List Held). v ++ q) y.lines (sym new_line))
             ∙ sym (ap (living S'') (add-one n) ∙ unfold living in refl)
 
-        given_least : (k : ℕ) → k < n → length (texts (S'' k)) ≤ length (texts (S k))
-        given_least k l = ⊎_elim
-            (λ e. omega (arith, ap (λ (v : List Held). length (texts v)) (gives_none t s b old k e), texts-none))
-            (λ e. omega (arith, ap (λ (v : List Held). length (texts v)) (gives_same t s a b old k e)))
-            (y.either k l)
-
-        -- a row that is not struck out is as it was
-        intact : (j : ℕ) → j < n → (len_in b j ≡ 0 → ⊥) → row_in b j ≡ row_in a j
-        intact j l f = ⊎_elim (λ e. absurd (f e)) (λ e. e) (y.either j l)
-
-        shorter : (k : ℕ) → k < n → len_in b k ≤ len_in a k
-        shorter k l = ⊎_elim (λ e. omega (arith, e)) (λ e. omega (arith, ap (λ (r : Row). r.len) e))
-            (y.either k l)
-
         inside' : (k : ℕ) → k < n + 1 → start_in b k + len_in b k ≤ length (source_of t s old k)
         inside' = below_more (λ (k : ℕ). start_in b k + len_in b k ≤ length (source_of t s old k)) n
-            (λ k l. omega (arith, y.starts k l, x.tabled.inside k l, shorter k l))
+            (inside_still x u start len cl b y)
             (subst (λ (c : Bool). start_in b n + len_in b n ≤ length (pick c t s)) (sym (le-ltb n old x.tabled.olds))
             (omega (arith, ap (λ (r : Row). r.start) y.last, ap (λ (r : Row). r.len) y.last, z.inside)))
 
@@ -145,18 +129,8 @@ module _ {g : List ℕ} {d : Dues} {i t s : List ℕ} {a : List Row} {heads next
             tabled_v = record {
               is = filed_is;
               inside = inside';
-              ahead = λ k l. omega (
-                arith,
-                x.tabled.ahead k l,
-                y.starts k (omega (arith, x.tabled.olds)),
-                living_most S S'' k (λ j p. given_least j (omega (arith, x.tabled.olds))),
-              );
-              stands = λ k l f. subst (λ (q : List Held). Begins (decode i t) q)
-                  (living-same S S'' k (λ j p. sym (gives_same t s a b old j
-                  (intact j (omega (arith, x.tabled.olds)) (f j p)))))
-                  (x.tabled.stands k l
-                  (λ j p e. f j p (ap (λ (r : Row). r.len) (intact j (omega (arith, x.tabled.olds)) (f j p))
-                  ∙ e)));
+              ahead = ahead_still x u start len cl b y;
+              stands = stands_still x u start len cl b y;
               olds = omega (arith, x.tabled.olds);
               most = omega (arith, cl, y.long);
               good = record {

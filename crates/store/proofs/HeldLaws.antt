@@ -151,7 +151,7 @@ find_past u [] h q = rw q
 find_past u (k ∷ hs) h q = ap (λ (o : Option (List ℕ)). pick (same_key u k.key) (Option.some k.line) o)
     (find_past u hs h q)
 
-find-strike : (u v : Key) (hs : List Held) → same_key u v ≡ false → find u (strike v hs) ≡ find u hs
+pub find-strike : (u v : Key) (hs : List Held) → same_key u v ≡ false → find u (strike v hs) ≡ find u hs
 unfolding find strike
 find-strike u v [] q = refl
 find-strike u v (h ∷ hs) q = go (same_key v h.key) refl (find-strike u v hs q)

@@ -41,6 +41,7 @@ pub mod LookLaws
 pub mod SettingLaws
 pub mod ShareCallLaws
 pub mod StruckLaws
+mod RemovingLaws
 pub mod StandingLaws
 pub mod FileRowLaws
 pub mod PartLaws
@@ -66,6 +67,7 @@ pub mod FormLaws
 pub mod ToldLaws
 pub mod IsolationLaws
 pub mod SharesKeptLaws
+pub mod RemovedLaws
 pub mod StepLaws
 pub mod CutLaws
 pub mod WalkedLaws
@@ -78,3 +80,4 @@ mod ShareSamples
 mod RoomSamples
 mod FarSamples
 mod WalkSamples
+mod RemovingSamples

@@ -1,6 +1,6 @@
 -- What a call of a party comes to, by its owner: 24 first, or what the call does for that owner.
 -- Assumes nothing.
-use Rattle.std.specs.Prelude.{Some, None}
+use Rattle.std.specs.Prelude.{Some, None, Err}
 use mathlib.Core.List.{List}
 use mathlib.Core.Path.{◌≡◌, sym, ap}
 use Prim.Native.Nat.{ℕ}
@@ -11,7 +11,9 @@ use Rattle.store.specs.Held.{key_by}
 use Rattle.store.specs.Book.{nobody_inserts}
 use Rattle.store.specs.Store.{unchanged, own_insert, store_insert, store_attempt, no_owner, look_by, look_up}
 use Rattle.store.specs.Near.{nobody, near_by, near_up}
+use Rattle.store.specs.Removing.{remove_by, store_remove}
 use Rattle.store.specs.Saves.{SaveArgs, refused_save, attempt_of, store_save}
+use Rattle.store.specs.declared.calls.LookError.TheVariants as L
 use Rattle.store.specs.declared.calls.SaveError.TheVariants as Sv
 
 module _ (p : Party) (i t : List ℕ) where
@@ -35,6 +37,11 @@ module _ (p : Party) (i t : List ℕ) where
         (λ o. store_attempt (refused_save Sv.Unsound) (refused_save Sv.NoRoom) (refused_save Sv.NoText) i t o
         (attempt_of o a))) e)
 
+    pub remove_nobody : (u : Uuid) → unchanged i t (Err L.NoOwner) ≡ store_remove i t p u
+    unfolding store_remove
+    remove_nobody u =
+        sym (ap (λ (w : Owner). by_owner w (unchanged i t (Err L.NoOwner)) (λ o. remove_by (key_by o u) i t)) e)
+
   module _ (o : ℕ) (e : owner_of p ≡ Some o) where
     pub look_owner : (u : Uuid) → look_by (key_by o u) i t ≡ look_up p u i t
     unfolding look_up
@@ -43,3 +50,8 @@ module _ (p : Party) (i t : List ℕ) where
     pub near_owner : (u : Uuid) → near_by (key_by o u) i t ≡ near_up p u i t
     unfolding near_up
     near_owner u = sym (ap (λ (w : Owner). by_owner w nobody (λ v. near_by (key_by v u) i t)) e)
+
+    pub remove_owner : (u : Uuid) → remove_by (key_by o u) i t ≡ store_remove i t p u
+    unfolding store_remove
+    remove_owner u =
+        sym (ap (λ (w : Owner). by_owner w (unchanged i t (Err L.NoOwner)) (λ v. remove_by (key_by v u) i t)) e)

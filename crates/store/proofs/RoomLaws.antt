@@ -7,13 +7,13 @@ use mathlib.Core.List.{List, [], ◌∷◌, ◌++◌}
 use mathlib.Core.Path.{◌≡◌, refl, sym, ap, ap₂, ◌∙◌}
 use Prim.Native.Nat.{ℕ, ◌+◌, ◌≤◌, ◌<◌}
 use native.Mathlib.Omega.{arith}
-use lib.Dec.{ltb}
+use lib.Dec.{eqb, ltb}
 use lib.ListN.{length, length-append}
 use borrow.Author.Tests.{ltb-false, lt-ltb, le-ltb}
 use Rattle.text.specs.Bytes.{pick}
 use Rattle.store.specs.Book.{Caller, record_sizes, no_index_of, no_text, room_for, by_room}
 use Rattle.store.specs.Inner.{sizes}
-use Rattle.store.specs.Held.{Held, file}
+use Rattle.store.specs.Held.{Held, file, is_long, record_size}
 use Rattle.store.specs.Shares.{claims, share_sizes}
 use Rattle.store.specs.Layout.{share_records, records}
 use Rattle.store.proofs.RecordLaws.{length-record}
@@ -21,6 +21,16 @@ use Rattle.store.proofs.RowLaws.{sizes_cons, sizes-none}
 use Rattle.store.proofs.ShareLaws.{length_shares}
 use Rattle.store.specs.declared.table.Full.TheVariants as R
 use Rattle.store.specs.declared.table.Full.{Full}
+
+-- each takes some
+pub size_least : (o off : ℕ) → 1 ≤ record_size o off
+size_least o off = go (is_long off) (eqb o 0)
+  where
+    go : (b c : Bool) → 1 ≤ pick b (pick c 23 24) (pick c 21 22)
+    go true true = omega arith
+    go true false = omega arith
+    go false true = omega arith
+    go false false = omega arith
 
 pub sizes_sum : (hs : List Held) (off : ℕ) → sizes off hs ≡ record_sizes off hs
 unfolding record_sizes

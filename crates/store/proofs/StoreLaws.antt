@@ -50,11 +50,11 @@ module _ (n m : ℕ) where
     text = encode_text m r.content.held;
   }
 
-  fresh_index : fresh n ≡ encode_index n no_shares []
+  pub fresh_index : fresh n ≡ encode_index n no_shares []
   unfolding encode_index records padded
   fresh_index = rw (none_written owners 0, sub-zero)
 
-  fresh_text : fresh m ≡ encode_text m []
+  pub fresh_text : fresh m ≡ encode_text m []
   unfolding encode_text texts padded
   fresh_text = rw sub-zero
 

@@ -18,10 +18,11 @@ use Rattle.store.specs.Held.{Key, Held, same_key, strike}
 use Rattle.store.specs.Keys.{Sought}
 use Rattle.store.specs.Layout.{texts}
 use Rattle.store.specs.Rows.{row_in, key_in, start_in, len_in, row_put, len_put, put_before}
-use Rattle.store.specs.Table.{living, held_at, line_at, Tabled, InRows, Begins}
+use Rattle.store.specs.Table.{living, source_of, held_at, line_at, Whole, Tabled, InRows, Begins}
 use Rattle.store.proofs.HeldLaws.{same_refl, same_eq}
 use Rattle.store.proofs.LivingLaws.{gives_none}
-use Rattle.store.proofs.TableLaws.{living-same, strike-living, gives_same, gives_other}
+use Rattle.store.proofs.RowLaws.{texts-none}
+use Rattle.store.proofs.TableLaws.{living-same, living_most, strike-living, gives_same, gives_other}
 use Rattle.store.proofs.WriteLaws.{put_long, row_same, row_other, len_long, len_same, len_other}
 
 -- rows that are the same, as far as they are counted
@@ -224,3 +225,37 @@ module _ {i t s : List ℕ} {a : List Row} {heads next : List ℕ} {old : ℕ} {
 
           strikes : strike u hs ≡ living S'' f.count
           strikes = ap (strike u) x.tabled.is ∙ strike-living u S f.count ∙ living-same _ S'' f.count each
+
+      -- what is left
+      module _ (y : Struck) where
+        -- a row that is not struck out is as it was
+        intact : (k : ℕ) → k < f.count → (len_in b k ≡ 0 → ⊥) → row_in b k ≡ row_in a k
+        intact k l z = ⊎_elim (λ e. absurd (z e)) (λ e. e) (y.either k l)
+
+        shorter : (k : ℕ) → k < f.count → len_in b k ≤ len_in a k
+        shorter k l = ⊎_elim (λ e. omega (arith, e)) (λ e. omega (arith, ap (λ (r : Row). r.len) e))
+            (y.either k l)
+
+        given_least : (k : ℕ) → k < f.count → length (texts (S'' k)) ≤ length (texts (S k))
+        given_least k l = ⊎_elim
+            (λ e. omega (arith, ap (λ (v : List Held). length (texts v)) (gives_none t s b old k e), texts-none))
+            (λ e. omega (arith, ap (λ (v : List Held). length (texts v)) (gives_same t s a b old k e)))
+            (y.either k l)
+
+        pub inside_still : (k : ℕ) → k < f.count → start_in b k + len_in b k ≤ length (source_of t s old k)
+        inside_still k l = omega (arith, y.starts k l, x.tabled.inside k l, shorter k l)
+
+        pub ahead_still : (k : ℕ) → k < old → length (texts (living (line_at t s b old) k)) ≤ start_in b k
+        ahead_still k l = omega (
+          arith,
+          x.tabled.ahead k l,
+          y.starts k (omega (arith, x.tabled.olds)),
+          living_most S S'' k (λ j p. given_least j (omega (arith, x.tabled.olds))),
+        )
+
+        pub stands_still : (k : ℕ) → k ≤ old → Whole b k → Begins (decode i t) (living (line_at t s b old) k)
+        stands_still k l z = subst (λ (q : List Held). Begins (decode i t) q)
+            (living-same S S'' k (λ j p. sym (gives_same t s a b old j
+            (intact j (omega (arith, x.tabled.olds)) (z j p)))))
+            (x.tabled.stands k l
+            (λ j p e. z j p (ap (λ (r : Row). r.len) (intact j (omega (arith, x.tabled.olds)) (z j p)) ∙ e)))

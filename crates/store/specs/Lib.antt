@@ -18,6 +18,7 @@ pub mod Near
 pub mod Isolation
 pub mod SharesKept
 pub mod Walks
+pub mod Removing
 pub mod Forms
 -- what private functions and proofs need
 pub mod Inner

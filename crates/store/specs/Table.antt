@@ -1,7 +1,7 @@
 -- Lines by number while an insert files them: a row for each, and the lines that are still held. What is struck out
 -- has length 0.
 -- No public contract rests on these: a reader may leave them out.
-use Rattle.std.specs.Prelude.{Option as Optional, MatchOption, false, ◌≡◌, true, List, [], ◌∷◌, ◌++◌, ℕ, zero, suc, ◌+◌, ◌-◌, ◌*◌, ◌≤◌, ◌<◌, eqb, ltb, length, take, drop, replicate, Result, Ok, Err, ⊤}
+use Rattle.std.specs.Prelude.{Option as Optional, MatchOption, Bool, false, ◌≡◌, true, List, [], ◌∷◌, ◌++◌, ℕ, zero, suc, ◌+◌, ◌-◌, ◌*◌, ◌≤◌, ◌<◌, eqb, ltb, length, take, drop, replicate, Result, Ok, Err, ⊤}
 use Rattle.std.proofs.Math.Option.{Option, some}
 use Rattle.text.specs.Bytes.{pick}
 use Rattle.store.specs.declared.rows.Row.{Row}
@@ -15,7 +15,7 @@ use Rattle.store.specs.declared.soundness.Ledger.{Ledger}
 use Rattle.store.specs.declared.calls.Tally.{Tally}
 use Rattle.store.specs.declared.tree.Node.{Node}
 use Rattle.store.specs.declared.batch.Walked.{Walked}
-use Rattle.store.specs.Held.{Key, Held, file, index_max, text_max, line_max}
+use Rattle.store.specs.Held.{Key, Held, strike, file, holds, index_max, text_max, line_max}
 use Rattle.store.specs.Decode.{walk, decode, content}
 use Rattle.store.specs.Fronts.{Fronts}
 use Rattle.store.specs.Claims.{not_of, Owed}
@@ -230,6 +230,12 @@ FilesRow d i t a heads next w u start len a' heads' next' r =
 abbrev pub SearchedOn : {E : Type 0} → List Row → List Node → Result Standing E → Type 0
 SearchedOn a w (Ok v) = Searched (key_in a) w v.fill.count (length a)
 SearchedOn a w (Err e) = Unit {0}
+
+-- `strike_row`: the line of a key is struck out; r says whether there was one
+abbrev pub StrikesRow : List Row → List ℕ → List ℕ → Fill → Key → List Row → Bool → Type 0
+StrikesRow a heads next f k b r =
+    (i t : List ℕ) (hs : List Held) → InRows i t [] a heads next f.count f hs
+    → (r ≡ holds k hs) × Tabled i t [] b f.count f.count (strike k hs)
 
 -- the buffers encode those lines
 pub record Encoded (n m : ℕ) (i t : List ℕ) (hs : List Held) : Type 0 where

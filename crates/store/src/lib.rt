@@ -16,6 +16,7 @@ mod owners;
 pub mod parties;
 mod records;
 pub mod refusal;
+pub mod removing;
 mod rows;
 mod saving;
 mod settle;

@@ -1,6 +1,7 @@
 // A look-up: the line of a key, by number.
-ghost use Rattle.std.specs.Prelude.{◌≡◌, length};
-ghost use Rattle.store.specs.Keys.{Enough};
+ghost use Rattle.std.specs.Prelude.{◌≡◌, ◌≤◌, length};
+ghost use Rattle.store.specs.Keys.{Enough, Sought};
+ghost use Rattle.store.specs.Rows.{key_in, row_put};
 ghost use Rattle.store.specs.Sights.{Ready, Agree, Spots, Inside, line_there, Sees};
 ghost use Rattle.store.specs.Store.{look_by, look_up};
 
@@ -20,14 +21,15 @@ pub struct Part {
     pub len: usize,
 }
 
-// Where the line of a key lies: the key is written down behind the lines that are held, and its chain tells the one
-// before.
-pub fn part_of<const N: usize>(table: &mut Table<N>, fill: Fill, key: Key) -> Option<Part>
+// One more than the number that has the line of a key, or 0: the key is written down behind the lines that are held, and
+// its chain tells the one before.
+pub fn seek_key<const N: usize>(table: &mut Table<N>, fill: Fill, key: Key) -> usize
     requires { Ready table.old.rows table.old.heads table.old.next fill.count }
     ensures ready { Ready table.new.rows table.new.heads table.new.next fill.count }
     ensures chains_kept { (table.new.heads ≡ table.old.heads) × (table.new.next ≡ table.old.next) }
-    ensures agree { Agree table.old.rows table.new.rows fill.count }
-    ensures spots { Spots table.old.rows table.old.heads table.old.next fill key result }
+    ensures rows_after { table.new.rows ≡ row_put table.old.rows fill.count key 0 0 }
+    ensures sought { Sought (key_in table.new.rows) fill.count result }
+    ensures upper_bound { result ≤ fill.count }
 {
     let n = fill.count;
     table.rows[n] = Row {
@@ -35,7 +37,18 @@ pub fn part_of<const N: usize>(table: &mut Table<N>, fill: Fill, key: Key) -> Op
         start: 0,
         len: 0,
     };
-    let r = table.seek_before(n);
+    table.seek_before(n)
+}
+
+// Where the line of a key lies.
+pub fn part_of<const N: usize>(table: &mut Table<N>, fill: Fill, key: Key) -> Option<Part>
+    requires { Ready table.old.rows table.old.heads table.old.next fill.count }
+    ensures ready { Ready table.new.rows table.new.heads table.new.next fill.count }
+    ensures chains_kept { (table.new.heads ≡ table.old.heads) × (table.new.next ≡ table.old.next) }
+    ensures agree { Agree table.old.rows table.new.rows fill.count }
+    ensures spots { Spots table.old.rows table.old.heads table.old.next fill key result }
+{
+    let r = seek_key(table, fill, key);
     let len = len_before(&table.rows, r);
     if len == 0 {
         return None;

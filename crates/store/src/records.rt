@@ -115,7 +115,7 @@ fn body_start(owner: u8) -> usize
 }
 
 // The size of a record of that kind.
-fn size_by(kind: Kind) -> usize
+pub fn size_by(kind: Kind) -> usize
     ensures { result ≡ size_by kind.owner kind.long }
 {
     body_start(kind.owner) + 18 + offset_width(kind.long)

@@ -83,7 +83,7 @@ pub fn len_before(rows: &[Row], r: usize) -> usize
 }
 
 // Writes the length of the line of the number before r, 0 striking it out; r is 0 where there is none.
-fn put_len_before(rows: &mut [Row], r: usize, len: usize)
+pub fn put_len_before(rows: &mut [Row], r: usize, len: usize)
     requires { r ≤ length rows.old }
     ensures { rows.new ≡ put_before rows.old r len }
 {

@@ -1,13 +1,14 @@
 // The records of an index and the lines of a text, one after the other: for programs that list what these hold. Each
 // call takes any buffer and place.
-ghost use Rattle.std.specs.Prelude.{◌≡◌, ◌<◌, length, drop};
+ghost use Rattle.std.specs.Prelude.{◌≡◌, ◌<◌, ◌≤◌, length, drop};
+ghost use Rattle.store.specs.Held.{record_size};
 ghost use Rattle.text.specs.Bytes.{first_of};
 ghost use Rattle.text.specs.Search.{lf};
 ghost use Rattle.store.specs.Walks.{share_told, record_told, record_at, behind_line, next_line};
 
 use crate::lines::line_length;
 use crate::parties::Key;
-use crate::records::{stands, whole_head};
+use crate::records::{Kind, SHORT_MAX, size_by, stands, whole_head};
 use crate::shares::{front_share, share_size, starts_share};
 use text::search::find_far;
 
@@ -45,6 +46,17 @@ pub struct Stands {
 pub struct Cut {
     pub len: usize,
     pub next: usize,
+}
+
+// The bytes of a record of that owner, 0 being the hall, of a line at that offset.
+pub fn line_size(owner: u8, off: usize) -> usize
+    ensures size { result ≡ record_size owner off }
+    ensures some { 1 ≤ result }
+{
+    size_by(Kind {
+        owner,
+        long: SHORT_MAX < off,
+    })
 }
 
 // The share at an index's front.

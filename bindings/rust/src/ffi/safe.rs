@@ -237,6 +237,11 @@ pub fn store_save(
     unsafe { raspteal_store_save(index, index_len, text, text_len, party, data, b, b_len, a, a_len, n, n_len, id) }
 }
 
+pub fn store_remove(index: &mut [u8], text: &mut [u8], party: Party, id: Uuid) -> Look {
+    let (index, index_len, text, text_len) = (index.as_mut_ptr(), index.len(), text.as_mut_ptr(), text.len());
+    unsafe { raspteal_store_remove(index, index_len, text, text_len, party, id) }
+}
+
 pub fn store_set_share(index: &mut [u8], text: &[u8], owner: u8, bytes: usize) -> Refusal {
     let (index, index_len) = (index.as_mut_ptr(), index.len());
     unsafe { raspteal_store_set_share(index, index_len, text.as_ptr(), text.len(), owner, bytes) }
