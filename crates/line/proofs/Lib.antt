@@ -11,6 +11,7 @@ pub mod TurnLaws
 pub mod OfNumbersLaws
 -- the walker and the reading
 pub mod CountLaws
+pub mod CutLaws
 pub mod FieldLaws
 pub mod TileLaws
 pub mod WalkLaws

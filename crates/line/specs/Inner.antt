@@ -1,6 +1,9 @@
 -- What the private functions of the tables, of a put and of a reading promise. No public contract cites these.
 -- Assumes nothing.
 use Rattle.std.specs.Prelude.{ℕ, ◌-◌, ◌<◌, ◌≤◌, ◌≡◌, List, ◌∷◌, ◌++◌, length, take, drop, set, replicate, Option, Some, None, Result, Ok, Err, ⊤}
+use Rattle.text.specs.Bytes.{byte, first_of}
+use Rattle.line.specs.Fields.{count_of}
+use Rattle.line.specs.declared.parser.pair.Cut.{Cut}
 use Rattle.line.specs.declared.reading.ParseSdlMappingError.{ParseSdlMappingError}
 use Rattle.line.specs.declared.parser.Error.{Error}
 use Rattle.line.specs.declared.parser.Token.{Token}
@@ -24,6 +27,12 @@ Placed xs e (Err k) = (k ≤ length xs) × (put_entry e xs ≡ insert_at k e xs)
 -- a refusal of the walker by its case
 abbrev pub refused_as : ErrorKind → ℕ → Option (Result Token Error)
 refused_as k p = Some (Err (record { kind = k; position = p }))
+
+-- the pair at the front of a text, up to a comma or the end: how long it is, its colons, and the place of its one colon
+abbrev pub CutAt : List ℕ → Cut → Type 0
+CutAt s c =
+    (c.len ≡ first_of (byte ",") s) × (c.colons ≡ count_of (byte ":") (take c.len s))
+    × (c.colons ≡ 1 → c.colon ≡ first_of (byte ":") (take c.len s))
 
 -- the view of a map, whatever stands behind its entries
 abbrev pub view_of : Mapping → MapView

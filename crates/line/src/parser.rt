@@ -7,11 +7,13 @@ mod value;
 ghost use Rattle.std.specs.Prelude.{◌≡◌, ◌≤◌, ◌<◌, ◌^◌, length};
 ghost use Rattle.line.specs.Walker.{guid_of, uuid_step, field_step_of, start_of, step_of, first_form};
 ghost use Rattle.line.specs.Walker as specs;
+ghost use Rattle.text.specs.Bytes.{byte};
+ghost use Rattle.line.specs.Fields.{find_from};
 ghost use Rattle.line.specs.Inner.{refused_as};
 ghost use Rattle.line.specs.Parser.{parser_of, step_from, moved};
 
 use crate::ev::AxisOrBtn;
-use crate::parser::pair::read_pair;
+use crate::parser::pair::{cut_pair, read_pair};
 use text::bytes::{find_byte, same_bytes};
 use text::utf8::{is_utf8, valid_up_to};
 use text::uuid::{Form, Spelled, Uuid};
@@ -183,8 +185,7 @@ pub fn step(line: &[u8], pos: usize, state: State) -> Stepped
     if line.len() <= pos {
         return take_step(None, pos, state);
     }
-    let comma = find_byte(&line[pos..], b',');
-    field_step(line, pos, pos + comma, state)
+    field_step(line, pos, state)
 }
 
 fn take_step(answer: Option<Result<Token, Error>>, pos: usize, state: State) -> Stepped
@@ -199,23 +200,41 @@ fn refused(kind: ErrorKind, position: usize) -> Option<Result<Token, Error>>
     Some(Err(Error { kind, position }))
 }
 
-// A step at p, before the line's end; e is the place of the next comma, or the end.
+// Where the field at p ends: the place of the next comma, or the line's end.
+fn field_end(line: &[u8], p: usize) -> usize
+    requires { p ≤ length line.now }
+    ensures is { result ≡ find_from (byte ",") line.now p }
+    ensures within { (p ≤ result) × (result ≤ length line.now) }
+{
+    p + find_byte(&line[p..], b',')
+}
+
+// A step at p, before the line's end.
 #[tactic(auto, unfolding(crate::specs::Walker::field_step_of))]
 #[inline(always)]
-fn field_step(line: &[u8], p: usize, e: usize, state: State) -> Stepped
-    requires { (p ≤ e) × (e ≤ length line.now) }
-    ensures { result ≡ field_step_of line.now p e state }
+fn field_step(line: &[u8], p: usize, state: State) -> Stepped
+    requires { p < length line.now }
+    ensures { result ≡ field_step_of line.now p (find_from (byte ",") line.now p) state }
 {
     match state {
-        State::Uuid => uuid_step(read_guid(&line[p..e]), p, e, line.len()),
+        State::Uuid => {
+            let e = field_end(line, p);
+            uuid_step(read_guid(&line[p..e]), p, e, line.len())
+        }
         State::Name => {
+            let e = field_end(line, p);
             let name = Token::Name {
                 start: p,
                 len: e - p,
             };
             take_step(Some(Ok(name)), e + 1, State::KeyVal)
         }
-        State::KeyVal => take_step(Some(read_pair(&line[p..e], p)), e + 1, State::KeyVal),
+        State::KeyVal => {
+            let rest = &line[p..];
+            let pair = cut_pair(rest);
+            let answer = read_pair(rest, pair, p);
+            take_step(Some(answer), p + pair.len + 1, State::KeyVal)
+        }
         State::Invalid => take_step(refused(ErrorKind::InvalidParserState, 0), p, State::Invalid),
         State::NotUtf8 => take_step(
             refused(ErrorKind::NotUtf8, valid_up_to(line)),

@@ -24,6 +24,7 @@ pub enum Value {
 }
 
 // The value of the pair at p, by its first byte, or the place at which it is refused.
+#[inline(always)]
 #[tactic(auto, unfolding(crate::specs::Values::value_of))]
 pub fn read_value(v: &[u8], p: usize) -> Result<Value, usize>
     requires { p + length v.now < 2 ^ 64 }
