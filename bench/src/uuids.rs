@@ -111,13 +111,13 @@ fn halves(high: u64, low: u64) -> Uuid {
 }
 
 // What the lists aim at: the store puts a key into one of 4096 buckets, (31 high + low + 7919 owner) mod 65449 mod 4096,
-// where the sum wraps at 64 bits, compares it with at most 16 of its bucket, and sorts all where a bucket has more. Where
+// where the sum wraps at 64 bits, compares it with at most 17 of its bucket, and sorts all where a bucket has more. Where
 // the index has more than 65536 bytes there are 8192 to 65535 buckets, by the same sum. An insert compares a key with at
-// most 16 of its bucket and its first; where a bucket has more, it puts all keys into a tree, three bits a step: those of
+// most 17 of its bucket too; where one has more, it puts all keys into a tree, three bits a step: those of
 // the first half, then of the second, each from the last bit on.
 const PRIME: u64 = 65449;
 const OWNER: u64 = 7919;
-const CHAIN: usize = 17;
+const CHAIN: usize = 18;
 
 /// A multiple of 65449, of any size below 2 to the 57th: no sum of such halves wraps.
 fn multiple(r: &mut Rng) -> u64 {

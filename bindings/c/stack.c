@@ -159,7 +159,7 @@ static key multiples(size_t k, size_t n, size_t buckets) {
 
 static key too_long(size_t k, size_t n, size_t buckets) {
     (void)buckets;
-    size_t chains = (n - 1 + 16) / 17;
+    size_t chains = (n - 1 + 17) / 18;
     return k + 1 == n ? (key){{0, 0}, 0} : (key){{0, 65449 * (k + 1) + k % chains}, 0};
 }
 

@@ -135,6 +135,7 @@ impl Filing<'_> {
         if some.answer.is_err() || !table.long {
             return some;
         }
+        // Else the walk would stop behind the next line again.
         table.long = false;
         let mut nodes = [Node::UNUSED; N];
         grow(&mut nodes, &table.rows, some.standing.fill.count);
