@@ -180,6 +180,13 @@ impl Book {
         Ok(m)
     }
 
+    /// Takes a party's line out, and says whether it held one; 24. No document has this call.
+    pub fn remove(&mut self, p: Party, u: Uuid) -> Result<bool, Refusal> {
+        let (key, before) = ((owner(p)?, u), self.lines.len());
+        self.lines.retain(|held| held.0 != key);
+        Ok(self.lines.len() < before)
+    }
+
     /// The line that a party holds, or 24.
     pub fn get(&self, p: Party, u: Uuid) -> Result<Option<Vec<u8>>, Refusal> {
         let key = (owner(p)?, u);

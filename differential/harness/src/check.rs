@@ -26,6 +26,7 @@ pub enum Group {
     LookUp,
     Near,
     Save,
+    Remove,
     Clear,
     Buffers,
     Walks,
@@ -38,7 +39,7 @@ pub enum Group {
     TwoPads,
 }
 
-pub const GROUPS: [(&str, &str); 31] = [
+pub const GROUPS: [(&str, &str); 32] = [
     ("utf8", "the longest valid run of UTF-8, with Rust's own reader"),
     ("uuid", "UUID texts, with the crate uuid"),
     ("forms", "how a UUID is spelled, by the reader and in the walker's first token (document 02, P11, alone)"),
@@ -60,6 +61,7 @@ pub const GROUPS: [(&str, &str); 31] = [
     ("look-up", "MappingDb::get, and the book"),
     ("near", "MappingDb::get twice, the second time without the UUID's checksum, and the book (document 02, P5)"),
     ("save", "from_data filed: map and refusal by the book"),
+    ("remove", "a party's line taken out, by the book (gilrs and the documents have no such call)"),
     ("clear", "clear (document 01 alone)"),
     ("buffers", "both buffers after each call, byte by byte, by the book (document 01 alone)"),
     ("walks", "the records of a store and the lines of a text, one after the other (document 02, P9 to P12, alone)"),

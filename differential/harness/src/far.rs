@@ -190,8 +190,12 @@ pub fn history(t: &mut Tally, r: &mut Rng) {
     for _ in 0..3 + r.below(8) {
         let by = r.pick(&callers);
         let used: usize = s.book.lines.iter().map(|l| l.1.len()).sum();
-        match r.below(16) {
+        match r.below(18) {
             0 => s.clear(t),
+            16.. => {
+                let id = s.some_id(r.below(8));
+                s.remove(t, by, id);
+            }
             1 => s.insert(t, owners::party(r), b"00000000000000000000000000000001\n\n"),
             2..=4 => {
                 let bytes = r.pick(&[0, 40, 65534, 65535, 65536, 65537, room / 2, room.saturating_sub(used)]);

@@ -34,6 +34,10 @@ pub fn stores(t: &mut Tally) {
                 s.save(t, HALL, &slots, &[], &[], name, [1; 16]);
                 s.look_up(t);
             }
+            for k in [[1; 16], 2u128.to_be_bytes(), 2u128.to_be_bytes()] {
+                s.remove(t, HALL, k);
+                s.look_up(t);
+            }
             s.clear(t);
             s.insert(t, HALL, b"\xff");
             s.look_up(t);

@@ -54,6 +54,21 @@ impl Store {
             )
         })
     }
+    /// Whether a line was held, which is gone then.
+    pub fn remove(&mut self, p: Party, uuid: Uuid) -> Result<bool, Refusal> {
+        let gone = unsafe {
+            ffi::raspteal_store_remove(
+                self.index.as_mut_ptr(), self.index.len(), self.text.as_mut_ptr(), self.text.len(), party(p), id(uuid),
+            )
+        };
+        match refused(gone.refusal) {
+            Some(r) => {
+                assert!(!gone.found);
+                Err(r)
+            }
+            None => Ok(gone.found),
+        }
+    }
     pub fn set_share(&mut self, owner: u8, bytes: usize) -> Option<Refusal> {
         let (i, t) = (&mut self.index, &self.text);
         refused(unsafe {

@@ -13,6 +13,7 @@ enum Call {
     Share(u8, usize),
     Insert(Party, Vec<u8>),
     Save(Party, Vec<u8>, Uuid),
+    Remove(Party, Uuid),
 }
 
 /// What a call answered.
@@ -22,6 +23,7 @@ enum Reply {
     Shared(Option<Refusal>),
     Inserted((Option<Refusal>, usize, usize)),
     Saved(Result<Map, Refusal>),
+    Removed(Result<bool, Refusal>),
 }
 
 /// A caller at random: most often the hall or one of two organisers, now and then owner 0.
@@ -37,8 +39,13 @@ pub fn share(r: &mut Rng, text: usize) -> (u8, usize) {
 
 impl Call {
     fn any(r: &mut Rng) -> Call {
-        match r.below(15) {
+        match r.below(18) {
             0 => Call::Clear,
+            15.. => {
+                let (mut filed, saved) = ([0; 16], [r.below(3) as u8; 16]);
+                filed[15] = r.below(6) as u8;
+                Call::Remove(party(r), r.pick(&[filed, filed, saved]))
+            }
             12.. => {
                 let (o, b) = share(r, 4000);
                 Call::Share(o, b)
@@ -54,7 +61,7 @@ impl Call {
         match self {
             Call::Clear => true,
             Call::Share(..) => false,
-            Call::Insert(by, _) | Call::Save(by, _, _) => *by == p,
+            Call::Insert(by, _) | Call::Save(by, _, _) | Call::Remove(by, _) => *by == p,
         }
     }
 
@@ -64,6 +71,7 @@ impl Call {
             Call::Share(owner, bytes) => Reply::Shared(store.set_share(*owner, *bytes)),
             Call::Insert(p, lines) => Reply::Inserted(store.insert(*p, lines)),
             Call::Save(p, name, id) => Reply::Saved(store.save(*p, &AllSlots::new().here, &[], &[], name, *id)),
+            Call::Remove(p, id) => Reply::Removed(store.remove(*p, *id)),
         }
     }
 
@@ -73,6 +81,7 @@ impl Call {
             Call::Share(owner, bytes) => format!("share of {owner}: {bytes}"),
             Call::Insert(p, lines) => format!("{p:?} insert {}", shown(lines)),
             Call::Save(p, name, id) => format!("{p:?} save name {}, uuid {id:02x?}", shown(name)),
+            Call::Remove(p, id) => format!("{p:?} remove {id:02x?}"),
         }
     }
 }

@@ -117,6 +117,28 @@ impl Sides {
         self.buffers(t);
     }
 
+    /// A party's line is taken out. gilrs takes none out: the database of a party that had one is left behind.
+    pub fn remove(&mut self, t: &mut Tally, p: Party, id: Uuid) {
+        self.callers.push(p);
+        self.ids.push(id);
+        self.history += &format!("; {p:?} remove {id:02x?}");
+        let doc = self.allowed(p).and_then(|()| self.book.remove(p, id));
+        if doc == Ok(true) {
+            self.dbs.insert(p, None);
+        }
+        let here = self.store.remove(p, id);
+        t.case(Group::Remove, number(&doc), None, &doc, &here, &|| self.input());
+        self.buffers(t);
+    }
+
+    /// The UUID of a line that is held, whosever it is; one of the same bytes where none is.
+    pub fn some_id(&self, k: usize) -> Uuid {
+        match self.book.lines.len() {
+            0 => [k as u8; 16],
+            n => self.book.lines[k % n].0 .1,
+        }
+    }
+
     /// A share is set. It is no party's call, and no database of gilrs's is touched by it.
     pub fn share(&mut self, t: &mut Tally, owner: u8, bytes: usize) {
         self.history += &format!("; share of {owner}: {bytes}");
@@ -228,6 +250,8 @@ impl Sides {
             t.case(Group::Shares, 19, None, &Err(refusal(19)), &here, &input);
             let here = self.store.set_share(p.unwrap_or(0), lines.len());
             t.case(Group::Shares, 19, None, &Some(refusal(19)), &here, &input);
+            let here = self.store.remove(p, [0; 16]);
+            t.case(Group::Remove, number, None, &Err(refusal(number)), &here, &input);
             let here = self.store.insert(p, lines);
             t.case(Group::Insert, number, None, &(Some(refusal(number)), 0, 0), &here, &input);
             // save makes build's checks and 22 first

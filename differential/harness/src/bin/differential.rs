@@ -123,7 +123,7 @@ fn one_build(t: &mut Tally, r: &mut Rng, b: &[u32], a: &[u32]) {
     compare::build(t, &s, b, a, &gen::name(r), [r.next() as u8; 16], room);
 }
 
-/// A history of clear, insert and save calls from a fresh store, with look-ups.
+/// A history of clear, insert, save and remove calls from a fresh store, with look-ups.
 fn one_store(t: &mut Tally, r: &mut Rng) {
     let (index, text) = if r.one_in(2) {
         (r.pick(&[2100, 4200]), r.pick(&[4096, 8000, 20000, 40000]))
@@ -134,8 +134,12 @@ fn one_store(t: &mut Tally, r: &mut Rng) {
     let hall_alone = r.one_in(3);
     for _ in 0..1 + r.below(5) {
         let by = if hall_alone { HALL } else { owners::party(r) };
-        match r.below(10) {
+        match r.below(12) {
             0 => s.clear(t),
+            10.. => {
+                let id = s.some_id(r.below(8));
+                s.remove(t, by, id);
+            }
             8.. => {
                 let (owner, bytes) = owners::share(r, text);
                 s.share(t, owner, bytes);
