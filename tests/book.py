@@ -315,6 +315,12 @@ class Store:
             answer, after = save(content, owner, uuid, slots, int(words[3]), int(words[4]), name, *sizes)
             self.hold_lines(after)
             return words[0] == answer
+        if kind == "remove":
+            key = owner, uuid_word(words[1])
+            says, _ = find(content, *key)
+            if says == "1":
+                self.hold_lines([h for h in content[1] if h[0] != key])
+            return words[0] == says
         if kind in ("find", "near"):
             says, line = (find if kind == "find" else near)(content, owner, uuid_word(words[1]))
             return words[0] == says and spelled(" ".join(words[2:])) == line

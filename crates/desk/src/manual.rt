@@ -43,10 +43,8 @@ const EDIT: &[u8] = b"hub edit STORE UUID KEY:VALUE .. [party=NUMBER]
 ";
 
 const REMOVE: &[u8] = b"hub remove STORE UUID [party=NUMBER]
-  Takes the line held under that UUID out of the store: the shares and the other lines are written
-  down anew, in their order, and the new store is looked at. Where it would not be sound, or a
-  share or a line not what it was, nothing is changed, and it says so. 'hub undo STORE' brings the
-  line back.
+  Takes the line held under that UUID out of the store. The shares stay, and the other lines in
+  their order. 'hub undo STORE' brings the line back.
 ";
 
 const CLEAR: &[u8] = b"hub clear STORE

@@ -8,11 +8,8 @@ use desk::files::{Size, StoreFile};
 use store::calls::get;
 use store::near::get_near;
 use store::parties::Party;
-use store::walk::{Record as Told, record_at};
+use store::walk::{Record as Told, line_size, record_at};
 use text::uuid::Uuid;
-
-// The last offset that has two bytes in a record, and the last share.
-const NEAR_MAX: usize = 65535;
 
 // The two halves of a store, which stand elsewhere: desk's `Halves`, with methods that need the crate store, on which
 // desk does not rest.
@@ -68,16 +65,10 @@ impl<'a> View<'a> {
         self.index.len() < Size::Large.index()
     }
 
-    // How many lines of a party have room in so many bytes of the index, wherever they start: in a text of more than 65535
-    // bytes that may be behind them.
+    // How many lines of a party have room in so many bytes of the index, wherever they start: each record is taken to be as
+    // long as that of a line at the text's end.
     pub fn lines_in(self, bytes: usize, party: Party) -> usize {
-        let far = NEAR_MAX < self.text.len();
-        match (far, party) {
-            (false, Party::Hall) => bytes / 21,
-            (false, Party::Organiser(_)) => bytes / 22,
-            (true, Party::Hall) => bytes / 23,
-            (true, Party::Organiser(_)) => bytes / 24,
-        }
+        bytes / line_size(owner_of(party), self.text.len())
     }
 
     // The line that a party holds under a UUID itself; empty where it holds none.
@@ -92,7 +83,7 @@ impl<'a> View<'a> {
 }
 
 // What a record is about: a line and its UUID, or a party's share of the text.
-#[derive(Clone, Copy, PartialEq, Eq)]
+#[derive(Clone, Copy)]
 pub enum Entry<'a> {
     Line { id: Uuid, line: &'a [u8] },
     Share(usize),
@@ -112,14 +103,6 @@ impl<'a> Record<'a> {
         match self.entry {
             Entry::Line { line, .. } => Some(line),
             Entry::Share(_) => None,
-        }
-    }
-
-    // Whether it is about the line of that key.
-    pub fn is_under(&self, key: LineKey) -> bool {
-        match self.entry {
-            Entry::Line { id, .. } => self.owner == owner_of(key.party) && id == key.id,
-            Entry::Share(_) => false,
         }
     }
 }

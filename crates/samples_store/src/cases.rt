@@ -4,9 +4,10 @@ use line::refusal::Refusal;
 use parts::cuts::{after, before, first, past, rest, word};
 use parts::numbers::{number, unhex};
 use std::alloc::{AllocError, Global};
-use store::calls::{Inserted, StoreError, clear, found, get, insert};
+use store::calls::{Inserted, LookError, StoreError, clear, found, get, insert};
 use store::parties::Party;
 use store::refusal::store_outcome;
+use store::removing::remove;
 use text::bytes::write_bytes;
 use text::decimal::parse_u16;
 use text::uuid::Uuid;
@@ -48,7 +49,15 @@ pub struct Looked<'a> {
     pub line: &'a [u8],
 }
 
-// The UUID of a look-up: `SAYS UUID LINE`.
+// What a look-up or a removal says: 1 where a line is held, or was; 0 where none is; 19 or 24.
+fn says_of(answer: Result<bool, LookError>) -> usize {
+    match answer {
+        Ok(held) => usize::from(held),
+        Err(e) => e.refusal().number as usize,
+    }
+}
+
+// The UUID of a look-up, `SAYS UUID LINE`, and of a removal.
 pub fn key_of(args: &[u8]) -> Uuid {
     uuid(word(rest(args)))
 }
@@ -86,12 +95,15 @@ impl<'a> Store<'a> {
         Ok(inserted.not_simple == number(word(others)) && is_inserted(inserted, args))
     }
 
+    // `remove SAYS UUID`: 1 a line was taken out, 0 none was held, 19 or 24.
+    pub fn remove_case(self, args: &[u8]) -> bool {
+        let Store { index, text, party } = self;
+        says_of(remove(index, text, party, key_of(args))) == number(word(args))
+    }
+
     // `find SAYS UUID LINE`: 1 found, 0 none, 19 or 24, and the line that is handed back, empty unless found.
     pub fn find(&'a self, key: Uuid) -> Looked<'a> {
-        let says = match found(self.index, self.text, self.party, key) {
-            Ok(held) => usize::from(held),
-            Err(e) => e.refusal().number as usize,
-        };
+        let says = says_of(found(self.index, self.text, self.party, key));
         let line = get(self.index, self.text, self.party, key);
         Looked { says, line }
     }

@@ -24,7 +24,7 @@ use store::parties::Party;
 // The most bytes of a list.
 const ROOM: usize = 65536;
 
-const FILES: [&str; 12] = [
+const FILES: [&str; 13] = [
     "store.txt",
     "damage.txt",
     "history.txt",
@@ -37,6 +37,7 @@ const FILES: [&str; 12] = [
     "far.txt",
     "far-damage.txt",
     "far-history.txt",
+    "removals.txt",
 ];
 
 // One call of a party on the store, a comparison of a whole buffer, or a change of its bytes.
@@ -48,6 +49,7 @@ fn run_case(alloc: Global, store: Store, call: &[u8]) -> Result<bool, AllocError
         b"insert" => store.insert_case(alloc, args),
         b"forms" => store.forms_case(alloc, args),
         b"save" => store.save_case(alloc, args),
+        b"remove" => Ok(store.remove_case(args)),
         b"share" => Ok(store.share_case(args)),
         b"told" => Ok(store.told_case(args)),
         b"clear" => Ok(store.clear_case(args)),
