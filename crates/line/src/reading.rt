@@ -62,7 +62,6 @@ pub fn read_mapping(
 // The reading into the empty map: 10, 12, then line order. After a refusal the map says nothing. Apart from its caller,
 // which else clears two maps more.
 #[inline(never)]
-#[inline(never)]
 fn read(
     map: &mut Mapping,
     line: &[u8],
