@@ -13,7 +13,7 @@ In a document, outside blocks of code:
   quotes  a block of code that opens with ```antt FILE has lines of FILE, word for word.
   all     each definition in a file of the first kind (below) of the layers has such a row in READING.md.
   edits   in REFUSED.md, below the heading of a crate, each call of a row is a function of that crate, each edit of a
-          row is in its must-fail/, and each edit there has a row for each of its wrong programs at least. Each public
+          row is in its refused/ or must-fail/, and each edit there has a row for each of its wrong programs at least. Each public
           call of the layers has two rows and an edit; a row with the column Crate was tried by hand.
           A call that begins with _ is the end of a function's name.
 In specs/, a file is of the first kind ("rest on these definitions") or of the second ("No public contract rests on
@@ -21,7 +21,7 @@ these", or "cites these"), and says so in its first lines; Lib.antt is neither. 
 public function's contract names nothing of the second. READING.md and DECISIONS.md name each file of the second kind,
 READING.md each of the exports.
 A library is a layer, the exports, for programs or for test programs. Those for programs are proved safe and promise
-nothing, so they have no specs/ and no must-fail/; those for test programs may have both. Neither has C functions, and no
+nothing, so they have no specs/ and no edits; those for test programs may have both. Neither has C functions, and no
 layer depends on one.
 Where the first lines of a file of specs/ name a theorem, `NAME` in ../proofs/FILE, it is there.
 """
@@ -47,7 +47,8 @@ FIRST = re.compile(r"rests? on these definitions; they assume nothing")
 SECOND = re.compile(r"No public contract (rests on|cites) these")
 
 declared = {}
-BESIDE = {os.path.basename(p)[:-len(".edit")] for p in glob.glob("crates/*/must-fail/*.edit")} | set(NOT_OURS)
+EDITS = sorted(glob.glob("crates/*/refused/*.edit") + glob.glob("crates/*/must-fail/*.edit"))
+BESIDE = {os.path.basename(p)[:-len(".edit")] for p in EDITS} | set(NOT_OURS)
 for header in glob.glob("bindings/*.h"):
     BESIDE |= set(re.findall(r"\braspteal_\w+", open(header, encoding="utf-8").read()))
 
@@ -201,7 +202,7 @@ class Document:
         self.tried[crate, self.call] = self.tried.get((crate, self.call), 0) + 1
         if edit:
             self.count("edits", number, edit)
-            if not os.path.exists(f"crates/{crate}/must-fail/{edit}.edit"):
+            if not any(p.startswith(f"crates/{crate}/") and p.endswith(f"/{edit}.edit") for p in EDITS):
                 self.fail(number, f"no such edit in {crate}: {edit}")
             self.edits.append((crate, edit))
             self.gated.add((crate, self.call))
@@ -237,7 +238,7 @@ class Document:
                 self.columns = [c.strip() for c in line.strip().strip("|").split("|")]
             self.line(number, line)
         if self.path == "docs/REFUSED.md":
-            for path in sorted(glob.glob("crates/*/must-fail/*.edit")):
+            for path in EDITS:
                 key = (path.split("/")[1], os.path.basename(path)[:-len(".edit")])
                 programs = len(re.findall("^# refused at: ", open(path, encoding="utf-8").read(), re.M))
                 if self.edits.count(key) < max(programs, 1):
@@ -356,7 +357,7 @@ def libraries():
     for crate in [c for c in depends if os.path.exists(f"crates/{c}/src/lib.rt")]:
         found.append(crate)
         if crate in FOR_PROGRAMS + FOR_TESTS:
-            parts = [p for p in (f"crates/{crate}/specs", f"crates/{crate}/must-fail") if os.path.exists(p)]
+            parts = [p for p in (f"crates/{crate}/{it}" for it in ("specs", "refused", "must-fail")) if os.path.exists(p)]
             sources = glob.glob(f"crates/{crate}/src/**/*.rt", recursive=True)
             wrong += [f"{p}: a library for programs has none" for p in parts if crate in FOR_PROGRAMS]
             wrong += [f"{p}: has C functions" for p in sources if 'extern "C"' in open(p, encoding="utf-8").read()]

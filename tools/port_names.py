@@ -6,7 +6,7 @@ usage: python3 tools/port_names.py [--list]    at the top, once, after port.py
     hexDigit, whole-guarantee, utf8-1   ->   hex_digit, whole_guarantee, utf8_1
 
 Words are in snake case. A dash stays where it joins two names of functions, as in written-length; a plain word is joined by an
-underscore. It turns crates/*/{specs,proofs}/**/*.antt, the clauses and comments of crates/*/src/**/*.rt, crates/*/must-fail/*.edit,
+underscore. It turns crates/*/{specs,proofs}/**/*.antt, the clauses and comments of crates/*/src/**/*.rt, crates/*/{refused,must-fail}/*.edit,
 and the pages README.md and docs/*.md. Names of Rust items (fields, functions, constants, types, variants), strings and file names
 stay. Where two old names would fall together, or a new name is one of src/, it stops and names them (CHOSEN has what was chosen).
 --list prints the names, old and new, and writes nothing.
@@ -169,7 +169,7 @@ def main():
         # strings stay
         return re.sub(r'b?"(?:[^"\\\n]|\\.)*"|[\w′\'-]+', lambda m: m.group(0) if m.group(0).lstrip("b").startswith('"') else new.get(m.group(0), m.group(0)), text)
     count = 0
-    for path in antt + sources + sorted(glob.glob("crates/*/must-fail/*.edit")) + ["README.md"] + sorted(glob.glob("docs/*.md")):
+    for path in antt + sources + sorted(glob.glob("crates/*/refused/*.edit") + glob.glob("crates/*/must-fail/*.edit")) + ["README.md"] + sorted(glob.glob("docs/*.md")):
         text = read(path)
         to = turn_rt(text) if path.endswith((".rt", ".antt")) else turn_page(text) if path.endswith(".md") else turn(text)
         if to != text:
