@@ -114,7 +114,8 @@ fn halves(high: u64, low: u64) -> Uuid {
 // where the sum wraps at 64 bits, compares it with at most 17 of its bucket, and sorts all where a bucket has more. Where
 // the index has more than 65536 bytes there are 8192 to 65535 buckets, by the same sum. An insert compares a key with at
 // most 17 of its bucket too; where one has more, it puts all keys into a tree, three bits a step: those of
-// the first half, then of the second, each from the last bit on.
+// the first half, then of the second, each from the last bit on. A key that is in a chain is compared by its tag first,
+// the first 16 bits of the sum, and by its row only where the tags are alike.
 const PRIME: u64 = 65449;
 const OWNER: u64 = 7919;
 const CHAIN: usize = 18;
@@ -156,10 +157,16 @@ fn too_long(n: usize, seed: u64, first: fn(&mut Rng) -> u64) -> Vec<Uuid> {
     u
 }
 
-/// Chains in so many buckets, which lie that far apart.
+/// Chains in so many buckets, which lie that far apart. All have one tag, so that each step compares rows.
 fn chains(n: usize, buckets: usize, apart: u64, seed: u64, first: fn(&mut Rng) -> u64) -> Vec<Uuid> {
     let mut r = Rng::new(4000 + seed);
-    (0..n).map(|k| halves(first(&mut r), multiple(&mut r) + apart * (k % buckets) as u64)).collect()
+    let sum = |k: usize| PRIME * (seed << 20 | k as u64 + 1) + apart * (k % buckets) as u64;
+    let low = |k: usize, high: u64| sum(k).wrapping_sub(high.wrapping_mul(31));
+    let one = |k: usize| {
+        let high = first(&mut r);
+        halves(high, low(k, high))
+    };
+    (0..n).map(one).collect()
 }
 
 /// Long chains all over 65449 of the 65535 buckets, so that each step is far from the one before.

@@ -14,6 +14,7 @@ use Rattle.text.proofs.BytesLaws.{first_le}
 use Rattle.text.proofs.LentLaws.{tail_length}
 use Rattle.text.specs.Bytes.{first_of}
 use Rattle.text.specs.declared.uuid.Spelled.{Spelled}
+use Rattle.store.specs.declared.chains.Link.{Link}
 use Rattle.store.specs.declared.rows.Row.{Row}
 use Rattle.store.specs.declared.claims.Dues.{Dues}
 use Rattle.store.specs.declared.table.Fill.{Fill}
@@ -51,7 +52,7 @@ wanted_part s at len v p e q =
     ap (λ (k : ℕ). wanted (take k (drop at s))) (sym (plus_minus at len)) ∙ sym e ∙ q
 
 -- the exits of `reach_row`
-module _ (d : Dues) (i t s : List ℕ) (a : List Row) (heads next : List ℕ) (w : Standing) (own at len : ℕ)
+module _ (d : Dues) (i t s : List ℕ) (a : List Row) (heads : List ℕ) (links : List Link) (w : Standing) (own at len : ℕ)
     (inside : at + len ≤ length s) where
   abbrev l : List ℕ
   l = take len (drop at s)
@@ -60,7 +61,7 @@ module _ (d : Dues) (i t s : List ℕ) (a : List Row) (heads next : List ℕ) (w
   part_long = length-take-le len (drop at s) (omega (arith, length-drop at s))
 
   pub slot_not : {v : Option Spelled} → v ≡ wanted (take (at + len - at) (drop at s)) → v ≡ None
-      → ReachesRow d i t s a heads next w own l a heads next (Ok w)
+      → ReachesRow d i t s a heads links w own l a heads links (Ok w)
   slot_not e q g old hs o x =
       goes w hs (reach-not (behind g i t own) hs l (wanted_part s at len _ _ e q)) refl x
 
@@ -69,13 +70,13 @@ module _ (d : Dues) (i t s : List ℕ) (a : List Row) (heads next : List ℕ) (w
     e : wanted l ≡ Some u
     e = wanted_part s at len _ _ e' q
 
-    pub slot_long : line_max < len → ReachesRow d i t s a heads next w own l a heads next (Err E.LineTooLong)
+    pub slot_long : line_max < len → ReachesRow d i t s a heads links w own l a heads links (Err E.LineTooLong)
     slot_long p g old hs o x =
         stops E.LineTooLong (reach_long (behind g i t own) hs l u e (omega (arith, part_long))) refl x.in_rows.tabled
 
     module _ (p : len ≤ line_max) where
-      pub slot_files : (g : List ℕ) (old : ℕ) (hs : List Held) → Owed g own hs d → InStanding i t s a heads next old w hs
-          → Files' g d i t s a heads next old w (key_by own u.id) at len hs
+      pub slot_files : (g : List ℕ) (old : ℕ) (hs : List Held) → Owed g own hs d → InStanding i t s a heads links old w hs
+          → Files' g d i t s a heads links old w (key_by own u.id) at len hs
       slot_files g old hs o x =
           record {
             owed = o;
@@ -84,8 +85,8 @@ module _ (d : Dues) (i t s : List ℕ) (a : List Row) (heads next : List ℕ) (w
             shape = record { some = wanted-some l u e; most = omega (arith, part_long) };
           }
 
-      module _ (a' : List Row) (heads' next' : List ℕ) (z : Result Standing Full)
-          (y : FilesRow d i t a heads next w (key_by own u.id) at len a' heads' next' z) where
+      module _ (a' : List Row) (heads' : List ℕ) (links' : List Link) (z : Result Standing Full)
+          (y : FilesRow d i t a heads links w (key_by own u.id) at len a' heads' links' z) where
         reached : (g : List ℕ) (hs : List Held) (r : Result ⊤ Full) → room_for (behind g i t own) (under own u.id l) hs ≡ r
             → reach (behind g i t own) hs l
             ≡ by_room r (stopped (Err E.NoRoom)) (stopped (Err E.NoText)) (after (file (under own u.id l) hs))
@@ -96,25 +97,25 @@ module _ (d : Dues) (i t s : List ℕ) (a : List Row) (heads next : List ℕ) (w
         says R.Index v = refl
         says R.Text v = refl
 
-        pub slot_full : (x : Full) → z ≡ Err x → ReachesRow d i t s a heads next w own l a' heads' next' (Err (insert_full x))
+        pub slot_full : (x : Full) → z ≡ Err x → ReachesRow d i t s a heads links w own l a' heads' links' (Err (insert_full x))
         slot_full x er g old hs o p = go (y g s old hs (slot_files g old hs o p))
           where
-            go : Filed g i t s a' heads' next' old w (under own u.id l) hs z
-                → Comes g i t s a' heads' next' old own l hs w (Err (insert_full x))
+            go : Filed g i t s a' heads' links' old w (under own u.id l) hs z
+                → Comes g i t s a' heads' links' old own l hs w (Err (insert_full x))
             go (fits w' q c k) = let n : ◌≡◌ {A = ℕ} 0 1 = cc in absurd (omega arith)
             go (full x' q c k) =
                 let n : x' ≡ x = cc in
                 stops (insert_full x) (reached g hs (Err x) (q ∙ ap (λ (m : Full). Err m) n) ∙ says x _) refl k
 
-        pub slot_filed : (w' : Standing) → z ≡ Ok w' → ReachesRow d i t s a heads next w own l a' heads' next' (Ok w')
+        pub slot_filed : (w' : Standing) → z ≡ Ok w' → ReachesRow d i t s a heads links w own l a' heads' links' (Ok w')
         slot_filed w' er g old hs o p = go (y g s old hs (slot_files g old hs o p))
           where
-            go : Filed g i t s a' heads' next' old w (under own u.id l) hs z
-                → Comes g i t s a' heads' next' old own l hs w (Ok w')
+            go : Filed g i t s a' heads' links' old w (under own u.id l) hs z
+                → Comes g i t s a' heads' links' old own l hs w (Ok w')
             go (fits w'' q c k) =
                 let n : w'' ≡ w' = cc in
                 goes w' (file (under own u.id l) hs) (reached g hs (Ok tt) q) refl
-                (subst (λ (m : Standing). InStanding i t s a' heads' next' old m (file (under own u.id l) hs)) n k)
+                (subst (λ (m : Standing). InStanding i t s a' heads' links' old m (file (under own u.id l) hs)) n k)
             go (full x q c k) = let n : ◌≡◌ {A = ℕ} 0 1 = cc in absurd (omega arith)
 
 -- what the loop cut off: the first line from `at` on
@@ -140,29 +141,29 @@ runs_line by s at end l e line el hs c =
     (λ ks. insert_lines by ks (suc c) (lines_of (drop (at + (end + 1)) s)))) (sym el)
 
 -- the loop of `take_lines`: the lines before `at` are filed, and the rest has the whole's answer
-pub record Took (g i t s : List ℕ) (a : List Row) (heads next : List ℕ) (own from old : ℕ) (w : Standing) (at count : ℕ)
+pub record Took (g i t s : List ℕ) (a : List Row) (heads : List ℕ) (links : List Link) (own from old : ℕ) (w : Standing) (at count : ℕ)
     (hs : List Held) : Type 0 where
   pub ks : List Held
   pub others : not_of own ks ≡ not_of own hs
-  pub standing : InStanding i t s a heads next old w ks
+  pub standing : InStanding i t s a heads links old w ks
   pub keeps : GoodFor (behind g i t own) hs → GoodFor (behind g i t own) ks
   pub run : (c : ℕ) → insert_lines (behind g i t own) hs c (lines_of (drop from s))
       ≡ insert_lines (behind g i t own) ks (c + count) (lines_of (drop at s))
 
-pub record Taking (d : Dues) (i t s : List ℕ) (a₀ : List Row) (heads₀ next₀ : List ℕ) (own from : ℕ) (w₀ : Standing)
-    (a : List Row) (heads next : List ℕ) (w : Standing) (at count : ℕ) : Type 0 where
+pub record Taking (d : Dues) (i t s : List ℕ) (a₀ : List Row) (heads₀ : List ℕ) (links₀ : List Link) (own from : ℕ) (w₀ : Standing)
+    (a : List Row) (heads : List ℕ) (links : List Link) (w : Standing) (at count : ℕ) : Type 0 where
   pub within : at ≤ length s + 1
   pub counted : from + count ≤ at
   pub still : at ≡ from → w.fill.count ≡ w₀.fill.count
-  pub took : (g : List ℕ) (old : ℕ) (hs : List Held) → Owed g own hs d → InStanding i t s a₀ heads₀ next₀ old w₀ hs
-      → Took g i t s a heads next own from old w at count hs
+  pub took : (g : List ℕ) (old : ℕ) (hs : List Held) → Owed g own hs d → InStanding i t s a₀ heads₀ links₀ old w₀ hs
+      → Took g i t s a heads links own from old w at count hs
 
-module _ {d : Dues} {i t s : List ℕ} {a₀ : List Row} {heads₀ next₀ : List ℕ} {own from : ℕ} {w₀ : Standing} where
-  module _ {a : List Row} {heads next : List ℕ} {w : Standing} {at count : ℕ}
-      (k : Taking d i t s a₀ heads₀ next₀ own from w₀ a heads next w at count) where
-    pub taken : SomeRows d own i t s a₀ heads₀ next₀ w₀ → SomeRows d own i t s a heads next w
+module _ {d : Dues} {i t s : List ℕ} {a₀ : List Row} {heads₀ : List ℕ} {links₀ : List Link} {own from : ℕ} {w₀ : Standing} where
+  module _ {a : List Row} {heads : List ℕ} {links : List Link} {w : Standing} {at count : ℕ}
+      (k : Taking d i t s a₀ heads₀ links₀ own from w₀ a heads links w at count) where
+    pub taken : SomeRows d own i t s a₀ heads₀ links₀ w₀ → SomeRows d own i t s a heads links w
     taken (g, (old, (hs, (o, p)))) =
-        let x : Took g i t s a heads next own from old w at count hs = k.took g old hs o p in
+        let x : Took g i t s a heads links own from old w at count hs = k.took g old hs o p in
         (g, (old, (x.ks, (owed_on g own hs x.ks d x.others o, x.standing))))
 
     pub first_at_lem : from ≤ at
@@ -170,12 +171,12 @@ module _ {d : Dues} {i t s : List ℕ} {a₀ : List Row} {heads₀ next₀ : Lis
 
     -- the insert goes on from `at`
     pub take_on : (w₀.fill.count < length a₀ → from < length s → from < at)
-        → TakesLines d i t s a₀ heads₀ next₀ own from w₀ a heads next
+        → TakesLines d i t s a₀ heads₀ links₀ own from w₀ a heads links
         (record { answer = Ok tt; at = at; count = count; standing = w })
         × Went s from w₀.fill.count (length a₀) (record { answer = Ok tt; at = at; count = count; standing = w })
     take_on moves = (
       λ g old hs o p.
-          let x : Took g i t s a heads next own from old w at count hs = k.took g old hs o p in
+          let x : Took g i t s a heads links own from old w at count hs = k.took g old hs o p in
           onward x.ks refl x.run x.keeps
           (record { tabled = x.standing.in_rows.tabled; others = x.others; goes_on = λ e. x.standing }),
       record { within = k.within; counted = k.counted; moved = λ p q o. moves p q },
@@ -184,17 +185,17 @@ module _ {d : Dues} {i t s : List ℕ} {a₀ : List Row} {heads₀ next₀ : Lis
     -- one line on
     module _ (l : at < length s) {end : ℕ} (e : end ≡ first_of lf (take (length s - at) (drop at s))) (len : ℕ)
         (el : take len (take (length s - at) (drop at s)) ≡ first_line (take (length s - at) (drop at s)))
-        (r : Result Standing StoreError) (a' : List Row) (heads' next' : List ℕ)
-        (y : ReachesRow d i t s a heads next w own (take len (drop at s)) a' heads' next' r) where
+        (r : Result Standing StoreError) (a' : List Row) (heads' : List ℕ) (links' : List Link)
+        (y : ReachesRow d i t s a heads links w own (take len (drop at s)) a' heads' links' r) where
       abbrev line : List ℕ
       line = take len (drop at s)
 
       module _ (g : List ℕ) (old : ℕ) (hs : List Held) (o : Owed g own hs d)
-          (x : Took g i t s a heads next own from old w at count hs) where
+          (x : Took g i t s a heads links own from old w at count hs) where
         abbrev by : Caller
         by = behind g i t own
 
-        comes : Comes g i t s a' heads' next' old own line x.ks w r
+        comes : Comes g i t s a' heads' links' old own line x.ks w r
         comes = y g old x.ks (owed_on g own hs x.ks d x.others o) x.standing
 
         runs : (v : Reached) → reach by x.ks line ≡ v → (c : ℕ)
@@ -207,9 +208,9 @@ module _ {d : Dues} {i t s : List ℕ} {a₀ : List Row} {heads₀ next₀ : Lis
             ∙ ap (λ (v : Reached). on_reached v (λ b. insert_turn x.ks b (c + count))
             (λ js. insert_lines by js (suc (c + count)) (lines_of (drop (at + (end + 1)) s)))) q
 
-        stopped_at : (e : StoreError) → r ≡ Err e → Comes g i t s a' heads' next' old own line x.ks w r
+        stopped_at : (e : StoreError) → r ≡ Err e → Comes g i t s a' heads' links' old own line x.ks w r
             → Takes (behind g i t own) s from hs (record { answer = Err e; at = at; count = count; standing = w })
-            (Stood i t s a' heads' next' old own hs (record { answer = Err e; at = at; count = count; standing = w }))
+            (Stood i t s a' heads' links' old own hs (record { answer = Err e; at = at; count = count; standing = w }))
         stopped_at e z (goes w' js q v p) = let n : ◌≡◌ {A = ℕ} 0 1 = cc in absurd (omega arith)
         stopped_at e z (stops e' q v p) =
             let n : e' ≡ e = cc in
@@ -222,15 +223,15 @@ module _ {d : Dues} {i t s : List ℕ} {a₀ : List Row} {heads₀ next₀ : Lis
               goes_on = λ z. let n : ◌≡◌ {A = ℕ} 0 1 = cc in absurd (omega arith);
             })
 
-        next_line : own < 256 → (w' : Standing) → r ≡ Ok w' → Comes g i t s a' heads' next' old own line x.ks w r
-            → Took g i t s a' heads' next' own from old w' (at + (end + 1)) (count + 1) hs
+        next_line : own < 256 → (w' : Standing) → r ≡ Ok w' → Comes g i t s a' heads' links' old own line x.ks w r
+            → Took g i t s a' heads' links' own from old w' (at + (end + 1)) (count + 1) hs
         next_line byte w' z (stops e' q v p) = let n : ◌≡◌ {A = ℕ} 0 1 = cc in absurd (omega arith)
         next_line byte w' z (goes w'' js q v p) =
             let n : w'' ≡ w' = cc in
             record {
               ks = js;
               others = after_others by x.ks line js q ∙ x.others;
-              standing = subst (λ (m : Standing). InStanding i t s a' heads' next' old m js) n p;
+              standing = subst (λ (m : Standing). InStanding i t s a' heads' links' old m js) n p;
               keeps = λ b. subst (Kept by) q (keeps_reach by o.each byte x.ks (x.keeps b) line);
               run = λ c.
                   let more : suc (c + count) ≡ c + (count + 1) = omega arith in
@@ -239,12 +240,12 @@ module _ {d : Dues} {i t s : List ℕ} {a₀ : List Row} {heads₀ next₀ : Lis
             }
 
       pub take_off : (e : StoreError) → r ≡ Err e
-          → TakesLines d i t s a₀ heads₀ next₀ own from w₀ a' heads' next'
+          → TakesLines d i t s a₀ heads₀ links₀ own from w₀ a' heads' links'
           (record { answer = Err e; at = at; count = count; standing = w })
           × Went s from w₀.fill.count (length a₀) (record { answer = Err e; at = at; count = count; standing = w })
       take_off e z = (
         λ g old hs o p.
-            let x : Took g i t s a heads next own from old w at count hs = k.took g old hs o p in
+            let x : Took g i t s a heads links own from old w at count hs = k.took g old hs o p in
             stopped_at g old hs o x e z (comes g old hs o x),
         record {
           within = k.within;
@@ -254,34 +255,34 @@ module _ {d : Dues} {i t s : List ℕ} {a₀ : List Row} {heads₀ next₀ : Lis
       )
 
       pub take-turn : own < 256 → (w' : Standing) → r ≡ Ok w'
-          → Taking d i t s a₀ heads₀ next₀ own from w₀ a' heads' next' w' (at + (end + 1)) (count + 1)
+          → Taking d i t s a₀ heads₀ links₀ own from w₀ a' heads' links' w' (at + (end + 1)) (count + 1)
       take-turn byte w' z = record {
         within = omega (arith, l, end_within at s end e);
         counted = omega (arith, k.counted);
         still = λ v. absurd (omega (arith, k.counted));
         took = λ g old hs o p.
-            let x : Took g i t s a heads next own from old w at count hs = k.took g old hs o p in
+            let x : Took g i t s a heads links own from old w at count hs = k.took g old hs o p in
             next_line g old hs o x byte w' z (comes g old hs o x);
       }
 
 -- two walks, one behind the other
-module _ {d : Dues} {i t s : List ℕ} {a₀ : List Row} {heads₀ next₀ : List ℕ} {own from : ℕ} {w₀ : Standing}
-    {a : List Row} {heads next : List ℕ} {r : Walked} (x : TakesLines d i t s a₀ heads₀ next₀ own from w₀ a heads next r)
+module _ {d : Dues} {i t s : List ℕ} {a₀ : List Row} {heads₀ : List ℕ} {links₀ : List Link} {own from : ℕ} {w₀ : Standing}
+    {a : List Row} {heads : List ℕ} {links : List Link} {r : Walked} (x : TakesLines d i t s a₀ heads₀ links₀ own from w₀ a heads links r)
     (e : r.answer ≡ Ok tt) where
-  pub some_on : SomeRows d own i t s a₀ heads₀ next₀ w₀ → SomeRows d own i t s a heads next r.standing
+  pub some_on : SomeRows d own i t s a₀ heads₀ links₀ w₀ → SomeRows d own i t s a heads links r.standing
   some_on (g, (old, (hs, (o, p)))) = go (x g old hs o p)
     where
-      go : Takes (behind g i t own) s from hs r (Stood i t s a heads next old own hs r)
-          → SomeRows d own i t s a heads next r.standing
+      go : Takes (behind g i t own) s from hs r (Stood i t s a heads links old own hs r)
+          → SomeRows d own i t s a heads links r.standing
       go (onward ks z run k q) = (g, (old, (ks, (owed_on g own hs ks d q.others o, q.goes_on e))))
       go (halted ks v z run k q) = let n : ◌≡◌ {A = ℕ} 0 1 = cc in absurd (omega arith)
 
-  module _ {a' : List Row} {heads' next' : List ℕ} {r' : Walked}
-      (y : TakesLines d i t s a heads next own r.at r.standing a' heads' next' r') where
+  module _ {a' : List Row} {heads' : List ℕ} {links' : List Link} {r' : Walked}
+      (y : TakesLines d i t s a heads links own r.at r.standing a' heads' links' r') where
     abbrev both : Walked
     both = record { answer = r'.answer; at = r'.at; count = r.count + r'.count; standing = r'.standing }
 
-    pub takes_both : TakesLines d i t s a₀ heads₀ next₀ own from w₀ a' heads' next'
+    pub takes_both : TakesLines d i t s a₀ heads₀ links₀ own from w₀ a' heads' links'
         (record { answer = r'.answer; at = r'.at; count = r.count + r'.count; standing = r'.standing })
     takes_both g old hs o p = go (x g old hs o p)
       where
@@ -291,8 +292,8 @@ module _ {d : Dues} {i t s : List ℕ} {a₀ : List Row} {heads₀ next₀ : Lis
         on : (ks : List Held) → ((c : ℕ) → insert_lines (behind g i t own) hs c (lines_of (drop from s))
             ≡ insert_lines (behind g i t own) ks (c + r.count) (lines_of (drop r.at s)))
             → (GoodFor (behind g i t own) hs → GoodFor (behind g i t own) ks) → not_of own ks ≡ not_of own hs
-            → Takes (behind g i t own) s r.at ks r' (Stood i t s a' heads' next' old own ks r')
-            → Takes (behind g i t own) s from hs both (Stood i t s a' heads' next' old own hs both)
+            → Takes (behind g i t own) s r.at ks r' (Stood i t s a' heads' links' old own ks r')
+            → Takes (behind g i t own) s from hs both (Stood i t s a' heads' links' old own hs both)
         on ks run k m (onward js z run' k' q) =
             onward js z
             (λ c. run c ∙ run' (c + r.count)
@@ -302,8 +303,8 @@ module _ {d : Dues} {i t s : List ℕ} {a₀ : List Row} {heads₀ next₀ : Lis
             halted js v z (λ c. run c ∙ run' (c + r.count) ∙ ap (insert_turn js (Err v)) (more c))
             (λ b. k' (k b)) (record { tabled = q.tabled; others = q.others ∙ m; goes_on = q.goes_on })
 
-        go : Takes (behind g i t own) s from hs r (Stood i t s a heads next old own hs r)
-            → Takes (behind g i t own) s from hs both (Stood i t s a' heads' next' old own hs both)
+        go : Takes (behind g i t own) s from hs r (Stood i t s a heads links old own hs r)
+            → Takes (behind g i t own) s from hs both (Stood i t s a' heads' links' old own hs both)
         go (onward ks z run k q) =
             on ks run k q.others (y g old ks (owed_on g own hs ks d q.others o) (q.goes_on e))
         go (halted ks v z run k q) = let n : ◌≡◌ {A = ℕ} 0 1 = cc in absurd (omega arith)
@@ -324,27 +325,27 @@ takes_held : {by : Caller} {from : ℕ} {s : List ℕ} {hs : List Held} {r : Wal
 takes_held (onward ks o run g p) = (ks, p)
 takes_held (halted ks e o run g p) = (ks, p)
 
-module _ (d : Dues) (g i t s : List ℕ) (a : List Row) (heads next : List ℕ) (f : Fill) (own : ℕ)
-    (loaded : Loads i a heads next f) (b₀ : Border) (bordered : Bordered a f.count b₀)
+module _ (d : Dues) (g i t s : List ℕ) (a : List Row) (heads : List ℕ) (links : List Link) (f : Fill) (own : ℕ)
+    (loaded : Loads i a heads links f) (b₀ : Border) (bordered : Bordered a f.count b₀)
     (owed : (hs : List Held) → decode i t ≡ some hs → Owed g own hs d) where
   abbrev w₀ : Standing
   w₀ = record { fill = f; border = b₀ }
 
-  stood : (hs : List Held) → decode i t ≡ some hs → InStanding i t s a heads next f.count w₀ hs
+  stood : (hs : List Held) → decode i t ≡ some hs → InStanding i t s a heads links f.count w₀ hs
   stood hs e = record { in_rows = loaded t s hs e; bordered = bordered }
 
-  pub loads_held : known (decode i t) ≡ true → SomeRows d own i t s a heads next (record { fill = f; border = b₀ })
+  pub loads_held : known (decode i t) ≡ true → SomeRows d own i t s a heads links (record { fill = f; border = b₀ })
   loads_held k =
       let q : (hs : List Held) × (decode i t ≡ some hs) = lines_of_lem (decode i t) k in
       (g, (f.count, (q.0, (owed q.0 q.1, stood q.0 q.1))))
 
   module _ (from : ℕ) (b : List Row) (r : Walked)
-      {heads' next' : List ℕ}
-      (takes : TakesLines d i t s a heads next own from (record { fill = f; border = b₀ }) b heads' next' r) where
+      {heads' : List ℕ} {links' : List Link}
+      (takes : TakesLines d i t s a heads links own from (record { fill = f; border = b₀ }) b heads' links' r) where
     abbrev By : (List Held → Type 0) → List Held → Type 0
     By P hs = Takes (behind g i t own) s from hs r P
 
-    took : (hs : List Held) → decode i t ≡ some hs → By (Stood i t s b heads' next' f.count own hs r) hs
+    took : (hs : List Held) → decode i t ≡ some hs → By (Stood i t s b heads' links' f.count own hs r) hs
     took hs e = takes g f.count hs (owed hs e) (stood hs e)
 
     pub batch_settles : known (decode i t) ≡ true → Settles i t s b f r.standing.fill.count
@@ -356,11 +357,11 @@ module _ (d : Dues) (g i t s : List ℕ) (a : List Row) (heads next : List ℕ) 
     pub batch_end : (i' t' : List ℕ) → Settled i t s b f r.standing.fill.count i' t' → Batches g i t own s from r i' t'
     batch_end i' t' w hs e = go (took hs e)
       where
-        held : (ks : List Held) → Stood i t s b heads' next' f.count own hs r ks
+        held : (ks : List Held) → Stood i t s b heads' links' f.count own hs r ks
             → Encoded (length i) (length t) i' t' ks
         held ks p = record { index = (w ks p.tabled).0; text = (w ks p.tabled).1 }
 
-        go : By (Stood i t s b heads' next' f.count own hs r) hs → By (Encoded (length i) (length t) i' t') hs
+        go : By (Stood i t s b heads' links' f.count own hs r) hs → By (Encoded (length i) (length t) i' t') hs
         go (onward ks o run k p) = onward ks o run k (held ks p)
         go (halted ks v o run k p) = halted ks v o run k (held ks p)
 

@@ -13,8 +13,9 @@ use lib.ListN.{length, get_or, set, replicate, get_or-replicate, length-replicat
 use lib.Seq.{get_or-set_same, get_or-set_other}
 use borrow.Author.Count.{below_more}
 use borrow.Author.Tests.{ltb-true, ltb-false, eqb-true, eqb-false}
+use Rattle.store.specs.declared.chains.Link.{Link}
 use Rattle.store.specs.Held.{Key, same_key}
-use Rattle.store.specs.Keys.{bucket, AllApart, Twice, NotIn, Kin, Last, Linked, Headed}
+use Rattle.store.specs.Keys.{bucket, tag_of, no_link, link_in, next_in, Links, AllApart, Twice, NotIn, Kin, Last, Linked, Headed}
 use Rattle.store.specs.Keys.{Chained, Seeks, Sought, Says, Tells, told_of}
 use Rattle.store.specs.declared.chains.Verdict.{Verdict}
 use Rattle.store.specs.declared.chains.Verdict.TheVariants as Vd
@@ -33,9 +34,9 @@ pub record Seeking (N : ℕ) (K : ℕ → Key) (k m c : ℕ) : Type 0 where
   pub kin : Kin N K k c
   pub within : c ≤ k
 
-pub seek_turn : (N : ℕ) (K : ℕ → Key) (next : List ℕ) (k m c d : ℕ) → Linked N K next k → Seeking N K k m c → 0 < c
-    → same_key (K (c - 1)) (K k) ≡ false → d ≡ get_or next (c - 1) 0 → Seeking N K k m d × (d < c)
-seek_turn N K next k m c d links s pos ne hd = (
+pub seek_turn : (N : ℕ) (K : ℕ → Key) (links : List Link) (k m c d : ℕ) → Linked N K links k → Seeking N K k m c → 0 < c
+    → same_key (K (c - 1)) (K k) ≡ false → d ≡ next_in links (c - 1) → Seeking N K k m d × (d < c)
+seek_turn N K links k m c d linked s pos ne hd = (
   record {
     passed = λ j l h e. go j l h e (ltb j (c - 1)) refl;
     kin = λ p. last.kin p ∙ s.kin pos;
@@ -45,7 +46,7 @@ seek_turn N K next k m c d links s pos ne hd = (
 )
   where
     last : Last N K (bucket N (K (c - 1))) (c - 1) d
-    last = subst (Last N K (bucket N (K (c - 1))) (c - 1)) (sym hd) (links (c - 1) (omega (arith, s.within)))
+    last = subst (Last N K (bucket N (K (c - 1))) (c - 1)) (sym hd) (linked (c - 1) (omega (arith, s.within))).0
 
     go : (j : ℕ) → d ≤ j → j < m → K j ≡ K k → (t : Bool) → ltb j (c - 1) ≡ t → ⊥
     go j l h e true t = last.near j l (ltb-true j (c - 1) t) (ap (bucket N) e ∙ sym (s.kin pos))
@@ -54,9 +55,9 @@ seek_turn N K next k m c d links s pos ne hd = (
         (eq-or-lt_of_le (ltb-false j (c - 1) t))
 
 -- the first step of number k, which is linked, in the chain that starts before m: where m is 0, nothing comes behind it
-module _ (N : ℕ) (K : ℕ → Key) (next : List ℕ) (k m : ℕ) (links : Linked N K next (k + 1)) (kin : Kin N K k m)
+module _ (N : ℕ) (K : ℕ → Key) (links : List Link) (k m : ℕ) (linked : Linked N K links (k + 1)) (kin : Kin N K k m)
     (w : m ≤ k) where
-  pub step_on : (d : ℕ) → same_key (K (m - 1)) (K k) ≡ false → d ≡ get_or next (m - 1) 0
+  pub step_on : (d : ℕ) → same_key (K (m - 1)) (K k) ≡ false → d ≡ next_in links (m - 1)
       → (NotIn K k d m × (d ≤ m)) × Kin N K k d
   step_on d ne e = go (eqb m 0) refl
     where
@@ -65,11 +66,11 @@ module _ (N : ℕ) (K : ℕ → Key) (next : List ℕ) (k m : ℕ) (links : Link
           let z : m ≡ 0 = eqb-true m 0 t in
           let first : m - 1 ≡ 0 = omega (arith, z) in
           let least : d ≤ 0
-          = subst (λ (x : ℕ). x ≤ 0) (sym (e ∙ ap (λ (i : ℕ). get_or next i 0) first)) (links 0 (omega arith)).within in
+          = subst (λ (x : ℕ). x ≤ 0) (sym (e ∙ ap (λ (i : ℕ). next_in links i) first)) (linked 0 (omega arith)).0.within in
           ((λ j l h q. omega (arith, z, h), omega (arith, z, least)), λ p. absurd (omega (arith, p, least)))
       go false t =
           let n : m ≡ 0 → ⊥ = eqb-false m 0 t in
-          let on = seek_turn N K next k m m d (λ a l. links a (omega (arith, l)))
+          let on = seek_turn N K links k m m d (λ a l. linked a (omega (arith, l)))
           (record { passed = λ j l h q. omega arith; kin = kin; within = w }) (omega (arith, n)) ne e in
           ((on.0.passed, omega (arith, on.1)), on.0.kin)
 
@@ -81,14 +82,14 @@ seeks_from K k m d r n q = record { clear = λ l j a b e. go l j a b e (ltb j d)
     go l j a b e true t = q.clear l j a (ltb-true j d t) e
     go l j a b e false t = n j (ltb-false j d t) b e
 
-pub chained_none : (K : ℕ → Key) (N : ℕ) → N ≤ 65535 → Chained K (replicate N 0) (replicate N 0) 0
-chained_none K N m = record {
-  links = λ a l. absurd (omega arith);
+pub chained_none : (K : ℕ → Key) (N : ℕ) (l : Link) → N ≤ 65535 → Chained K (replicate N 0) (replicate N l) 0
+chained_none K N v m = record {
+  linked = λ a l. absurd (omega arith);
   ends = λ b l. subst (Last (length (replicate {A = ℕ} N 0)) K b 0)
       (sym (get_or-replicate {A = ℕ} N b 0 0 (omega (arith, l, length-replicate {A = ℕ} N 0))))
       (record { near = λ j m n e. omega arith; kin = λ p. absurd (omega arith); within = omega arith });
   most = omega (arith, length-replicate {A = ℕ} N 0);
-  alike = refl;
+  alike = length-replicate N v ∙ sym (length-replicate {A = ℕ} N 0);
 }
 
 -- what the chain says, all numbers below k say
@@ -100,16 +101,16 @@ chain_sought N K k c last r q = record { clear = λ l j a b e. go l j a b e (ltb
     go l j a b e true t = q.clear l j a (ltb-true j c t) e
     go l j a b e false t = last.near j (ltb-false j c t) b (ap (bucket N) e)
 
-pub chain_from : (N : ℕ) (K : ℕ → Key) (next : List ℕ) (n k c : ℕ) → Linked N K next n → k < n → c ≡ get_or next k 0
+pub chain_from : (N : ℕ) (K : ℕ → Key) (links : List Link) (n k c : ℕ) → Linked N K links n → k < n → c ≡ next_in links k
     → Last N K (bucket N (K k)) k c
-chain_from N K next n k c links l e = subst (Last N K (bucket N (K k)) k) (sym e) (links k l)
+chain_from N K links n k c linked l e = subst (Last N K (bucket N (K k)) k) (sym e) (linked k l).0
 
 -- number k, of bucket h, is linked to c, the head of its chain
-module _ {N : ℕ} {K : ℕ → Key} {heads next : List ℕ} {k h c : ℕ} (s : Chained K heads next k)
+module _ {N : ℕ} {K : ℕ → Key} {heads : List ℕ} {links : List Link} {k h c : ℕ} (s : Chained K heads links k)
     (hn : length heads ≡ N) (at : (h ≡ bucket N (K k)) × (h < N)) (hc : c ≡ get_or heads h 0) (kl : k < N) where
   -- the links so far, by that number of buckets
-  pub links_so_far : Linked N K next k
-  links_so_far = subst (λ (n : ℕ). Linked n K next k) hn s.links
+  pub links_so_far : Linked N K links k
+  links_so_far = subst (λ (n : ℕ). Linked n K links k) hn s.linked
 
   pub here : Last N K (bucket N (K k)) k c
   here =
@@ -119,12 +120,14 @@ module _ {N : ℕ} {K : ℕ → Key} {heads next : List ℕ} {k h c : ℕ} (s : 
   pub sought : {r : ℕ} → Seeks K k c r → Sought K k r
   sought q = chain_sought N K k c here _ q
 
-  pub links_turn : Linked N K (set next k c) (k + 1)
-  links_turn =
-      below_more (λ (a : ℕ). Last N K (bucket N (K a)) a (get_or (set next k c) a 0)) k
-      (λ a l. subst (Last N K (bucket N (K a)) a) (sym (get_or-set_other next k a c 0 (λ e. omega arith)))
-      (links_so_far a l))
-      (subst (Last N K (bucket N (K k)) k) (sym (get_or-set_same next k c 0 (omega (arith, s.alike, hn)))) here)
+  -- the links with that of number k
+  module _ (v : Link) (hv : (v.next ≡ c) × (v.tag ≡ tag_of (K k))) where
+    pub links_turn : Linked N K (set links k v) (k + 1)
+    links_turn =
+        below_more (λ (a : ℕ). Links N K a (link_in (set links k v) a)) k
+        (λ a l. subst (Links N K a) (sym (get_or-set_other links k a v no_link (λ e. omega arith))) (links_so_far a l))
+        (subst (Links N K k) (sym (get_or-set_same links k v no_link (omega (arith, s.alike, hn))))
+        (subst (Last N K (bucket N (K k)) k) (sym hv.0) here, hv.1))
 
   module _ (v : ℕ) (hv : v ≡ k + 1) where
     heads_turn : Headed N K (set heads h v) (k + 1)
@@ -158,12 +161,13 @@ module _ {N : ℕ} {K : ℕ → Key} {heads next : List ℕ} {k h c : ℕ} (s : 
     heads_kept : length (set heads h v) ≡ N
     heads_kept = length-set heads h v ∙ hn
 
-    pub chained_turn : Chained K (set heads h v) (set next k c) (k + 1)
-    chained_turn = record {
-      links = subst (λ (n : ℕ). Linked n K (set next k c) (k + 1)) (sym heads_kept) links_turn;
+    pub chained_turn : (x : Link) → (x.next ≡ c) × (x.tag ≡ tag_of (K k))
+        → Chained K (set heads h v) (set links k x) (k + 1)
+    chained_turn x hx = record {
+      linked = subst (λ (n : ℕ). Linked n K (set links k x) (k + 1)) (sym heads_kept) (links_turn x hx);
       ends = subst (λ (n : ℕ). Headed n K (set heads h v) (k + 1)) (sym heads_kept) heads_turn;
       most = omega (arith, length-set heads h v, s.most);
-      alike = length-set next k c ∙ s.alike ∙ sym (length-set heads h v);
+      alike = length-set links k x ∙ s.alike ∙ sym (length-set heads h v);
     }
 
 -- the first k are apart, and so is the next one

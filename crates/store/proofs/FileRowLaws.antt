@@ -15,6 +15,7 @@ use lib.Seq.{length-take-le}
 use borrow.Author.Count.{below_more}
 use borrow.Author.Tests.{eqb-false, ne_eqb, le-ltb}
 use Rattle.text.specs.Bytes.{pick}
+use Rattle.store.specs.declared.chains.Link.{Link}
 use Rattle.store.specs.declared.rows.Row.{Row}
 use Rattle.store.specs.declared.border.Standing.{Standing}
 use Rattle.store.specs.declared.claims.Dues.{Dues}
@@ -38,8 +39,8 @@ use Rattle.store.proofs.TreeLaws.{searched_keys}
 use Rattle.store.proofs.WriteLaws.{put_long, len_back, put_before_long, put_before_key}
 use Rattle.store.specs.declared.table.Full.{Full}
 
-module _ {g : List ℕ} {d : Dues} {i t s : List ℕ} {a : List Row} {heads next : List ℕ} {old : ℕ} {w : Standing}
-    {u : Key} {start len : ℕ} {hs : List Held} (z : Files' g d i t s a heads next old w u start len hs)
+module _ {g : List ℕ} {d : Dues} {i t s : List ℕ} {a : List Row} {heads : List ℕ} {links : List Link} {old : ℕ} {w : Standing}
+    {u : Key} {start len : ℕ} {hs : List Held} (z : Files' g d i t s a heads links old w u start len hs)
     (cl : w.fill.count < length a)
   where
     abbrev n : ℕ
@@ -54,7 +55,7 @@ module _ {g : List ℕ} {d : Dues} {i t s : List ℕ} {a : List Row} {heads next
     abbrev S : ℕ → List Held
     S k = line_at t s a old k
 
-    abbrev x : InRows i t s a heads next old w.fill hs
+    abbrev x : InRows i t s a heads links old w.fill hs
     x = z.standing.in_rows
 
     abbrev h : Held
@@ -139,15 +140,15 @@ module _ {g : List ℕ} {d : Dues} {i t s : List ℕ} {a : List Row} {heads next
               };
             }
 
-            pub rows_more : (heads' next' : List ℕ) → Chained K' heads' next' (n + 1)
-                → InStanding i t s b heads' next' old v (file h hs)
-            rows_more heads' next' ch = record {
+            pub rows_more : (heads' : List ℕ) (links' : List Link) → Chained K' heads' links' (n + 1)
+                → InStanding i t s b heads' links' old v (file h hs)
+            rows_more heads' links' ch = record {
               in_rows = record {
                 tabled = subst (λ (m : ℕ). Tabled i t s b old m (file h hs)) (sym c.count) tabled_v;
                 older = λ j k l q o. older' j k l (omega (arith, c.count))
                     (y.keys j (omega (arith, c.count)) ∙ o ∙ sym (y.keys k (omega (arith, c.count))));
-                chained = subst (Chained (key_in b) heads' next') (sym c.count)
-                    (chained_agree K' (key_in b) (n + 1) y.keys heads' next' ch);
+                chained = subst (Chained (key_in b) heads' links') (sym c.count)
+                    (chained_agree K' (key_in b) (n + 1) y.keys heads' links' ch);
                 end = end_is;
                 used = used_is;
                 limits = x.limits;
@@ -215,22 +216,22 @@ module _ {g : List ℕ} {d : Dues} {i t s : List ℕ} {a : List Row} {heads next
         pub can_weigh : {v : Standing} → Replaced c w v → Weighable d v.fill
         can_weigh {v} q = weighs c goes_out v q
 
-        module _ {v : Standing} (q : Replaced c w v) {heads' next' : List ℕ} where
+        module _ {v : Standing} (q : Replaced c w v) {heads' : List ℕ} {links' : List Link} where
           pub files_full : {o : List Row} → o ≡ put_before c r had → (k : Full)
               → room_by d (length i) (length t) v.fill ≡ Err k
-              → Filed g i t s o heads' next' old w (record { key = u; line = take len (drop start s) }) hs (Err k)
+              → Filed g i t s o heads' links' old w (record { key = u; line = take len (drop start s) }) hs (Err k)
           files_full {o} f k l =
               full k (sym (room_same c goes_out v q) ∙ l) refl
               (subst (λ (y : List Row). Tabled i t s y old w.fill.count hs) (sym (f ∙ back))
               (tabled_same x.tabled b long_b kept_b))
 
-          pub files_fit : Chained (key_in b) heads' next' (w.fill.count + 1)
+          pub files_fit : Chained (key_in b) heads' links' (w.fill.count + 1)
               → room_by d (length i) (length t) v.fill ≡ Ok tt
-              → Filed g i t s c heads' next' old w (record { key = u; line = take len (drop start s) }) hs (Ok v)
+              → Filed g i t s c heads' links' old w (record { key = u; line = take len (drop start s) }) hs (Ok v)
           files_fit ch l =
               fits v (sym (room_same c goes_out v q) ∙ l) refl
-              (rows_more c goes_out v q l heads' next'
-              (subst (λ (y : List Row). Chained (key_in y) heads' next' (n + 1)) p.put ch))
+              (rows_more c goes_out v q l heads' links'
+              (subst (λ (y : List Row). Chained (key_in y) heads' links' (n + 1)) p.put ch))
 
 -- a line that is struck out leaves the tree
 pub searched_on : (w : List Node) (a b : List Row) (n m r : ℕ) → r ≤ length a → b ≡ put_before a r 0 → m ≡ n + 1

@@ -13,6 +13,7 @@ use lib.Seq.{take_at, drop_at}
 use borrow.Author.Count.{below_more}
 use borrow.Author.Tests.{lt-ltb}
 use Rattle.text.specs.Bytes.{pick}
+use Rattle.store.specs.declared.chains.Link.{Link}
 use Rattle.store.specs.declared.rows.Row.{Row}
 use Rattle.store.specs.declared.records.Head.{Head}
 use Rattle.store.specs.declared.table.Fill.{Fill}
@@ -48,10 +49,10 @@ pub record Loaded (i : List ℕ) (at : ℕ) (a : List Row) (n u : ℕ) (hs : Lis
   pub ahead : (t s z : List ℕ) (old : ℕ) → n ≤ old → t ≡ texts hs ++ z → (k : ℕ) → k < n
       → length (texts (living (line_at t s a old) k)) ≤ start_in a k
 
-pub record Loading (i : List ℕ) (at : ℕ) (a : List Row) (heads next : List ℕ) (n used : ℕ) : Type 0 where
+pub record Loading (i : List ℕ) (at : ℕ) (a : List Row) (heads : List ℕ) (links : List Link) (n used : ℕ) : Type 0 where
   pub many : 21 * n ≤ at
   pub enough : Enough (length a) (length i)
-  pub chained : Chained (key_in a) heads next n
+  pub chained : Chained (key_in a) heads links n
   pub listing : Listing i at a n
   pub loaded : (hs : List Held) → Lies 0 hs i → Loaded i at a n used hs
 
@@ -64,13 +65,13 @@ enough_less l w = record {
   within = omega (arith, w.within, l);
 }
 
-pub loads_extend : (i t : List ℕ) (a : List Row) (heads next : List ℕ) (f : Fill)
-    → Loads i a heads next f → Extends i t f
-loads_extend i t a heads next f w hs d = ((w t [] hs d).end, (w t [] hs d).used)
+pub loads_extend : (i t : List ℕ) (a : List Row) (heads : List ℕ) (links : List Link) (f : Fill)
+    → Loads i a heads links f → Extends i t f
+loads_extend i t a heads links f w hs d = ((w t [] hs d).end, (w t [] hs d).used)
 
-pub load-first : (i : List ℕ) (a : List Row) (heads next : List ℕ) → Enough (length a) (length i)
-    → Chained (key_in a) heads next 0 → Loading i 0 a heads next 0 0
-load-first i a heads next m c = record {
+pub load-first : (i : List ℕ) (a : List Row) (heads : List ℕ) (links : List Link) → Enough (length a) (length i)
+    → Chained (key_in a) heads links 0 → Loading i 0 a heads links 0 0
+load-first i a heads links m c = record {
   many = omega arith;
   enough = m;
   chained = c;
@@ -88,13 +89,13 @@ load-first i a heads next m c = record {
   };
 }
 
-module _ (i : List ℕ) (at : ℕ) (a : List Row) (heads next : List ℕ) (n used : ℕ) (w : Loading i at a heads next n used)
+module _ (i : List ℕ) (at : ℕ) (a : List Row) (heads : List ℕ) (links : List Link) (n used : ℕ) (w : Loading i at a heads links n used)
   where
     pub load_less : n < length a
     load_less = omega (arith, w.many, w.enough.some, w.enough.records, w.listing.within)
 
     module _ (head : Head) (e : head ≡ head_at (drop at i)) where
-      pub load_end : head.size ≡ 0 → Bytes i → Loads i a heads next (record { count = n; end = at; used = used })
+      pub load_end : head.size ≡ 0 → Bytes i → Loads i a heads links (record { count = n; end = at; used = used })
       load_end z b t s hs d = go (w.loaded hs l.rows.lies)
           (onward i at head e (w.loaded hs l.rows.lies).rest)
         where
@@ -113,7 +114,7 @@ module _ (i : List ℕ) (at : ℕ) (a : List Row) (heads next : List ℕ) (n use
               absurd (omega arith)
 
           go : (x : Loaded i at a n used hs) → Onward i at head e x.rest
-              → InRows i t s a heads next n (record { count = n; end = at; used = used }) hs
+              → InRows i t s a heads links n (record { count = n; end = at; used = used }) hs
           go x (stands h ks q y r) = absurd (size_not i at head e x.rest.off h y z)
           go x (ended q y) =
               let f : hs ≡ x.front = x.is ∙ ap (λ (r : List Held). x.front ++ r) q ∙ append-nil x.front in
@@ -143,7 +144,7 @@ module _ (i : List ℕ) (at : ℕ) (a : List Row) (heads next : List ℕ) (n use
 
       -- one line more
       module _ (m : head.size ≡ 0 → ⊥) (b : List Row) (eb : b ≡ row_put a n head.key head.off head.len)
-          (heads' next' : List ℕ) (ch : Chained (key_in b) heads' next' (n + 1)) where
+          (heads' : List ℕ) (links' : List Link) (ch : Chained (key_in b) heads' links' (n + 1)) where
         step : (hs : List Held) (x : Loaded i at a n used hs) → Onward i at head e x.rest
             → Loaded i (at + head.size) (row_put a n head.key head.off head.len) (n + 1) (head.off + head.len)
             hs
@@ -262,8 +263,8 @@ module _ (i : List ℕ) (at : ℕ) (a : List Row) (heads next : List ℕ) (n use
                 ∙ ap₂ (λ (v : Key) (r : List ℕ). record { key = v; line = r } ∷ []) (ap (λ (v : Head). v.key) y)
                 (ap₂ (λ (c d : ℕ). take c (drop d t)) len_is off_is ∙ line_is t z et)
 
-        pub load-turn : Loading i (at + head.size) b heads' next' (n + 1) (head.off + head.len)
-        load-turn = subst (λ (v : List Row). Loading i (at + head.size) v heads' next' (n + 1) (head.off + head.len))
+        pub load-turn : Loading i (at + head.size) b heads' links' (n + 1) (head.off + head.len)
+        load-turn = subst (λ (v : List Row). Loading i (at + head.size) v heads' links' (n + 1) (head.off + head.len))
             (sym eb)
             (record {
               many = omega (
@@ -273,7 +274,7 @@ module _ (i : List ℕ) (at : ℕ) (a : List Row) (heads next : List ℕ) (n use
                 head_least (drop at i) (λ z. m (ap (λ (v : Head). v.size) e ∙ z)),
               );
               enough = subst (λ (v : ℕ). Enough v (length i)) (sym (put_long a n head.key head.off head.len)) w.enough;
-              chained = subst (λ (v : List Row). Chained (key_in v) heads' next' (n + 1)) eb ch;
+              chained = subst (λ (v : List Row). Chained (key_in v) heads' links' (n + 1)) eb ch;
               listing = list_turn i at a n w.listing head e m load_less;
               loaded = λ hs l. step hs (w.loaded hs l) (onward i at head e (w.loaded hs l).rest);
             })

@@ -13,6 +13,7 @@ use lib.Dec.{eqb, ltb}
 use lib.ListN.{length, take, drop}
 use borrow.Author.Tests.{eq-eqb, ne_eqb, eqb-true, eqb-false, ltb-true, ltb-false, lt-ltb}
 use Rattle.text.specs.Bytes.{pick}
+use Rattle.store.specs.declared.chains.Link.{Link}
 use Rattle.store.specs.declared.rows.Row.{Row}
 use Rattle.store.specs.declared.table.Fill.{Fill}
 use Rattle.store.specs.declared.look.Part.{Part}
@@ -92,8 +93,8 @@ some-before a r len el z = go (eqb r 0) refl
     go false q = let y : r ≡ 0 → ⊥ = eqb-false r 0 q in omega arith
 
 -- a has the rows of the lines hs, and b has them too, and the key behind them
-module _ {k : Key} {i t : List ℕ} {a : List Row} (b : List Row) {heads next : List ℕ} {f : Fill} {hs : List Held}
-    (x : InRows i t [] a heads next f.count f hs)
+module _ {k : Key} {i t : List ℕ} {a : List Row} (b : List Row) {heads : List ℕ} {links : List Link} {f : Fill} {hs : List Held}
+    (x : InRows i t [] a heads links f.count f hs)
     (agree : Agree a b f.count) (new : key_in b f.count ≡ k)
     {r : ℕ} (so : Sought (key_in b) f.count r) (rl : r ≤ f.count) {len : ℕ} (el : len ≡ len_before b r) where
   abbrev K : ℕ → Key
@@ -183,15 +184,15 @@ module _ {k : Key} {i t : List ℕ} {a : List Row} (b : List Row) {heads next : 
 
 -- ---- a key written down under number n
 
-module _ {a : List Row} {heads next : List ℕ} {n : ℕ} (k : Key) (p : Ready a heads next n) {b : List Row}
+module _ {a : List Row} {heads : List ℕ} {links : List Link} {n : ℕ} (k : Key) (p : Ready a heads links n) {b : List Row}
     (eb : b ≡ row_put a n k 0 0) where
   pub put_agree : Agree a b n
   put_agree j m = sym (ap (λ (v : List Row). row_in v j) eb ∙ row_other a n k 0 0 j (λ z. omega arith))
 
-  pub put_ready : Ready b heads next n
+  pub put_ready : Ready b heads links n
   put_ready = record {
     few = omega (arith, p.few, ap length eb, put_long a n k 0 0);
-    chained = chained_agree (key_in a) (key_in b) n (λ j m. ap (λ (v : Row). v.key) (put_agree j m)) heads next
+    chained = chained_agree (key_in a) (key_in b) n (λ j m. ap (λ (v : Row). v.key) (put_agree j m)) heads links
         p.chained;
   }
 
@@ -221,12 +222,12 @@ module _ (k : Key) (i t : List ℕ) where
 
 -- the lines of a sound store are in their chains, and the key's chain tells the line that is held
 module _ {N : ℕ} {i t : List ℕ} {l : Ledger N} {s : Stock} (w : Stocks i t l s) where
-  pub stock_ready : Ready l.table.rows l.table.heads l.table.next s.fill.count
+  pub stock_ready : Ready l.table.rows l.table.heads l.table.links s.fill.count
   stock_ready =
       let x = stock_rows i t l s w in
       record { few = w.loads.1; chained = x.chained }
 
-  pub sees_stock : (k : Key) (r : Optional Part) → Spots l.table.rows l.table.heads l.table.next s.fill k r
+  pub sees_stock : (k : Key) (r : Optional Part) → Spots l.table.rows l.table.heads l.table.links s.fill k r
       → Sees t (look_by k i t) (Ok r)
   sees_stock k r p =
       let h : Holds i t l.shares s.front = stock_holds i t l s w in

@@ -192,7 +192,7 @@ module _ (k : Key) (i t : List ℕ) where
 
 -- both tries, in a sound store
 pub near_stock : {N : ℕ} {i t : List ℕ} {l : Ledger N} {s : Stock} (w : Stocks i t l s) (k : Key)
-    (r : Optional (Nearness × Part)) → Tries l.table.rows l.table.heads l.table.next s.fill k r
+    (r : Optional (Nearness × Part)) → Tries l.table.rows l.table.heads l.table.links s.fill k r
     → NearSees t (near_by k i t) (Ok r)
 near_stock {i} {t} {l} {s} w k r p =
     let h : Holds i t l.shares s.front = stock_holds i t l s w in

@@ -9,6 +9,7 @@ use Prim.Native.Nat.{ℕ, ◌≤◌}
 use native.Mathlib.Omega.{arith}
 use lib.ListN.{length, take, drop}
 use lib.Seq.{take-length}
+use Rattle.store.specs.declared.chains.Link.{Link}
 use Rattle.store.specs.declared.rows.Row.{Row}
 use Rattle.store.specs.declared.claims.Dues.{Dues}
 use Rattle.store.specs.declared.table.Fill.{Fill}
@@ -27,7 +28,7 @@ use Rattle.store.proofs.DecodeLaws.{laid, lines_of_lem, index_kept, text_kept}
 use Rattle.store.specs.declared.table.Full.TheVariants as R
 use Rattle.store.specs.declared.table.Full.{Full}
 
-module _ (d : Dues) (i t s : List ℕ) (a : List Row) (heads next : List ℕ) (f : Fill) (loads : Loads i a heads next f)
+module _ (d : Dues) (i t s : List ℕ) (a : List Row) (heads : List ℕ) (links : List Link) (f : Fill) (loads : Loads i a heads links f)
     (b₀ : Border) (bordered : Bordered a f.count b₀) (k : Key) (some_byte : 1 ≤ length s) (most : length s ≤ line_max)
   where
     abbrev w₀ : Standing
@@ -37,7 +38,7 @@ module _ (d : Dues) (i t s : List ℕ) (a : List Row) (heads next : List ℕ) (f
     whole = take-length s
 
     ready : (g : List ℕ) (hs : List Held) → decode i t ≡ some hs → Owed g k.owner hs d
-        → Files' g d i t s a heads next f.count w₀ k 0 (length s) hs
+        → Files' g d i t s a heads links f.count w₀ k 0 (length s) hs
     ready g hs e o = record {
       owed = o;
       standing = record { in_rows = loads t s hs e; bordered = bordered };
@@ -48,18 +49,18 @@ module _ (d : Dues) (i t s : List ℕ) (a : List Row) (heads next : List ℕ) (f
       };
     }
 
-    pub one_files : known (decode i t) ≡ true → SomeDues d k.owner i t → Fileable d i t a heads next (record { fill = f; border = b₀ }) k 0 (length s)
+    pub one_files : known (decode i t) ≡ true → SomeDues d k.owner i t → Fileable d i t a heads links (record { fill = f; border = b₀ }) k 0 (length s)
     one_files e (g, o) =
         let q : (hs : List Held) × (decode i t ≡ some hs) = lines_of_lem (decode i t) e in
         (g, s, (f.count, (q.0, ready g q.0 q.1 (o q.0 q.1))))
 
-    module _ (b : List Row) (heads' next' : List ℕ) (r : Result Standing Full)
-        (w : FilesRow d i t a heads next (record { fill = f; border = b₀ }) k 0 (length s) b heads' next' r) where
+    module _ (b : List Row) (heads' : List ℕ) (links' : List Link) (r : Result Standing Full)
+        (w : FilesRow d i t a heads links (record { fill = f; border = b₀ }) k 0 (length s) b heads' links' r) where
       abbrev h : Held
       h = record { key = k; line = s }
 
       abbrev By : List ℕ → List Held → Type 0
-      By g hs = Filed g i t s b heads' next' f.count w₀ (record { key = k; line = take (length s) (drop 0 s) }) hs r
+      By g hs = Filed g i t s b heads' links' f.count w₀ (record { key = k; line = take (length s) (drop 0 s) }) hs r
 
       filed : (g : List ℕ) (hs : List Held) → decode i t ≡ some hs → Owed g k.owner hs d → By g hs
       filed g hs e o = w g s f.count hs (ready g hs e o)

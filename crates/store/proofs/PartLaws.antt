@@ -83,14 +83,14 @@ module _ {N : ℕ} {i t : List ℕ} {l : Ledger N} {r : Stock} (w : Stocks i t l
   pub stock_lines : known (decode (mid_of r.front (length i - r.front) i) t) ≡ true
   stock_lines = part_lines i t l.shares r.front w.front b w.is
 
-  pub stock_loads : Loads (mid_of r.front (length i - r.front) i) l.table.rows l.table.heads l.table.next r.fill
-  stock_loads = subst (λ (q : List ℕ). Loads q l.table.rows l.table.heads l.table.next r.fill) (sym (tail_part r.front i)) w.loads.0
+  pub stock_loads : Loads (mid_of r.front (length i - r.front) i) l.table.rows l.table.heads l.table.links r.fill
+  stock_loads = subst (λ (q : List ℕ). Loads q l.table.rows l.table.heads l.table.links r.fill) (sym (tail_part r.front i)) w.loads.0
 
   pub stock_adds : Addable l.table.rows r.fill.count × (row_lengths l.table.rows r.fill.count ≤ r.fill.used)
-  stock_adds = loads_addable (mid_of r.front (length i - r.front) i) t l.table.rows l.table.heads l.table.next r.fill stock_loads stock_lines
+  stock_adds = loads_addable (mid_of r.front (length i - r.front) i) t l.table.rows l.table.heads l.table.links r.fill stock_loads stock_lines
 
   pub stock_owed : (o : ℕ) (d : Dues) → DuesFrom l.table.rows r.fill l.shares o d → (hs : List Held)
       → decode (mid_of r.front (length i - r.front) i) t ≡ some hs → Owed l.shares o hs d
   stock_owed o d f hs q =
-      loads_owed (mid_of r.front (length i - r.front) i) t l.table.rows l.table.heads l.table.next r.fill stock_loads l.shares o d f
+      loads_owed (mid_of r.front (length i - r.front) i) t l.table.rows l.table.heads l.table.links r.fill stock_loads l.shares o d f
       (part_bytes i t l.shares r.front w.front b) hs q

@@ -12,6 +12,7 @@ use borrow.Author.Tests.{eqb-true, eqb-false, ltb-true, ltb-false}
 use Rattle.std.specs.Prelude.{Some, None, Ok, Err}
 use borrow.Rule.Slice.PartMut.{put_mid, mid_of}
 use Rattle.text.proofs.LentLaws.{tail_part, tail_back}
+use Rattle.store.specs.declared.chains.Link.{Link}
 use Rattle.store.specs.declared.soundness.Ledger.{Ledger}
 use Rattle.store.specs.declared.soundness.Stock.{Stock}
 use Rattle.store.specs.Decode.{content}
@@ -93,8 +94,8 @@ texts_struck k (h ∷ hs) = go (same_key k h.key) (texts_struck k hs)
 
 -- ---- the row of the key's line, struck out
 
-module _ {k : Key} {i t : List ℕ} {a : List Row} {heads next : List ℕ} {f : Fill} {hs : List Held}
-    (x : InRows i t [] a heads next f.count f hs) (few : f.count < length a) where
+module _ {k : Key} {i t : List ℕ} {a : List Row} {heads : List ℕ} {links : List Link} {f : Fill} {hs : List Held}
+    (x : InRows i t [] a heads links f.count f hs) (few : f.count < length a) where
   pub struck_tabled : {b : List Row} → Struck x k 0 0 few b → Tabled i t [] b f.count f.count (strike k hs)
   struck_tabled {b} y = record {
     is = y.lines;
@@ -121,10 +122,10 @@ find_holds k (h ∷ hs) o e = go (same_key k h.key) e (find_holds k hs o)
     go false q ih = ih q
 
 -- what `strike_row` says: the key is put behind the rows, and the line of the number before it struck out
-module _ (k : Key) {a : List Row} {heads next : List ℕ} {f : Fill} (ready : Ready a heads next f.count)
+module _ (k : Key) {a : List Row} {heads : List ℕ} {links : List Link} {f : Fill} (ready : Ready a heads links f.count)
     {b : List Row} (eb : b ≡ row_put a f.count k 0 0) {r : ℕ} (so : Sought (key_in b) f.count r) (rl : r ≤ f.count)
     {had : ℕ} (eh : had ≡ len_before b r) {d : List Row} (ed : d ≡ put_before b r 0) where
-  module _ {i t : List ℕ} {hs : List Held} (x : InRows i t [] a heads next f.count f hs) where
+  module _ {i t : List ℕ} {hs : List Held} (x : InRows i t [] a heads links f.count f hs) where
     agree : Agree a b f.count
     agree = put_agree k ready eb
 
@@ -145,7 +146,7 @@ module _ (k : Key) {a : List Row} {heads next : List ℕ} {f : Fill} (ready : Re
         (subst (Before x k 0 0 ready.few) (sym (ed ∙ ap (λ (v : List Row). put_before v r 0) eb))
         (before x k 0 0 ready.few r (subst (λ (v : List Row). Sought (key_in v) f.count r) eb so) rl))
 
-  pub strikes_row : StrikesRow a heads next f k d (not (eqb had 0))
+  pub strikes_row : StrikesRow a heads links f k d (not (eqb had 0))
   strikes_row i t hs x = (told x (eqb had 0) refl, struck_tabled x ready.few (out x))
 
 -- ---- the exits of the call
@@ -172,7 +173,7 @@ module _ (k : Key) (i t : List ℕ) where
 
 -- in a store of which stock is taken
 module _ {N : ℕ} {i t : List ℕ} {l : Ledger N} {s : Stock} (w : Stocks i t l s) (b : Bytes i) (k : Key)
-    {d : List Row} {r : Bool} (y : StrikesRow l.table.rows l.table.heads l.table.next s.fill k d r) where
+    {d : List Row} {r : Bool} (y : StrikesRow l.table.rows l.table.heads l.table.links s.fill k d r) where
   a : Whole i t l.shares s.front
   a = whole i t l.shares s.front w.front b w.is
 

@@ -7,6 +7,7 @@ use mathlib.Core.Path.{◌≡◌, sym, ap, ◌∙◌}
 use Prim.Native.Nat.{ℕ, ◌+◌, ◌≤◌, ◌<◌}
 use native.Mathlib.Omega.{arith}
 use lib.ListN.{length}
+use Rattle.store.specs.declared.chains.Link.{Link}
 use Rattle.store.specs.declared.rows.Row.{Row}
 use Rattle.store.specs.declared.border.Standing.{Standing}
 use Rattle.store.specs.declared.table.Fill.{Fill}
@@ -38,12 +39,12 @@ module _ (t s : List ℕ) (a : List Row) (old : ℕ) (w : Standing)
   measured_used = m.used ∙ sym (living_lengths t s a old w.fill.count inside w.fill.count (omega arith))
 
 -- and back
-module _ {i t s : List ℕ} {a : List Row} {heads next : List ℕ} {old : ℕ} {hs : List Held} where
-  pub rows_used : {f : Fill} → InRows i t s a heads next old f hs → f.used ≡ row_lengths a f.count
+module _ {i t s : List ℕ} {a : List Row} {heads : List ℕ} {links : List Link} {old : ℕ} {hs : List Held} where
+  pub rows_used : {f : Fill} → InRows i t s a heads links old f hs → f.used ≡ row_lengths a f.count
   rows_used {f} x = x.used ∙ ap (λ (v : List Held). length (texts v)) x.tabled.is
       ∙ living_lengths t s a old f.count x.tabled.inside f.count (omega arith)
 
-  pub standing_measured : {w : Standing} → InStanding i t s a heads next old w hs → Measured a w
+  pub standing_measured : {w : Standing} → InStanding i t s a heads links old w hs → Measured a w
   standing_measured {w} x = record {
     bordered = x.bordered;
     end = omega (
@@ -57,12 +58,12 @@ module _ {i t s : List ℕ} {a : List Row} {heads next : List ℕ} {old : ℕ} {
   }
 
 -- what `border_of` asks, of the rows of a sound store
-pub loads_border : (i t : List ℕ) (a : List Row) (heads next : List ℕ) (f : Fill) → Loads i a heads next f
+pub loads_border : (i t : List ℕ) (a : List Row) (heads : List ℕ) (links : List Link) (f : Fill) → Loads i a heads links f
     → known (decode i t) ≡ true
     → ((f.count ≤ length a) × (f.used ≤ text_max)) × (f.used ≡ row_lengths a f.count)
-loads_border i t a heads next f w k =
+loads_border i t a heads links f w k =
     let q : (hs : List Held) × (decode i t ≡ some hs) = lines_of_lem (decode i t) k in
-    let x : InRows i t [] a heads next f.count f q.0 = w t [] q.0 q.1 in
+    let x : InRows i t [] a heads links f.count f q.0 = w t [] q.0 q.1 in
     ((x.tabled.most, omega (arith, x.used, x.tabled.good.text, x.limits.1)), rows_used x)
 
 -- rows that are the same, as far as they are counted

@@ -11,6 +11,7 @@ use lib.Dec.{eqb, ltb}
 use lib.ListN.{length}
 use borrow.Author.Tests.{eqb-true, eqb-false, ltb-true, ltb-false}
 use Rattle.text.specs.Bytes.{pick}
+use Rattle.store.specs.declared.chains.Link.{Link}
 use Rattle.store.specs.declared.rows.Row.{Row}
 use Rattle.store.specs.declared.table.Fill.{Fill}
 use Rattle.store.specs.Decode.{decode}
@@ -68,8 +69,8 @@ unfolding strike
 strike_gone u h true e = refl
 strike_gone u h false e = ap (λ (c : Bool). pick c [] (h ∷ [])) e
 
-module _ {i t s : List ℕ} {a : List Row} {heads next : List ℕ} {old : ℕ} {f : Fill} {hs : List Held}
-    (x : InRows i t s a heads next old f hs) (u : Key) (start len : ℕ) (cl : f.count < length a)
+module _ {i t s : List ℕ} {a : List Row} {heads : List ℕ} {links : List Link} {old : ℕ} {f : Fill} {hs : List Held}
+    (x : InRows i t s a heads links old f hs) (u : Key) (start len : ℕ) (cl : f.count < length a)
   where
     abbrev a' : List Row
     a' = row_put a f.count u start len

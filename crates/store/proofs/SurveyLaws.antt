@@ -12,6 +12,7 @@ use Rattle.text.proofs.LentLaws.{tail_part}
 use lib.ListN.{length, drop, length-drop}
 use borrow.Author.Tests.{le-leb, lt-leb}
 use Rattle.text.specs.Bytes.{pick}
+use Rattle.store.specs.declared.chains.Link.{Link}
 use Rattle.store.specs.declared.rows.Area.{Area}
 use Rattle.store.specs.declared.rows.Row.{Row}
 use Rattle.store.specs.declared.chains.Verdict.{Verdict}
@@ -44,24 +45,24 @@ use Rattle.store.proofs.ShareLaws.{content_parts}
 use Rattle.store.proofs.WriteLaws.{row_other}
 
 -- n records lie before `at`, and their lines before `used`
-pub record Surveying (i t : List ℕ) (at : ℕ) (a : List Row) (heads next : List ℕ) (n used : ℕ) (v : Verdict)
+pub record Surveying (i t : List ℕ) (at : ℕ) (a : List Row) (heads : List ℕ) (links : List Link) (n used : ℕ) (v : Verdict)
     : Type 0 where
   pub walks : Walking i t (known (walk (suc (length i)) 0 i t)) at used
-  pub loading : Loading i at a heads next n used
+  pub loading : Loading i at a heads links n used
   pub says : Says (key_in a) n v
 
-pub survey_first : (i t : List ℕ) (a : List Row) (heads next : List ℕ) → Enough (length a) (length i)
-    → Chained (key_in a) heads next 0 → Surveying i t 0 a heads next 0 0 Vd.Apart
-survey_first i t a heads next m c = record {
+pub survey_first : (i t : List ℕ) (a : List Row) (heads : List ℕ) (links : List Link) → Enough (length a) (length i)
+    → Chained (key_in a) heads links 0 → Surveying i t 0 a heads links 0 0 Vd.Apart
+survey_first i t a heads links m c = record {
   walks = walking i t;
-  loading = load-first i a heads next m c;
+  loading = load-first i a heads links m c;
   says = λ x y p q e. omega arith;
 }
 
-module _ {i t : List ℕ} {at : ℕ} {a : List Row} {heads next : List ℕ} {n used : ℕ} {v : Verdict}
-    (w : Surveying i t at a heads next n used v) where
+module _ {i t : List ℕ} {at : ℕ} {a : List Row} {heads : List ℕ} {links : List Link} {n used : ℕ} {v : Verdict}
+    (w : Surveying i t at a heads links n used v) where
   pub survey_less : n < length a
-  survey_less = load_less i at a heads next n used w.loading
+  survey_less = load_less i at a heads links n used w.loading
 
   -- the rest of the index, as it is lent
   abbrev rest : List ℕ
@@ -79,14 +80,14 @@ module _ {i t : List ℕ} {at : ℕ} {a : List Row} {heads next : List ℕ} {n u
     survey_tail z = sym tail_is ∙ z
 
     pub survey_end : b ≡ true → Bytes i
-        → Surveys i t a heads next (record { verdict = v; fill = record { count = n; end = at; used = used } })
+        → Surveys i t a heads links (record { verdict = v; fill = record { count = n; end = at; used = used } })
     survey_end z y = record {
       is = sym tail_is ∙ z;
       most = survey_less;
       says = w.says;
       chained = w.loading.chained;
       lists = list_end i at a n w.loading.listing no_head none_at refl;
-      loads = load_end i at a heads next n used w.loading no_head none_at refl y;
+      loads = load_end i at a heads links n used w.loading no_head none_at refl y;
     }
 
   -- at a whole record
@@ -105,16 +106,16 @@ module _ {i t : List ℕ} {at : ℕ} {a : List Row} {heads next : List ℕ} {n u
     survey_on q = walking_turn i t _ at used w.walks head e some_size b fit q
 
     pub survey_turn : b ≡ true → (c : List Row) → c ≡ row_put a n head.key head.off head.len
-        → (heads' next' : List ℕ) → Chained (key_in c) heads' next' (n + 1)
+        → (heads' : List ℕ) (links' : List Link) → Chained (key_in c) heads' links' (n + 1)
         → (r : ℕ) → Sought (key_in c) n r → (u : Verdict) → u ≡ told_of v n r
-        → Surveying i t (at + head.size) c heads' next' (n + 1) (used + head.len) u
-    survey_turn q c ec heads' next' ch r so u eu =
+        → Surveying i t (at + head.size) c heads' links' (n + 1) (used + head.len) u
+    survey_turn q c ec heads' links' ch r so u eu =
         let fits : Fits used head (length t - used) = fits_of used head (length t - used) (sym fit ∙ q) in
         record {
           walks = survey_on q;
-          loading = subst (λ (x : ℕ). Loading i (at + head.size) c heads' next' (n + 1) (x + head.len))
+          loading = subst (λ (x : ℕ). Loading i (at + head.size) c heads' links' (n + 1) (x + head.len))
               fits.offset
-              (load-turn i at a heads next n used w.loading head e some_size c ec heads' next' ch);
+              (load-turn i at a heads links n used w.loading head e some_size c ec heads' links' ch);
           says = subst (λ (x : Verdict). Says (key_in c) (n + 1) x) (sym eu)
               (says-turn (key_in c) n r v
               (says_agree (key_in a) (key_in c) n v same w.says) so);
@@ -174,15 +175,15 @@ module _ {i g : List ℕ} {p : ℕ} (f : Fronts i g p) (l : length i ≤ index_m
   stock_none t m x = sym (stock_part t) ∙ sound_walk part t part_most m x
 
   -- of which the lines are walked
-  module _ {t : List ℕ} {a : List Row} {heads next : List ℕ} {s : Surveyed} (v : Surveys part t a heads next s) where
+  module _ {t : List ℕ} {a : List Row} {heads : List ℕ} {links : List Link} {s : Surveyed} (v : Surveys part t a heads links s) where
     pub stock_once : length t ≤ text_max → Bytes i → {b : Bool} → Tells (key_in a) s.fill.count b
         → b ≡ known (content i t)
     stock_once m y {b} x =
         sound_once part t part_most m (bytes_part i p part lent y) v.is b (tells_once part _ _ v.lists b x)
         ∙ stock_part t
 
-    pub stock_walked : Loads (drop p i) a heads next s.fill × (s.fill.count < length a)
-    stock_walked = (subst (λ (r : List ℕ). Loads r a heads next s.fill) lent v.loads, v.most)
+    pub stock_walked : Loads (drop p i) a heads links s.fill × (s.fill.count < length a)
+    stock_walked = (subst (λ (r : List ℕ). Loads r a heads links s.fill) lent v.loads, v.most)
 
 -- what a sound store holds
 pub record Holds (i t g : List ℕ) (p : ℕ) : Type 0 where
@@ -206,16 +207,16 @@ sound_holds i t g p f e = go (content i t) refl e
         }
 
 -- a walk over whole records tells what it saw
-pub survey_some : (i t : List ℕ) (a : List Row) (heads next : List ℕ) (o : Optional Surveyed)
-    → OnceSurveyed i t a heads next o
+pub survey_some : (i t : List ℕ) (a : List Row) (heads : List ℕ) (links : List Link) (o : Optional Surveyed)
+    → OnceSurveyed i t a heads links o
     → known (walk (suc (length i)) 0 i t) ≡ true → IsSome o
-survey_some i t a heads next None w e = absurd (true-false (sym e ∙ w))
-survey_some i t a heads next (Some r) w e = refl
+survey_some i t a heads links None w e = absurd (true-false (sym e ∙ w))
+survey_some i t a heads links (Some r) w e = refl
 
-pub survey_of : (i t : List ℕ) (a : List Row) (heads next : List ℕ) (o : Optional Surveyed)
-    → OnceSurveyed i t a heads next o
-    → (r : Surveyed) → o ≡ Some r → Surveys i t a heads next r
-survey_of i t a heads next o w r e = subst (OnceSurveyed i t a heads next) e w
+pub survey_of : (i t : List ℕ) (a : List Row) (heads : List ℕ) (links : List Link) (o : Optional Surveyed)
+    → OnceSurveyed i t a heads links o
+    → (r : Surveyed) → o ≡ Some r → Surveys i t a heads links r
+survey_of i t a heads links o w r e = subst (OnceSurveyed i t a heads links) e w
 
 pub stock_refused : {N : ℕ} {A E : Type 0} (i t : List ℕ) (l : Ledger N) (o : Optional Stock) → OnceStocked i t l o
     → (x y : E) → Err y ≡ ok_or o x → (r : Result A E) → IsErrAnd r (λ e. e ≡ y)
@@ -229,7 +230,7 @@ module _ {N : ℕ} (i t : List ℕ) (l : Ledger N) (s : Stock) (w : Stocks i t l
   pub stock_holds : Holds i t l.shares s.front
   stock_holds = sound_holds i t l.shares s.front w.front w.is
 
-  pub stock_rows : InRows (drop s.front i) t [] l.table.rows l.table.heads l.table.next s.fill.count s.fill
+  pub stock_rows : InRows (drop s.front i) t [] l.table.rows l.table.heads l.table.links s.fill.count s.fill
       stock_holds.all.held
   stock_rows = w.loads.0 t [] stock_holds.all.held stock_holds.lines
 

@@ -9,9 +9,10 @@ use lib.Dec.{eqb}
 use lib.ListN.{length, get_or, take, drop}
 use borrow.Author.Tests.{ne_eqb}
 use Rattle.text.specs.Bytes.{pick}
+use Rattle.store.specs.declared.chains.Link.{Link}
 use Rattle.store.specs.declared.rows.Row.{Row}
 use Rattle.store.specs.Held.{Key, Held, same_key, strike}
-use Rattle.store.specs.Keys.{bucket, Last, Chained}
+use Rattle.store.specs.Keys.{bucket, tag_of, next_in, Last, Chained}
 use Rattle.store.specs.Layout.{texts}
 use Rattle.store.specs.Rows.{row_in, row_put}
 use Rattle.store.specs.Table.{living, source_of, line_at}
@@ -29,10 +30,13 @@ module _ (K K' : ℕ → Key) (n : ℕ) (f : (k : ℕ) → k < n → K k ≡ K' 
     within = s.within;
   }
 
-  pub chained_agree : (heads next : List ℕ) → Chained K heads next n → Chained K' heads next n
-  chained_agree heads next s = record {
-    links = λ a l. subst (λ (b : ℕ). Last (length heads) K' b a (get_or next a 0)) (ap (bucket (length heads)) (f a l))
-        (last_agree (length heads) (bucket (length heads) (K a)) a (get_or next a 0) (omega arith) (s.links a l));
+  pub chained_agree : (heads : List ℕ) (links : List Link) → Chained K heads links n → Chained K' heads links n
+  chained_agree heads links s = record {
+    linked = λ a l. (
+      subst (λ (b : ℕ). Last (length heads) K' b a (next_in links a)) (ap (bucket (length heads)) (f a l))
+          (last_agree (length heads) (bucket (length heads) (K a)) a (next_in links a) (omega arith) (s.linked a l).0),
+      (s.linked a l).1 ∙ ap tag_of (f a l),
+    );
     ends = λ b l. last_agree (length heads) b n (get_or heads b 0) (omega arith) (s.ends b l);
     most = s.most;
     alike = s.alike;

@@ -16,6 +16,7 @@ use lib.Seq.{get_or-set_same, get_or-set_other, get_or-take, drop-cons, drop-len
 use borrow.Author.Count.{below_more}
 use borrow.Author.Tests.{eqb-true, eqb-false, eq-eqb, ne_eqb}
 use Rattle.text.specs.Bytes.{pick}
+use Rattle.store.specs.declared.chains.Link.{Link}
 use Rattle.store.specs.declared.rows.Row.{Row}
 use Rattle.store.specs.declared.claims.Dues.{Dues}
 use Rattle.store.specs.declared.table.Fill.{Fill}
@@ -329,11 +330,11 @@ owed_on g o hs ks d e w = record {
 
 -- ---- the rows of a sound store
 
-module _ (i t : List ℕ) (a : List Row) (heads next : List ℕ) (f : Fill) (loaded : Loads i a heads next f) where
+module _ (i t : List ℕ) (a : List Row) (heads : List ℕ) (links : List Link) (f : Fill) (loaded : Loads i a heads links f) where
   pub loads_addable : known (decode i t) ≡ true → Addable a f.count × (row_lengths a f.count ≤ f.used)
   loads_addable k =
       let q : (hs : List Held) × (decode i t ≡ some hs) = lines_of_lem (decode i t) k in
-      let x : InRows i t [] a heads next f.count f q.0 = loaded t [] q.0 q.1 in (
+      let x : InRows i t [] a heads links f.count f q.0 = loaded t [] q.0 q.1 in (
         tabled_addable x.tabled x.limits.1,
         omega (arith, tabled_lengths x.tabled, lengths-texts q.0, x.used),
       )

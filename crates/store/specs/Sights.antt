@@ -2,6 +2,7 @@
 -- No public contract rests on these: a reader may leave them out.
 use Rattle.std.specs.Prelude.{◌≡◌, Bool, true, false, Option as Optional, Some, None, Result, Ok, Err, List, [], ℕ, ◌+◌, ◌≤◌, ◌<◌, length, take, drop}
 use Rattle.std.proofs.Math.Option.{Option, none, some}
+use Rattle.store.specs.declared.chains.Link.{Link}
 use Rattle.store.specs.declared.rows.Row.{Row}
 use Rattle.store.specs.declared.table.Fill.{Fill}
 use Rattle.store.specs.declared.look.Part.{Part}
@@ -19,9 +20,9 @@ abbrev pub Agree : List Row → List Row → ℕ → Type 0
 Agree a b n = (k : ℕ) → k < n → row_in a k ≡ row_in b k
 
 -- the first n numbers are in their chains, and there is room for one more
-pub record Ready (a : List Row) (heads next : List ℕ) (n : ℕ) : Type 0 where
+pub record Ready (a : List Row) (heads : List ℕ) (links : List Link) (n : ℕ) : Type 0 where
   pub few : n < length a
-  pub chained : Chained (key_in a) heads next n
+  pub chained : Chained (key_in a) heads links n
 
 -- where a line lies in a text, if there is one
 pub data Spot (t : List ℕ) (o : Option (List ℕ)) (r : Optional Part) : Type 0 where
@@ -29,9 +30,9 @@ pub data Spot (t : List ℕ) (o : Option (List ℕ)) (r : Optional Part) : Type 
   there : (q : Part) → o ≡ some (take q.len (drop q.start t)) → r ≡ Some q → q.start + q.len ≤ length t → Spot t o r
 
 -- `part_of`: where the line of a key lies, if the first rows are those of the lines hs
-abbrev pub Spots : List Row → List ℕ → List ℕ → Fill → Key → Optional Part → Type 0
-Spots a heads next f k r =
-    (i t : List ℕ) (b : List Row) (hs : List Held) → Agree b a f.count → InRows i t [] b heads next f.count f hs
+abbrev pub Spots : List Row → List ℕ → List Link → Fill → Key → Optional Part → Type 0
+Spots a heads links f k r =
+    (i t : List ℕ) (b : List Row) (hs : List Held) → Agree b a f.count → InRows i t [] b heads links f.count f hs
     → Spot t (find k hs) r
 
 -- where a line lies, as a look-up tells it: within the text, and the line there; an empty one where none is told
@@ -75,7 +76,7 @@ pub record NearSees (t : List ℕ) (x : Nearby) (r : Result (Optional (Nearness 
   pub line : line_there t (near_part r) ≡ near_line x
 
 -- `try_both`
-abbrev pub Tries : List Row → List ℕ → List ℕ → Fill → Key → Optional (Nearness × Part) → Type 0
-Tries a heads next f k r =
-    (i t : List ℕ) (hs : List Held) → InRows i t [] a heads next f.count f hs
+abbrev pub Tries : List Row → List ℕ → List Link → Fill → Key → Optional (Nearness × Part) → Type 0
+Tries a heads links f k r =
+    (i t : List ℕ) (hs : List Held) → InRows i t [] a heads links f.count f hs
     → NearSees t (near_in (find k hs) (find (plain_key k) hs)) (Ok r)

@@ -4,6 +4,7 @@
 use Rattle.std.specs.Prelude.{Option as Optional, MatchOption, Bool, false, ◌≡◌, true, List, [], ◌∷◌, ◌++◌, ℕ, zero, suc, ◌+◌, ◌-◌, ◌*◌, ◌≤◌, ◌<◌, eqb, ltb, length, take, drop, replicate, Result, Ok, Err, ⊤}
 use Rattle.std.proofs.Math.Option.{Option, some}
 use Rattle.text.specs.Bytes.{pick}
+use Rattle.store.specs.declared.chains.Link.{Link}
 use Rattle.store.specs.declared.rows.Row.{Row}
 use Rattle.store.specs.declared.table.Fill.{Fill}
 use Rattle.store.specs.declared.border.Standing.{Standing}
@@ -133,54 +134,54 @@ Settled i t s a was c i' t' =
     → (i' ≡ encode_records (length i) hs) × (t' ≡ encode_text (length t) hs)
 
 -- such numbers, in chains by their keys; of two with one key the first is struck out; and how much is in use
-pub record InRows (i t s : List ℕ) (a : List Row) (heads next : List ℕ) (old : ℕ) (f : Fill) (hs : List Held)
+pub record InRows (i t s : List ℕ) (a : List Row) (heads : List ℕ) (links : List Link) (old : ℕ) (f : Fill) (hs : List Held)
     : Type 0 where
   pub tabled : Tabled i t s a old f.count hs
   pub older : (j k : ℕ) → j < k → k < f.count → key_in a j ≡ key_in a k
       → len_in a j ≡ 0
-  pub chained : Chained (key_in a) heads next f.count
+  pub chained : Chained (key_in a) heads links f.count
   pub end : f.end ≡ sizes 0 hs
   pub used : f.used ≡ length (texts hs)
   pub limits : (length i ≤ index_max) × (length t ≤ text_max)
 
 -- the lines of a sound store are written down, all of them old
-abbrev pub Loads : List ℕ → List Row → List ℕ → List ℕ → Fill → Type 0
-Loads i a heads next f =
+abbrev pub Loads : List ℕ → List Row → List ℕ → List Link → Fill → Type 0
+Loads i a heads links f =
     (t s : List ℕ) (hs : List Held) → decode i t ≡ some hs
-    → InRows i t s a heads next f.count f hs
+    → InRows i t s a heads links f.count f hs
 
 -- `survey`: the store is sound but for keys that stand twice; what is told of those
-pub record Surveys (i t : List ℕ) (a : List Row) (heads next : List ℕ) (r : Surveyed) : Type 0 where
+pub record Surveys (i t : List ℕ) (a : List Row) (heads : List ℕ) (links : List Link) (r : Surveyed) : Type 0 where
   pub is : known (walk (suc (length i)) 0 i t) ≡ true
   pub most : r.fill.count < length a
   pub says : Says (key_in a) r.fill.count r.verdict
-  pub chained : Chained (key_in a) heads next r.fill.count
+  pub chained : Chained (key_in a) heads links r.fill.count
   pub lists : Lists i (key_in a) r.fill.count
-  pub loads : Loads i a heads next r.fill
+  pub loads : Loads i a heads links r.fill
 
-abbrev pub OnceSurveyed : List ℕ → List ℕ → List Row → List ℕ → List ℕ → Optional Surveyed → Type 0
-OnceSurveyed i t a heads next r =
-    MatchOption r (known (walk (suc (length i)) 0 i t) ≡ false) (Surveys i t a heads next)
+abbrev pub OnceSurveyed : List ℕ → List ℕ → List Row → List ℕ → List Link → Optional Surveyed → Type 0
+OnceSurveyed i t a heads links r =
+    MatchOption r (known (walk (suc (length i)) 0 i t) ≡ false) (Surveys i t a heads links)
 
 -- nothing is written down
 pub record Fresh {N : ℕ} (l : Ledger N) : Type 0 where
   pub shares : l.shares ≡ no_shares
-  pub chained : Chained (key_in l.table.rows) l.table.heads l.table.next 0
+  pub chained : Chained (key_in l.table.rows) l.table.heads l.table.links 0
 
 -- `take_stock`: the store is sound
 pub record Stocks {N : ℕ} (i t : List ℕ) (l : Ledger N) (r : Stock) : Type 0 where
   pub is : known (content i t) ≡ true
   pub front : Fronts i l.shares r.front
   pub most : length i ≤ index_max
-  pub loads : Loads (drop r.front i) l.table.rows l.table.heads l.table.next r.fill × (r.fill.count < length l.table.rows)
+  pub loads : Loads (drop r.front i) l.table.rows l.table.heads l.table.links r.fill × (r.fill.count < length l.table.rows)
 
 abbrev pub OnceStocked : {N : ℕ} → List ℕ → List ℕ → Ledger N → Optional Stock → Type 0
 OnceStocked i t l r = MatchOption r (known (content i t) ≡ false) (Stocks i t l)
 
 -- such lines, and where the border stands
-pub record InStanding (i t s : List ℕ) (a : List Row) (heads next : List ℕ) (old : ℕ) (w : Standing) (hs : List Held)
+pub record InStanding (i t s : List ℕ) (a : List Row) (heads : List ℕ) (links : List Link) (old : ℕ) (w : Standing) (hs : List Held)
     : Type 0 where
-  pub in_rows : InRows i t s a heads next old w.fill hs
+  pub in_rows : InRows i t s a heads links old w.fill hs
   pub bordered : Bordered a w.fill.count w.border
 
 -- `room`: what is claimed of the text can be told; whether what is filled fits in n bytes of index, and that in m of text
@@ -201,30 +202,30 @@ pub record Short (l : List ℕ) : Type 0 where
   pub most : length l ≤ line_max
 
 -- `file_row`: a line of those that are inserted, for lines that are so written down
-pub record Files' (g : List ℕ) (d : Dues) (i t s : List ℕ) (a : List Row) (heads next : List ℕ) (old : ℕ) (w : Standing)
+pub record Files' (g : List ℕ) (d : Dues) (i t s : List ℕ) (a : List Row) (heads : List ℕ) (links : List Link) (old : ℕ) (w : Standing)
     (u : Key) (start len : ℕ) (hs : List Held) : Type 0 where
   pub owed : Owed g u.owner hs d
-  pub standing : InStanding i t s a heads next old w hs
+  pub standing : InStanding i t s a heads links old w hs
   pub inside : start + len ≤ length s
   pub shape : Short (take len (drop start s))
 
-abbrev pub Fileable : Dues → List ℕ → List ℕ → List Row → List ℕ → List ℕ → Standing → Key → ℕ → ℕ → Type 0
-Fileable d i t a heads next w u start len =
-    (g s : List ℕ) × ((old : ℕ) × ((hs : List Held) × Files' g d i t s a heads next old w u start len hs))
+abbrev pub Fileable : Dues → List ℕ → List ℕ → List Row → List ℕ → List Link → Standing → Key → ℕ → ℕ → Type 0
+Fileable d i t a heads links w u start len =
+    (g s : List ℕ) × ((old : ℕ) × ((hs : List Held) × Files' g d i t s a heads links old w u start len hs))
 
 -- it is filed, or there is no room and the lines are as before
-pub data Filed (g i t s : List ℕ) (a : List Row) (heads next : List ℕ) (old : ℕ) (w : Standing) (h : Held)
+pub data Filed (g i t s : List ℕ) (a : List Row) (heads : List ℕ) (links : List Link) (old : ℕ) (w : Standing) (h : Held)
     (hs : List Held) (r : Result Standing Full) : Type 0 where
   fits : (w' : Standing) → room_for (behind g i t h.key.owner) h hs ≡ Ok tt → r ≡ Ok w'
-      → InStanding i t s a heads next old w' (file h hs) → Filed g i t s a heads next old w h hs r
+      → InStanding i t s a heads links old w' (file h hs) → Filed g i t s a heads links old w h hs r
   full : (e : Full) → room_for (behind g i t h.key.owner) h hs ≡ Err e → r ≡ Err e
-      → Tabled i t s a old w.fill.count hs → Filed g i t s a heads next old w h hs r
+      → Tabled i t s a old w.fill.count hs → Filed g i t s a heads links old w h hs r
 
-abbrev pub FilesRow : Dues → List ℕ → List ℕ → List Row → List ℕ → List ℕ → Standing → Key → ℕ → ℕ → List Row → List ℕ
-    → List ℕ → Result Standing Full → Type 0
-FilesRow d i t a heads next w u start len a' heads' next' r =
-    (g s : List ℕ) (old : ℕ) (hs : List Held) → Files' g d i t s a heads next old w u start len hs
-    → Filed g i t s a' heads' next' old w (record { key = u; line = take len (drop start s) }) hs r
+abbrev pub FilesRow : Dues → List ℕ → List ℕ → List Row → List ℕ → List Link → Standing → Key → ℕ → ℕ → List Row → List ℕ
+    → List Link → Result Standing Full → Type 0
+FilesRow d i t a heads links w u start len a' heads' links' r =
+    (g s : List ℕ) (old : ℕ) (hs : List Held) → Files' g d i t s a heads links old w u start len hs
+    → Filed g i t s a' heads' links' old w (record { key = u; line = take len (drop start s) }) hs r
 
 -- the numbers that are taken then are in the tree, where there is one
 abbrev pub SearchedOn : {E : Type 0} → List Row → List Node → Result Standing E → Type 0
@@ -232,9 +233,9 @@ SearchedOn a w (Ok v) = Searched (key_in a) w v.fill.count (length a)
 SearchedOn a w (Err e) = Unit {0}
 
 -- `strike_row`: the line of a key is struck out; r says whether there was one
-abbrev pub StrikesRow : List Row → List ℕ → List ℕ → Fill → Key → List Row → Bool → Type 0
-StrikesRow a heads next f k b r =
-    (i t : List ℕ) (hs : List Held) → InRows i t [] a heads next f.count f hs
+abbrev pub StrikesRow : List Row → List ℕ → List Link → Fill → Key → List Row → Bool → Type 0
+StrikesRow a heads links f k b r =
+    (i t : List ℕ) (hs : List Held) → InRows i t [] a heads links f.count f hs
     → (r ≡ holds k hs) × Tabled i t [] b f.count f.count (strike k hs)
 
 -- the buffers encode those lines
@@ -252,23 +253,23 @@ FilesLine d i t h r i' t' =
     → (r ≡ room_for (behind g i t h.key.owner) h hs)
     × Encoded (length i) (length t) i' t' (by_room r hs hs (file h hs))
 
-abbrev pub SomeRows : Dues → ℕ → List ℕ → List ℕ → List ℕ → List Row → List ℕ → List ℕ → Standing → Type 0
-SomeRows d o i t s a heads next w =
-    (g : List ℕ) × ((old : ℕ) × ((hs : List Held) × (Owed g o hs d × InStanding i t s a heads next old w hs)))
+abbrev pub SomeRows : Dues → ℕ → List ℕ → List ℕ → List ℕ → List Row → List ℕ → List Link → Standing → Type 0
+SomeRows d o i t s a heads links w =
+    (g : List ℕ) × ((old : ℕ) × ((hs : List Held) × (Owed g o hs d × InStanding i t s a heads links old w hs)))
 
 -- `reach_row`: what one line of an insert does
-pub data Comes (g i t s : List ℕ) (a : List Row) (heads next : List ℕ) (old o : ℕ) (l : List ℕ) (hs : List Held)
+pub data Comes (g i t s : List ℕ) (a : List Row) (heads : List ℕ) (links : List Link) (old o : ℕ) (l : List ℕ) (hs : List Held)
     (w : Standing) (r : Result Standing StoreError) : Type 0 where
   goes : (w' : Standing) (ks : List Held) → reach (behind g i t o) hs l ≡ after ks → r ≡ Ok w'
-      → InStanding i t s a heads next old w' ks → Comes g i t s a heads next old o l hs w r
+      → InStanding i t s a heads links old w' ks → Comes g i t s a heads links old o l hs w r
   stops : (e : StoreError) → reach (behind g i t o) hs l ≡ stopped (Err e) → r ≡ Err e
-      → Tabled i t s a old w.fill.count hs → Comes g i t s a heads next old o l hs w r
+      → Tabled i t s a old w.fill.count hs → Comes g i t s a heads links old o l hs w r
 
-abbrev pub ReachesRow : Dues → List ℕ → List ℕ → List ℕ → List Row → List ℕ → List ℕ → Standing → ℕ → List ℕ → List Row
-    → List ℕ → List ℕ → Result Standing StoreError → Type 0
-ReachesRow d i t s a heads next w o l a' heads' next' r =
-    (g : List ℕ) (old : ℕ) (hs : List Held) → Owed g o hs d → InStanding i t s a heads next old w hs
-    → Comes g i t s a' heads' next' old o l hs w r
+abbrev pub ReachesRow : Dues → List ℕ → List ℕ → List ℕ → List Row → List ℕ → List Link → Standing → ℕ → List ℕ → List Row
+    → List ℕ → List Link → Result Standing StoreError → Type 0
+ReachesRow d i t s a heads links w o l a' heads' links' r =
+    (g : List ℕ) (old : ℕ) (hs : List Held) → Owed g o hs d → InStanding i t s a heads links old w hs
+    → Comes g i t s a' heads' links' old o l hs w r
 
 -- `take_lines`, `insert_batch`: the lines from `from` on are walked, to the end, to one that stops the insert, or to a
 -- place from which it goes on; P holds of the lines that are held then
@@ -289,17 +290,17 @@ pub record Went (s : List ℕ) (from f n : ℕ) (r : Walked) : Type 0 where
   pub moved : f < n → from < length s → r.answer ≡ Ok tt → from < r.at
 
 -- the lines ks are held by number then; where nothing stopped the walk, it can go on from there
-pub record Stood (i t s : List ℕ) (a : List Row) (heads next : List ℕ) (old o : ℕ) (hs : List Held) (r : Walked)
+pub record Stood (i t s : List ℕ) (a : List Row) (heads : List ℕ) (links : List Link) (old o : ℕ) (hs : List Held) (r : Walked)
     (ks : List Held) : Type 0 where
   pub tabled : Tabled i t s a old r.standing.fill.count ks
   pub others : not_of o ks ≡ not_of o hs
-  pub goes_on : r.answer ≡ Ok tt → InStanding i t s a heads next old r.standing ks
+  pub goes_on : r.answer ≡ Ok tt → InStanding i t s a heads links old r.standing ks
 
-abbrev pub TakesLines : Dues → List ℕ → List ℕ → List ℕ → List Row → List ℕ → List ℕ → ℕ → ℕ → Standing → List Row → List ℕ
-    → List ℕ → Walked → Type 0
-TakesLines d i t s a heads next o from w a' heads' next' r =
-    (g : List ℕ) (old : ℕ) (hs : List Held) → Owed g o hs d → InStanding i t s a heads next old w hs
-    → Takes (behind g i t o) s from hs r (Stood i t s a' heads' next' old o hs r)
+abbrev pub TakesLines : Dues → List ℕ → List ℕ → List ℕ → List Row → List ℕ → List Link → ℕ → ℕ → Standing → List Row → List ℕ
+    → List Link → Walked → Type 0
+TakesLines d i t s a heads links o from w a' heads' links' r =
+    (g : List ℕ) (old : ℕ) (hs : List Held) → Owed g o hs d → InStanding i t s a heads links old w hs
+    → Takes (behind g i t o) s from hs r (Stood i t s a' heads' links' old o hs r)
 
 abbrev pub Batches : List ℕ → List ℕ → List ℕ → ℕ → List ℕ → ℕ → Walked → List ℕ → List ℕ → Type 0
 Batches g i t o s from r i' t' =

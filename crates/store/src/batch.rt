@@ -41,14 +41,14 @@ impl Filing<'_> {
         requires count_lt_rows { (standing.fill.count < length table.old.rows) × (at + len ≤ length self.now.lines.now) }
         requires some_rows { SomeRows self.now.dues self.now.owner self.now.index.now self.now.text.now
             self.now.lines.now
-            table.old.rows table.old.heads table.old.next
+            table.old.rows table.old.heads table.old.links
             standing }
         requires searched { Searched (key_in table.old.rows) nodes.old standing.fill.count (length table.old.rows) }
         ensures reaches { ReachesRow self.now.dues self.now.index.now self.now.text.now
             self.now.lines.now
-            table.old.rows table.old.heads table.old.next standing self.now.owner
+            table.old.rows table.old.heads table.old.links standing self.now.owner
             (take len (drop at self.now.lines.now))
-            table.new.rows table.new.heads table.new.next result }
+            table.new.rows table.new.heads table.new.links result }
         ensures searched_2 { SearchedOn table.new.rows nodes.new result }
         ensures rows_kept { length table.new.rows ≡ length table.old.rows }
     {
@@ -75,13 +75,13 @@ impl Filing<'_> {
         requires from_in_bounds { from ≤ length self.now.lines.now + 1 }
         requires some_rows { SomeRows self.now.dues self.now.owner self.now.index.now self.now.text.now
             self.now.lines.now
-            table.old.rows table.old.heads table.old.next
+            table.old.rows table.old.heads table.old.links
             first }
         requires searched { Searched (key_in table.old.rows) nodes.old first.fill.count (length table.old.rows) }
         ensures takes_lines { TakesLines self.now.dues self.now.index.now self.now.text.now
             self.now.lines.now
-            table.old.rows table.old.heads table.old.next self.now.owner from first
-            table.new.rows table.new.heads table.new.next result }
+            table.old.rows table.old.heads table.old.links self.now.owner from first
+            table.new.rows table.new.heads table.new.links result }
         ensures went { Went self.now.lines.now from first.fill.count (length table.old.rows) result }
     {
         let mut at = from;
@@ -123,12 +123,12 @@ impl Filing<'_> {
         requires from_in_bounds { from ≤ length self.now.lines.now + 1 }
         requires some_rows { SomeRows self.now.dues self.now.owner self.now.index.now self.now.text.now
             self.now.lines.now
-            table.old.rows table.old.heads table.old.next
+            table.old.rows table.old.heads table.old.links
             first }
         ensures takes_lines { TakesLines self.now.dues self.now.index.now self.now.text.now
             self.now.lines.now
-            table.old.rows table.old.heads table.old.next self.now.owner from first
-            table.new.rows table.new.heads table.new.next result }
+            table.old.rows table.old.heads table.old.links self.now.owner from first
+            table.new.rows table.new.heads table.new.links result }
         ensures went { Went self.now.lines.now from first.fill.count (length table.old.rows) result }
     {
         let some = self.take_lines(table, &mut [], first, from);

@@ -1,7 +1,8 @@
 // Keys by number, which is that of their row: chains of the numbers, one for each bucket, show whether a key stands
 // twice. Nothing here knows a record's bytes.
 ghost use Rattle.std.specs.Prelude.{◌≡◌, ◌+◌, ◌≤◌, ◌<◌, length};
-ghost use Rattle.store.specs.Keys.{bucket, NotIn, Linked, Kin, Chained, Seeks, Sought};
+ghost use Rattle.store.specs.Held.{same_key};
+ghost use Rattle.store.specs.Keys.{bucket, tag_of, tag_in, NotIn, Linked, Kin, Chained, Seeks, Sought};
 ghost use Rattle.store.specs.Keys.{seek_says, told_of, Tells};
 ghost use Rattle.store.specs.Rows.{key_in};
 
@@ -20,11 +21,33 @@ pub enum Verdict {
     Unsure,
 }
 
-// A number below `N` that the key gives. The sum wraps: one division by a prime then serves both halves, and by this one
-// it is a product and a shift.
-fn bucket_of<const N: usize>(key: Key) -> usize
+// What stands by a number: one more than the number before it in its chain, 0 where there is none; and the tag of its own
+// key.
+#[derive(Clone, Copy)]
+pub struct Link {
+    pub next: u16,
+    pub tag: u16,
+}
+
+impl Link {
+    // What stands where no number is put.
+    pub const UNUSED: Link = Link { next: 0, tag: 0 };
+}
+
+// What a key gives: its bucket, a number below `N`, and its tag.
+#[derive(Clone, Copy)]
+struct Hash {
+    bucket: usize,
+    tag: u16,
+}
+
+// The bucket and the tag of a key. The sum wraps: one division by a prime then serves both halves, and by this one it is
+// a product and a shift. The tag is its first 16 bits: those of its quotient are alike for all pads of one bucket, whose
+// UUIDs end in zeros.
+fn hash_of<const N: usize>(key: Key) -> Hash
     requires { 0 < N }
-    ensures { (result ≡ bucket N key) × (result < N) }
+    ensures bucket { (result.bucket ≡ bucket N key) × (result.bucket < N) }
+    ensures tag { result.tag ≡ tag_of key }
 {
     let uuid = key.uuid;
     let owner = key.owner as u64;
@@ -33,16 +56,33 @@ fn bucket_of<const N: usize>(key: Key) -> usize
         .wrapping_mul(31)
         .wrapping_add(uuid.low)
         .wrapping_add(7919 * owner);
-    (sum % 65449 % N as u64) as usize
+    Hash {
+        bucket: (sum % 65449 % N as u64) as usize,
+        tag: (sum >> 48) as u16,
+    }
 }
 
-// Seeks the key of number k in the chain that starts before `from`: one more than the number that has it, 0 where none
-// has it, and k + 1 where the chain has more than `most` steps. So a found number is told as `heads` and `next` hold
-// it, in which 0 ends a chain.
-fn seek(rows: &[Row], next: &[u16], from: usize, k: usize, most: usize) -> usize
-    requires k_lt_rows { (k < length rows.now) × ((k < length next.now) × (from ≤ k)) }
-    requires linked { Linked (length next.now) (key_in rows.now) next.now k }
-    requires kin { Kin (length next.now) (key_in rows.now) k from }
+// Whether number a has the key of number k, whose tag that is. Rows are compared only where the tags are alike: so a step
+// in a chain seldom reads a row, which lies far from the one before.
+fn has_key(rows: &[Row], links: &[Link], a: usize, k: usize, tag: u16) -> bool
+    requires a_lt_rows { (a < length rows.now) × ((a < length links.now) × (k < length rows.now)) }
+    requires tagged { (tag_in links.now a ≡ tag_of (key_in rows.now a)) × (tag ≡ tag_of (key_in rows.now k)) }
+    ensures { result ≡ same_key (key_in rows.now a) (key_in rows.now k) }
+{
+    if links[a].tag != tag {
+        return false;
+    }
+    rows[a].key == rows[k].key
+}
+
+// Seeks the key of number k, whose tag that is, in the chain that starts before `from`: one more than the number that has
+// it, 0 where none has it, and k + 1 where the chain has more than `most` steps. So a found number is told as `heads` and
+// `links` hold it, in which 0 ends a chain.
+fn seek(rows: &[Row], links: &[Link], from: usize, k: usize, tag: u16, most: usize) -> usize
+    requires k_lt_rows { (k < length rows.now) × ((k < length links.now) × (from ≤ k)) }
+    requires linked { Linked (length links.now) (key_in rows.now) links.now k }
+    requires tagged { tag ≡ tag_of (key_in rows.now k) }
+    requires kin { Kin (length links.now) (key_in rows.now) k from }
     ensures seeks { Seeks (key_in rows.now) k from result }
     ensures upper_bound { from ≤ most → result ≤ k }
 {
@@ -53,10 +93,10 @@ fn seek(rows: &[Row], next: &[u16], from: usize, k: usize, most: usize) -> usize
         if left == 0 {
             return k + 1;
         }
-        if rows[c - 1].key == rows[k].key {
+        if has_key(rows, links, c - 1, k, tag) {
             return c;
         }
-        c = usize::from(next[c - 1]);
+        c = usize::from(links[c - 1].next);
         left -= 1;
     }
     0
@@ -66,18 +106,18 @@ fn seek(rows: &[Row], next: &[u16], from: usize, k: usize, most: usize) -> usize
 // is found, else what comes behind it. Whether the chain is empty is not asked: number 0 is compared then, and nothing
 // comes behind it. The question would cost more than the step that it spares, since a processor cannot foresee its
 // answer.
-fn first_step(rows: &[Row], next: &[u16], from: usize, k: usize) -> usize
-    requires k_lt_rows { (k < length rows.now) × ((k < length next.now) × (from ≤ k)) }
-    requires linked { Linked (length next.now) (key_in rows.now) next.now (k + 1) }
-    requires kin { Kin (length next.now) (key_in rows.now) k from }
+fn first_step(rows: &[Row], links: &[Link], from: usize, k: usize) -> usize
+    requires k_lt_rows { (k < length rows.now) × ((k < length links.now) × (from ≤ k)) }
+    requires linked { Linked (length links.now) (key_in rows.now) links.now (k + 1) }
+    requires kin { Kin (length links.now) (key_in rows.now) k from }
     ensures not_in { NotIn (key_in rows.now) k result from × (result ≤ from) }
-    ensures kin_2 { Kin (length next.now) (key_in rows.now) k result }
+    ensures kin_2 { Kin (length links.now) (key_in rows.now) k result }
 {
     let at = from.saturating_sub(1);
-    if rows[at].key == rows[k].key {
+    if has_key(rows, links, at, k, links[k].tag) {
         return from;
     }
-    usize::from(next[at])
+    usize::from(links[at].next)
 }
 
 // The lines that are written down by number: a row for each; chains of the numbers by their keys, each by one more
@@ -88,7 +128,7 @@ fn first_step(rows: &[Row], next: &[u16], from: usize, k: usize) -> usize
 pub struct Table<const N: usize> {
     pub rows: [Row; N],
     pub heads: [u16; N],
-    pub next: [u16; N],
+    pub links: [Link; N],
     // Whether a line was filed whose chain is too long to be walked for each line. It only says how the next ones are best
     // sought: nothing rests on it.
     pub long: bool,
@@ -98,12 +138,12 @@ impl<const N: usize> Table<N> {
     // Nothing is written down.
     pub fn new() -> Table<N>
         requires { N ≤ 65535 }
-        ensures { Chained (key_in result.rows) result.heads result.next 0 }
+        ensures { Chained (key_in result.rows) result.heads result.links 0 }
     {
         Table {
             rows: [Row::UNUSED; N],
             heads: [0; N],
-            next: [0; N],
+            links: [Link::UNUSED; N],
             long: false,
         }
     }
@@ -112,40 +152,51 @@ impl<const N: usize> Table<N> {
     // has it, or 0.
     pub fn seek_before(&self, k: usize) -> usize
         requires k_lt_rows { k < length self.now.rows }
-        requires chained { Chained (key_in self.now.rows) self.now.heads self.now.next k }
+        requires chained { Chained (key_in self.now.rows) self.now.heads self.now.links k }
         ensures sought { Sought (key_in self.now.rows) k result }
         ensures upper_bound { result ≤ k }
     {
-        let h = bucket_of::<N>(self.rows[k].key);
-        let head = self.heads[h];
-        seek(&self.rows, &self.next, usize::from(head), k, N)
+        let hash = hash_of::<N>(self.rows[k].key);
+        let head = self.heads[hash.bucket];
+        seek(&self.rows, &self.links, usize::from(head), k, hash.tag, N)
     }
 
     // The same for number k that is in its chain.
     pub fn seek_behind(&self, k: usize) -> usize
         requires k_lt_rows { k < length self.now.rows }
-        requires chained { Chained (key_in self.now.rows) self.now.heads self.now.next (k + 1) }
+        requires chained { Chained (key_in self.now.rows) self.now.heads self.now.links (k + 1) }
         ensures sought { Sought (key_in self.now.rows) k result }
         ensures upper_bound { result ≤ k }
     {
-        let next = self.next[k];
-        seek(&self.rows, &self.next, usize::from(next), k, N)
+        let link = self.links[k];
+        seek(
+            &self.rows,
+            &self.links,
+            usize::from(link.next),
+            k,
+            link.tag,
+            N,
+        )
     }
 
     // Puts number k in front of its chain, and answers as `seek` does.
     #[inline(always)]
     pub fn link(&mut self, k: usize, most: usize) -> usize
         requires k_lt_rows { k < length self.old.rows }
-        requires chained { Chained (key_in self.old.rows) self.old.heads self.old.next k }
+        requires chained { Chained (key_in self.old.rows) self.old.heads self.old.links k }
         ensures rows_kept { self.new.rows ≡ self.old.rows }
         ensures sought { Sought (key_in self.new.rows) k result }
-        ensures chained_2 { Chained (key_in self.new.rows) self.new.heads self.new.next (k + 1) }
+        ensures chained_2 { Chained (key_in self.new.rows) self.new.heads self.new.links (k + 1) }
     {
-        let h = bucket_of::<N>(self.rows[k].key);
-        let head = self.heads[h];
-        self.next[k] = head;
-        let from = first_step(&self.rows, &self.next, usize::from(head), k);
-        let r = seek(&self.rows, &self.next, from, k, most);
+        let hash = hash_of::<N>(self.rows[k].key);
+        let h = hash.bucket;
+        let next = self.heads[h];
+        self.links[k] = Link {
+            next,
+            tag: hash.tag,
+        };
+        let from = first_step(&self.rows, &self.links, usize::from(next), k);
+        let r = seek(&self.rows, &self.links, from, k, hash.tag, most);
         self.heads[h] = (k + 1) as u16;
         r
     }
@@ -190,10 +241,10 @@ pub fn steps(known: Verdict) -> usize {
 #[derive(Clone, Copy)]
 pub struct Keyed<'a> {
     pub rows: &'a [Row],
-    pub next: &'a [u16],
+    pub links: &'a [Link],
     pub count: usize,
-    ghost few: { (count ≤ length rows.now) × ((count ≤ length next.now) × (length next.now ≤ 65535)) },
-    ghost linked: { Linked (length next.now) (key_in rows.now) next.now count },
+    ghost few: { (count ≤ length rows.now) × ((count ≤ length links.now) × (length links.now ≤ 65535)) },
+    ghost linked: { Linked (length links.now) (key_in rows.now) links.now count },
 }
 
 // Whether no key stands twice, each sought in its chain to the end.
@@ -202,7 +253,15 @@ pub fn seek_all(keys: Keyed) -> bool
 {
     // By number: `seek` is asked for a number, whose row it reads itself.
     for k in 0..keys.count {
-        let r = seek(keys.rows, keys.next, usize::from(keys.next[k]), k, k);
+        let link = keys.links[k];
+        let r = seek(
+            keys.rows,
+            keys.links,
+            usize::from(link.next),
+            k,
+            link.tag,
+            k,
+        );
         if 0 < r {
             return false;
         }

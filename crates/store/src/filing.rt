@@ -26,7 +26,7 @@ pub fn file_line<const N: usize>(
     requires text_value { known (decode index.old text.old) ≡ true }
     requires in_bounds { (1 ≤ length line.now) × (length line.now ≤ line_max) }
     requires loads { Loads index.old
-        table.old.rows table.old.heads table.old.next
+        table.old.rows table.old.heads table.old.links
         fill × (fill.count < length table.old.rows) }
     requires some_dues { SomeDues dues key.owner index.old text.old }
     ensures { FilesLine dues index.old text.old (record { key = key; line = line.now }) result

@@ -24,9 +24,9 @@ pub struct Part {
 // One more than the number that has the line of a key, or 0: the key is written down behind the lines that are held, and
 // its chain tells the one before.
 pub fn seek_key<const N: usize>(table: &mut Table<N>, fill: Fill, key: Key) -> usize
-    requires { Ready table.old.rows table.old.heads table.old.next fill.count }
-    ensures ready { Ready table.new.rows table.new.heads table.new.next fill.count }
-    ensures chains_kept { (table.new.heads ≡ table.old.heads) × (table.new.next ≡ table.old.next) }
+    requires { Ready table.old.rows table.old.heads table.old.links fill.count }
+    ensures ready { Ready table.new.rows table.new.heads table.new.links fill.count }
+    ensures chains_kept { (table.new.heads ≡ table.old.heads) × (table.new.links ≡ table.old.links) }
     ensures rows_after { table.new.rows ≡ row_put table.old.rows fill.count key 0 0 }
     ensures sought { Sought (key_in table.new.rows) fill.count result }
     ensures upper_bound { result ≤ fill.count }
@@ -42,11 +42,11 @@ pub fn seek_key<const N: usize>(table: &mut Table<N>, fill: Fill, key: Key) -> u
 
 // Where the line of a key lies.
 pub fn part_of<const N: usize>(table: &mut Table<N>, fill: Fill, key: Key) -> Option<Part>
-    requires { Ready table.old.rows table.old.heads table.old.next fill.count }
-    ensures ready { Ready table.new.rows table.new.heads table.new.next fill.count }
-    ensures chains_kept { (table.new.heads ≡ table.old.heads) × (table.new.next ≡ table.old.next) }
+    requires { Ready table.old.rows table.old.heads table.old.links fill.count }
+    ensures ready { Ready table.new.rows table.new.heads table.new.links fill.count }
+    ensures chains_kept { (table.new.heads ≡ table.old.heads) × (table.new.links ≡ table.old.links) }
     ensures agree { Agree table.old.rows table.new.rows fill.count }
-    ensures spots { Spots table.old.rows table.old.heads table.old.next fill key result }
+    ensures spots { Spots table.old.rows table.old.heads table.old.links fill key result }
 {
     let r = seek_key(table, fill, key);
     let len = len_before(&table.rows, r);

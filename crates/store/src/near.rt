@@ -23,8 +23,8 @@ pub enum Nearness {
 
 // Tries the whole UUID, then the same without its checksum, among the lines that are written down.
 fn try_both<const N: usize>(table: &mut Table<N>, fill: Fill, key: Key) -> Option<(Nearness, Part)>
-    requires { Ready table.old.rows table.old.heads table.old.next fill.count }
-    ensures { Tries table.old.rows table.old.heads table.old.next fill key result }
+    requires { Ready table.old.rows table.old.heads table.old.links fill.count }
+    ensures { Tries table.old.rows table.old.heads table.old.links fill key result }
 {
     let uuid = key.uuid;
     let plain = Key {

@@ -18,8 +18,8 @@ use text::uuid::Uuid;
 
 // Strikes the line of a key out of the lines that are written down, and tells whether there was one.
 fn strike_row<const N: usize>(table: &mut Table<N>, fill: Fill, key: Key) -> bool
-    requires { Ready table.old.rows table.old.heads table.old.next fill.count }
-    ensures { StrikesRow table.old.rows table.old.heads table.old.next fill key table.new.rows result }
+    requires { Ready table.old.rows table.old.heads table.old.links fill.count }
+    ensures { StrikesRow table.old.rows table.old.heads table.old.links fill key table.new.rows result }
 {
     let r = seek_key(table, fill, key);
     let had = len_before(&table.rows, r);

@@ -66,9 +66,9 @@ fn zero_behind(index: &[u8], text: &[u8], at: usize, off: usize) -> bool
 pub fn survey<const N: usize>(index: &[u8], text: &[u8], table: &mut Table<N>) -> Option<Surveyed>
     requires enough { Enough (length table.old.rows) (length index.now) }
     requires text_len_bound { length text.now ≤ text_max }
-    requires chained { Chained (key_in table.old.rows) table.old.heads table.old.next 0 }
+    requires chained { Chained (key_in table.old.rows) table.old.heads table.old.links 0 }
     ensures once { OnceSurveyed index.now text.now
-        table.new.rows table.new.heads table.new.next result }
+        table.new.rows table.new.heads table.new.links result }
     ensures rows_kept { length table.new.rows ≡ length table.old.rows }
 {
     let mut at = 0;
@@ -133,7 +133,7 @@ impl<const N: usize> Ledger<N> {
         let fill = seen.fill;
         let keys = Keyed {
             rows: &self.table.rows,
-            next: &self.table.next,
+            links: &self.table.links,
             count: fill.count,
         };
         if !each_once::<N>(keys, seen.verdict) {

@@ -37,10 +37,10 @@ impl<const N: usize> Table<N> {
     #[inline(always)]
     pub fn add_row(&mut self, n: usize, key: Key, start: usize, len: usize, most: usize) -> usize
         requires n_lt_rows { n < length self.old.rows }
-        requires chained { Chained (key_in self.old.rows) self.old.heads self.old.next n }
+        requires chained { Chained (key_in self.old.rows) self.old.heads self.old.links n }
         ensures rows_after { self.new.rows ≡ row_put self.old.rows n key start len }
         ensures sought { Sought (key_in self.new.rows) n result }
-        ensures chained_2 { Chained (key_in self.new.rows) self.new.heads self.new.next (n + 1) }
+        ensures chained_2 { Chained (key_in self.new.rows) self.new.heads self.new.links (n + 1) }
     {
         self.rows[n].put(key, start, len);
         self.link(n, most)
@@ -51,11 +51,11 @@ impl<const N: usize> Table<N> {
     // is too long is walked to its end then, and the table says so.
     fn add_by(&mut self, nodes: &mut [Node], n: usize, key: Key, start: usize, len: usize) -> usize
         requires n_lt_rows { n < length self.old.rows }
-        requires chained { Chained (key_in self.old.rows) self.old.heads self.old.next n }
+        requires chained { Chained (key_in self.old.rows) self.old.heads self.old.links n }
         requires searched { Searched (key_in self.old.rows) nodes.old n (length self.old.rows) }
         ensures rows_after { self.new.rows ≡ row_put self.old.rows n key start len }
         ensures sought { Sought (key_in self.new.rows) n result × (result ≤ n) }
-        ensures chained_2 { Chained (key_in self.new.rows) self.new.heads self.new.next (n + 1) }
+        ensures chained_2 { Chained (key_in self.new.rows) self.new.heads self.new.links (n + 1) }
         ensures searched_2 { Searched (key_in self.new.rows) nodes.new (n + 1) (length self.new.rows) }
     {
         if !nodes.is_empty() {
@@ -133,13 +133,13 @@ impl Filing<'_> {
     ) -> Result<Standing, Full>
         requires count_lt_rows { standing.fill.count < length table.old.rows }
         requires fileable { Fileable self.now.dues self.now.index.now self.now.text.now
-            table.old.rows table.old.heads table.old.next
+            table.old.rows table.old.heads table.old.links
             standing (record { owner = self.now.owner; uuid = uuid }) start len }
         requires searched { Searched (key_in table.old.rows) nodes.old standing.fill.count (length table.old.rows) }
         ensures files { FilesRow self.now.dues self.now.index.now self.now.text.now
-            table.old.rows table.old.heads table.old.next
+            table.old.rows table.old.heads table.old.links
             standing (record { owner = self.now.owner; uuid = uuid }) start len
-            table.new.rows table.new.heads table.new.next result }
+            table.new.rows table.new.heads table.new.links result }
         ensures searched_2 { SearchedOn table.new.rows nodes.new result }
         ensures rows_kept { length table.new.rows ≡ length table.old.rows }
     {

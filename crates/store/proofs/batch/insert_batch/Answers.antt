@@ -44,7 +44,7 @@ dues_of-dues-requires g c =
 -- the lines are walked, and what is owed is told by them
 walked : (g : _) (c : After-dues_of-dues g)
     → Surveys c.args.index.now c.args.text.now c.survey.new.table.rows c.survey.new.table.heads
-    c.survey.new.table.next c.unwrap-seen.result
+    c.survey.new.table.links c.unwrap-seen.result
 walked g c = survey_of _ _ _ _ _ _ c.survey.ensures.once _ c.unwrap-seen.ensures
 
 owed : (g : _) (c : After-dues_of-dues g) (hs : List Held) → decode c.args.index.now c.args.text.now ≡ some hs

@@ -6,7 +6,7 @@ use Rattle.store.proofs.ChainLaws.{Seeking}
 use Rattle.store.proofs.chains.seek.Given as goal
 
 abbrev pub invariant-loop-c : goal.invariant-loop-c
-invariant-loop-c l = Seeking (length l.next) (key_in l.rows) l.k l.from l.c × (l.from ≤ l.most → l.c ≤ l.left)
+invariant-loop-c l = Seeking (length l.links) (key_in l.rows) l.k l.from l.c × (l.from ≤ l.most → l.c ≤ l.left)
 
 abbrev pub decreases-loop-c : goal.decreases-loop-c
 decreases-loop-c l = l.c

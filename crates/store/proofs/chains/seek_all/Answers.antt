@@ -15,10 +15,10 @@ module _ (c : After-from) where
   K = key_in c.args.keys.rows.now
 
   abbrev N : ℕ
-  N = length c.args.keys.next.now
+  N = length c.args.keys.links.now
 
   chain : Last N K (bucket N (K c.loop-k.k)) c.loop-k.k c.from.result
-  chain = chain_from N K c.args.keys.next.now _ _ _ c.args.keys.linked (omega arith) c.from.ensures
+  chain = chain_from N K c.args.keys.links.now _ _ _ c.args.keys.linked (omega arith) c.from.ensures
 
   whole : {r : ℕ} → Seeks K c.loop-k.k c.from.result r → Sought K c.loop-k.k r
   whole x = chain_sought N K _ _ chain _ x
@@ -32,6 +32,7 @@ seek-r-requires c =
     record {
       k_lt_rows = (omega (arith, c.args.keys.few.0), (omega (arith, c.args.keys.few.1.0), last.within));
       linked = λ a l. c.args.keys.linked a (omega arith);
+      tagged = (c.args.keys.linked c.loop-k.k (omega arith)).1;
       kin = last.kin;
     }
 

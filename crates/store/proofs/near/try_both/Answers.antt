@@ -2,6 +2,7 @@
 use mathlib.Core.List.{List, []}
 use mathlib.Core.Path.{◌≡◌, refl, sym, subst}
 use Prim.Native.Nat.{ℕ}
+use Rattle.store.specs.declared.chains.Link.{Link}
 use Rattle.store.specs.declared.rows.Row.{Row}
 use Rattle.store.specs.declared.table.Fill.{Fill}
 use Rattle.store.specs.Held.{Held}
@@ -25,11 +26,11 @@ returns-in-Some g c =
     (whole.ensures.spots i t _ hs (λ j m. refl) x) _ c.in-Some.is
 
 -- the chains are those from before
-still : (i t : List ℕ) (a : List Row) (heads next heads' next' : List ℕ) (f : Fill) (hs : List Held)
-    → heads' ≡ heads → next' ≡ next → InRows i t [] a heads next f.count f hs → InRows i t [] a heads' next' f.count f hs
-still i t a heads next heads' next' f hs p q x =
-    subst (λ (v : List ℕ). InRows i t [] a v next' f.count f hs) (sym p)
-    (subst (λ (v : List ℕ). InRows i t [] a heads v f.count f hs) (sym q) x)
+still : (i t : List ℕ) (a : List Row) (heads heads' : List ℕ) (links links' : List Link) (f : Fill) (hs : List Held)
+    → heads' ≡ heads → links' ≡ links → InRows i t [] a heads links f.count f hs → InRows i t [] a heads' links' f.count f hs
+still i t a heads links heads' links' f hs p q x =
+    subst (λ (v : List ℕ). InRows i t [] a v links' f.count f hs) (sym p)
+    (subst (λ (v : List Link). InRows i t [] a heads v f.count f hs) (sym q) x)
 
 -- the second key is the first without its checksum
 plain : (t : List ℕ) (k : Key) (hs : List Held) (r : Optional Part) {u : Uuid} → u ≡ without_checksum k.uuid

@@ -16,7 +16,7 @@ pub loop-head-init : goal.loop-head-init
 loop-head-init g c =
     let args = c.args in
     let pre = c.requires in (
-      survey_first args.index.now args.text.now _ args.table.now.heads args.table.now.next pre.enough pre.chained,
+      survey_first args.index.now args.text.now _ args.table.now.heads args.table.now.links pre.enough pre.chained,
       refl,
     )
 

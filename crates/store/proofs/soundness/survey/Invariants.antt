@@ -7,7 +7,7 @@ use Rattle.store.proofs.soundness.survey.Given as goal
 
 abbrev pub invariant-loop-head : goal.invariant-loop-head
 invariant-loop-head g l =
-    Surveying l.index l.text l.at l.table.rows l.table.heads l.table.next l.n l.used
+    Surveying l.index l.text l.at l.table.rows l.table.heads l.table.links l.n l.used
     l.verdict
     × (length l.table.rows ≡ length l.initial.table.rows)
 

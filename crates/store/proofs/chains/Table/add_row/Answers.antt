@@ -22,6 +22,6 @@ link-requires g c =
         chained_agree (key_in args.self.now.rows) _ args.n
             (λ k l. sym (ap (λ (r : Row). r.key) (row_other args.self.now.rows args.n row.key row.start row.len k
             (λ e. omega arith))))
-            args.self.now.heads args.self.now.next pre.chained,
+            args.self.now.heads args.self.now.links pre.chained,
       ),
     )

@@ -5,6 +5,7 @@ use Prim.Native.Nat.{ℕ, ◌+◌, ◌<◌}
 use native.Mathlib.Omega.{arith}
 use lib.ListN.{length, get_or, set, length-set}
 use borrow.Author.Rules.{rules}
+use Rattle.store.specs.declared.chains.Link.{Link}
 use Rattle.store.specs.Held.{Key}
 use Rattle.store.specs.Keys.{Last, Linked, Kin, bucket}
 use Rattle.store.specs.Rows.{key_in}
@@ -17,8 +18,9 @@ module _ (g : _) (c : After-from g) where
   K = key_in c.args.self.now.rows
 
   -- the links with that of number k
-  abbrev links : List ℕ
-  links = set c.args.self.now.next c.args.k (get_or c.args.self.now.heads c.bucket_of-h.result 0)
+  abbrev links : List Link
+  links = set c.args.self.now.links c.args.k
+      (record { next = get_or c.args.self.now.heads c.hash_of-hash.result.bucket 0; tag = c.hash_of-hash.result.tag })
 
   long : length c.args.self.now.heads ≡ g.row.N
   long = search rules
@@ -27,14 +29,14 @@ module _ (g : _) (c : After-from g) where
   less = search rules
 
   all : length links ≡ g.row.N
-  all = length-set c.args.self.now.next c.args.k _ ∙ search rules
+  all = length-set c.args.self.now.links c.args.k _ ∙ search rules
 
   last : Last g.row.N K (bucket g.row.N (K c.args.k)) c.args.k c.from.result
-  last = here c.requires.chained long c.bucket_of-h.ensures c.from.ensures less
+  last = here c.requires.chained long c.hash_of-hash.ensures.bucket c.from.ensures less
 
   linked : Linked (length links) K links (c.args.k + 1)
   linked = subst (λ (n : ℕ). Linked n K links (c.args.k + 1)) (sym all)
-      (links_turn c.requires.chained long c.bucket_of-h.ensures refl less)
+      (links_turn c.requires.chained long c.hash_of-hash.ensures.bucket refl less _ (refl, c.hash_of-hash.ensures.tag))
 
 pub first_step-from-requires : goal.first_step-from-requires
 first_step-from-requires g c = record {
@@ -53,6 +55,7 @@ seek-r-requires g c =
         (omega (arith, less g from, all g from), omega (arith, first.not_in.1, (last g from).within)),
       );
       linked = λ a l. linked g from a (omega (arith, l));
+      tagged = c.hash_of-hash.ensures.tag;
       kin = first.kin_2;
     }
 
@@ -63,7 +66,8 @@ returns g c =
     let first = c.first_step-from.ensures in
     record {
       rows_kept = refl;
-      sought = sought pre.chained (long g from) c.bucket_of-h.ensures c.from.ensures (less g from)
+      sought = sought pre.chained (long g from) c.hash_of-hash.ensures.bucket c.from.ensures (less g from)
           (seeks_from (key_in c.args.self.now.rows) c.args.k _ _ _ first.not_in.0 c.seek-r.ensures.seeks);
-      chained_2 = chained_turn pre.chained (long g from) c.bucket_of-h.ensures refl (less g from) _ (omega arith);
+      chained_2 = chained_turn pre.chained (long g from) c.hash_of-hash.ensures.bucket refl (less g from) _ (omega arith) _
+          (refl, c.hash_of-hash.ensures.tag);
     }

@@ -17,17 +17,18 @@ module _ (g : _) (c : After-from g) where
   less : c.args.k < g.row.N
   less = search rules
 
-  links_long : length c.args.self.now.next ≡ g.row.N
+  links_long : length c.args.self.now.links ≡ g.row.N
   links_long = search rules
 
   last : Last g.row.N (key_in c.args.self.now.rows) (bucket g.row.N (key_in c.args.self.now.rows c.args.k)) c.args.k
       c.from.result
-  last = here c.requires.chained long c.bucket_of-h.ensures c.from.ensures less
+  last = here c.requires.chained long c.hash_of-hash.ensures.bucket c.from.ensures less
 
 pub seek-requires : goal.seek-requires
 seek-requires g c = record {
   k_lt_rows = (c.requires.k_lt_rows, (omega (arith, less g c, links_long g c), (last g c).within));
-  linked = rw c.requires.chained.alike c.requires.chained.links;
+  linked = rw c.requires.chained.alike c.requires.chained.linked;
+  tagged = c.hash_of-hash.ensures.tag;
   kin = subst (λ (n : ℕ). Kin n (key_in c.args.self.now.rows) c.args.k c.from.result) (sym (links_long g c))
       (last g c).kin;
 }
@@ -36,7 +37,7 @@ pub returns : goal.returns
 returns g c =
     let from = (goal.at.returns g c).After-from in
     record {
-      sought = sought c.requires.chained (long g from) c.bucket_of-h.ensures c.from.ensures (less g from)
+      sought = sought c.requires.chained (long g from) c.hash_of-hash.ensures.bucket c.from.ensures (less g from)
           c.seek.ensures.seeks;
       upper_bound = c.seek.ensures.upper_bound (omega (arith, (last g from).within, less g from));
     }

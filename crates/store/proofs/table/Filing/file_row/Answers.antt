@@ -16,7 +16,7 @@ use Rattle.store.proofs.table.Filing.file_row.Goals as goal
 module _ {g s : List ℕ} {old : ℕ} {hs : List Held} where
   placed : (v : _) (c : After-len_before-had v)
       → (w : Files' g c.args.self.now.dues c.args.self.now.index.now c.args.self.now.text.now s c.args.table.now.rows
-      c.args.table.now.heads c.args.table.now.next old c.args.standing
+      c.args.table.now.heads c.args.table.now.links old c.args.standing
       (record { owner = c.args.self.now.owner; uuid = c.args.uuid }) c.args.start c.args.len hs)
       → Placed w c.requires.count_lt_rows c.add_by-r.new.self.rows c.add_by-r.result c.len_before-had.result
   placed v c w = record {

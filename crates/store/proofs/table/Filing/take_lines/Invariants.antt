@@ -11,8 +11,8 @@ use Rattle.store.proofs.table.Filing.take_lines.Given as goal
 abbrev pub invariant-loop-at : goal.invariant-loop-at
 invariant-loop-at g l =
     Taking l.self.dues l.self.index.now l.self.text.now l.self.lines.now
-    l.initial.table.rows l.initial.table.heads l.initial.table.next l.self.owner l.from l.initial.standing
-    l.table.rows l.table.heads l.table.next l.standing l.at l.count
+    l.initial.table.rows l.initial.table.heads l.initial.table.links l.self.owner l.from l.initial.standing
+    l.table.rows l.table.heads l.table.links l.standing l.at l.count
     × ((length l.table.rows ≡ g.row.N) × Searched (key_in l.table.rows) l.nodes l.standing.fill.count (length l.table.rows))
 
 abbrev pub decreases-loop-at : goal.decreases-loop-at
