@@ -8,7 +8,7 @@ use mathlib.Core.Path.{◌≡◌, refl, sym, ap, ◌∙◌, subst}
 use Prim.Native.Nat.{ℕ, suc, ◌+◌, ◌-◌, ◌≤◌, ◌<◌}
 use native.Mathlib.Omega.{arith}
 use lib.ListN.{length, take, drop, length-drop}
-use lib.Seq.{length-take-le}
+use lib.Seq.{length-take-le, drop-drop}
 use Rattle.text.proofs.ListLaws.{part_to_end}
 use Rattle.text.proofs.BytesLaws.{first_le}
 use Rattle.text.proofs.LentLaws.{tail_length}
@@ -365,9 +365,29 @@ module _ (d : Dues) (g i t s : List ℕ) (a : List Row) (heads : List ℕ) (link
         go (onward ks o run k p) = onward ks o run k (held ks p)
         go (halted ks v o run k p) = halted ks v o run k (held ks p)
 
-pub went_from : (s : List ℕ) (from f n : ℕ) (r : Walked) → f < n → Went s from f n r → Went s from 0 n r
-went_from s from f n r l w =
-    record { within = w.within; counted = w.counted; moved = λ p q o. w.moved l q o }
+-- a walk of what stands from a place on, as one of the whole
+module _ (s part : List ℕ) (from : ℕ) (e : part ≡ drop from s) (r : Walked) where
+  abbrev behind_it : Walked
+  behind_it = record { answer = r.answer; at = from + r.at; count = r.count; standing = r.standing }
+
+  pub takes_behind : (own : Caller) (hs : List Held) (P : List Held → Type 0) → Takes own part 0 hs r P
+      → Takes own s from hs behind_it P
+  takes_behind own hs P (onward ks z run k p) =
+      onward ks z
+      (λ c. ap (λ (q : List ℕ). insert_lines own hs c (lines_of q)) (sym e) ∙ run c
+      ∙ ap (λ (q : List ℕ). insert_lines own ks (c + r.count) (lines_of q)) (ap (drop r.at) e ∙ drop-drop r.at from s))
+      k p
+  takes_behind own hs P (halted ks v z run k p) =
+      halted ks v z (λ c. ap (λ (q : List ℕ). insert_lines own hs c (lines_of q)) (sym e) ∙ run c) k p
+
+  pub went_behind : (f n : ℕ) → f < n → from ≤ length s → Went part 0 f n r → Went s from 0 n behind_it
+  went_behind f n l m w =
+      let long : length part ≡ length s - from = ap length e ∙ length-drop from s in
+      record {
+        within = omega (arith, w.within, long, m);
+        counted = omega (arith, w.counted);
+        moved = λ p q o. let on : 0 < r.at = w.moved l (omega (arith, long, q)) o in omega arith;
+      }
 
 pub both_most : (i t : List ℕ) → Bytes i → known (decode i t) ≡ true → (length i ≤ index_max) × (length t ≤ text_max)
 both_most i t b k =

@@ -22,7 +22,7 @@ use Rattle.store.specs.Decode.{decode}
 use Rattle.store.specs.Held.{Held, index_max, text_max}
 use Rattle.store.specs.Layout.{Bytes}
 use Rattle.store.specs.Inner.{Sized, sizes}
-use Rattle.store.specs.Rows.{row_in, key_in, start_in, len_in, unused}
+use Rattle.store.specs.Rows.{row_in, key_in, start_in, len_in, unused, row_key}
 use Rattle.store.specs.Layout.{record_bytes, records, texts, encode_records}
 use Rattle.store.specs.Table.{living, line_at, Whole, Tabled, Takes_up, Keepable, Keeps, Extends}
 use Rattle.store.specs.Table.{behind_kept, Lent, Closes, Closed, Settles, Settled}
@@ -101,7 +101,7 @@ module _ (a : List Row) (old at off k : ℕ) (w : Keeping a old at off k) where
 -- the same of row k where the first `old` rows are taken
 module _ (a : List Row) (old at off k : ℕ) (w : Keeping a old at off k) (h : k < length (take old a))
     (n : (get_or (take old a) k unused).len ≡ 0 → ⊥) (size : ℕ)
-    (z : Sized (get_or (take old a) k unused).key off size) where
+    (z : Sized (row_key (get_or (take old a) k unused)) off size) where
   old_row : k < old
   old_row = omega (arith, h, length-take old a)
 
@@ -112,7 +112,7 @@ module _ (a : List Row) (old at off k : ℕ) (w : Keeping a old at off k) (h : k
   some_len e = n (ap (λ (r : Row). r.len) taken ∙ e)
 
   sized : Sized (key_in a k) off size
-  sized = subst (λ (r : Row). Sized r.key off size) taken z
+  sized = subst (λ (r : Row). Sized (row_key r) off size) taken z
 
   pub taken_fits : (at + size ≤ index_max) × (off + (get_or (take old a) k unused).len ≤ text_max)
   taken_fits = subst (λ (r : Row). (at + size ≤ index_max) × (off + r.len ≤ text_max)) (sym taken)

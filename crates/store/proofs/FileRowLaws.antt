@@ -27,7 +27,7 @@ use Rattle.store.specs.Keys.{Chained, Sought}
 use Rattle.store.specs.Layout.{texts}
 use Rattle.store.specs.Tree.{Searched}
 use Rattle.store.specs.declared.tree.Node.{Node}
-use Rattle.store.specs.Rows.{row_in, key_in, start_in, len_in, row_put, len_put, len_before, put_before}
+use Rattle.store.specs.Rows.{row_in, key_in, start_in, len_in, row_put, len_put, len_before, put_before, row_key, row_of}
 use Rattle.store.specs.Table.{living, source_of, line_at, Tabled, InRows, InStanding}
 use Rattle.store.specs.Table.{Weighable, room_by, Files', Filed, fits, full}
 use Rattle.store.proofs.FilingLaws.{others_less, room_is, index_there, text_there}
@@ -74,7 +74,7 @@ module _ {g : List ℕ} {d : Dues} {i t s : List ℕ} {a : List Row} {heads : Li
         unfolding line_at
         new_line =
             ap (λ (r : Row). pick (eqb r.len 0) []
-            (record { key = r.key; line = take r.len (drop r.start (source_of t s old n)) } ∷ []))
+            (record { key = row_key r; line = take r.len (drop r.start (source_of t s old n)) } ∷ []))
             y.last
             ∙ ap₂ (λ (c d : Bool). pick c [] (record { key = u; line = take len (drop start (pick d t s)) } ∷ []))
             (ne_eqb len 0 (λ e. omega (arith, z.shape.some, len_is))) (le-ltb n old x.tabled.olds)
@@ -170,7 +170,7 @@ module _ {g : List ℕ} {d : Dues} {i t s : List ℕ} {a : List Row} {heads : Li
       kept_b : (k : ℕ) → k < w.fill.count → row_in b k ≡ row_in a k
       kept_b k l = ap (λ (v : List Row). row_in v k) p.put ∙ row_before x u start len cl k l
 
-      last_b : row_in b w.fill.count ≡ record { key = u; start = start; len = len }
+      last_b : row_in b w.fill.count ≡ row_of u start len
       last_b = ap (λ (v : List Row). row_in v n) p.put ∙ row_new x u start len cl
 
       pub replaces : {c : List Row} → c ≡ put_before b r 0 → Replaces b c w u r had len
@@ -185,8 +185,8 @@ module _ {g : List ℕ} {d : Dues} {i t s : List ℕ} {a : List Row} {heads : Li
         least = p.least;
         struck_len = p.taken;
         struck = e;
-        same = λ l. ap (λ (k : Key). k.owner) (p.sought.hit l p.least ∙ ap (λ (v : Row). v.key) last_b);
-        last_key = ap (λ (v : Row). v.key) last_b;
+        same = λ l. ap (λ (k : Key). k.owner) (p.sought.hit l p.least ∙ ap row_key last_b);
+        last_key = ap row_key last_b;
         last_len = ap (λ (v : Row). v.len) last_b;
       }
 

@@ -22,7 +22,7 @@ use Rattle.store.specs.Held.{Key, Held, distinct}
 use Rattle.store.specs.Layout.{Bytes}
 use Rattle.store.specs.Inner.{Lies, size_of, sizes}
 use Rattle.store.specs.Keys.{Enough, Chained}
-use Rattle.store.specs.Rows.{row_in, key_in, start_in, len_in, row_put}
+use Rattle.store.specs.Rows.{row_in, key_in, start_in, len_in, row_put, row_of}
 use Rattle.store.specs.Layout.{Shapes, texts}
 use Rattle.store.specs.Table.{living, line_at, Extends, InRows, Loads}
 use Rattle.store.proofs.DecodeLaws.{Laid, laid, good}
@@ -208,7 +208,7 @@ module _ (i : List ℕ) (at : ℕ) (a : List Row) (heads : List ℕ) (links : Li
             other k p = row_other a n head.key head.off head.len k (λ z. omega arith)
 
             new : row_in (row_put a n head.key head.off head.len) n
-                ≡ record { key = head.key; start = head.off; len = head.len }
+                ≡ row_of head.key head.off head.len
             new = row_same a n head.key head.off head.len load_less
 
             front' : List Held

@@ -24,7 +24,7 @@ use Rattle.store.specs.Shares.{Content}
 use Rattle.store.specs.Held.{Key, Held, same_key, find}
 use Rattle.store.specs.Inner.{known}
 use Rattle.store.specs.Keys.{Sought}
-use Rattle.store.specs.Rows.{row_in, key_in, start_in, len_in, row_put, len_before}
+use Rattle.store.specs.Rows.{row_in, key_in, start_in, len_in, row_put, len_before, row_key}
 use Rattle.store.specs.Table.{living, held_at, line_at, InRows, Stocks}
 use Rattle.store.specs.Sights.{Ready, Agree, Spot, Spots, nowhere, there, Sees}
 use Rattle.store.specs.Store.{Looked, nothing, unsound, looked_in, looked_at, look_by}
@@ -104,7 +104,7 @@ module _ {k : Key} {i t : List ℕ} {a : List Row} (b : List Row) {heads : List 
   S j = line_at t [] a f.count j
 
   before : (j : ℕ) → j < f.count → key_in a j ≡ key_in b j
-  before j l = ap (λ (v : Row). v.key) (agree j l)
+  before j l = ap row_key (agree j l)
 
   -- what a number gives
   find_gone : (j : ℕ) → len_in a j ≡ 0 → find k (S j) ≡ none
@@ -192,12 +192,12 @@ module _ {a : List Row} {heads : List ℕ} {links : List Link} {n : ℕ} (k : Ke
   pub put_ready : Ready b heads links n
   put_ready = record {
     few = omega (arith, p.few, ap length eb, put_long a n k 0 0);
-    chained = chained_agree (key_in a) (key_in b) n (λ j m. ap (λ (v : Row). v.key) (put_agree j m)) heads links
+    chained = chained_agree (key_in a) (key_in b) n (λ j m. ap row_key (put_agree j m)) heads links
         p.chained;
   }
 
   pub put_new : key_in b n ≡ k
-  put_new = ap (λ (v : List Row). key_in v n) eb ∙ ap (λ (v : Row). v.key) (row_same a n k 0 0 p.few)
+  put_new = ap (λ (v : List Row). key_in v n) eb ∙ ap row_key (row_same a n k 0 0 p.few)
 
 -- ---- what a look-up says
 

@@ -17,7 +17,7 @@ use Rattle.store.specs.declared.border.Standing.{Standing}
 use Rattle.store.specs.Border.{row_sum, one_line, far_size, Near, Bordered, Moves, Replaces, Replaced}
 use Rattle.store.specs.Claims.{row_lengths}
 use Rattle.store.specs.Held.{Key, text_max, line_max, short_max, size_by}
-use Rattle.store.specs.Rows.{row_in, key_in, start_in, len_in, len_put}
+use Rattle.store.specs.Rows.{row_in, key_in, start_in, len_in, len_put, row_of}
 use Rattle.store.proofs.BorderLaws.{row_len, sum-next, sum_most, sum_less, sum_kept, lengths_sum}
 use Rattle.store.proofs.WriteLaws.{len_other, len_same, put_before_long}
 
@@ -92,7 +92,7 @@ none_near a n = record { within = omega arith; bytes = refl; starts = λ j p. ab
 
 -- what a line comes to by its owner, and 0 for one that is struck out: `one_line` and `far_size`
 abbrev of_line : (ℕ → ℕ) → Row → ℕ
-of_line g r = pick (eqb r.len 0) 0 (g r.key.owner)
+of_line g r = pick (eqb r.len 0) 0 (g r.owner)
 
 abbrev one : ℕ → ℕ
 one o = 1
@@ -128,7 +128,7 @@ module _ {a b : List Row} {w : Standing} {u : Key} {r had len : ℕ} (x : Replac
         ne : (r ≡ 0 → ⊥) → 0 < r
         ne f = omega arith
 
-    row_gone : row_in b (r - 1) ≡ record { key = key_in a (r - 1); start = start_in a (r - 1); len = 0 }
+    row_gone : row_in b (r - 1) ≡ row_of (key_in a (r - 1)) (start_in a (r - 1)) 0
     row_gone = ap (λ (v : List Row). row_in v (r - 1)) some_out
         ∙ len_same a (r - 1) 0 (omega (arith, x.least, x.few, first_row))
 
@@ -143,7 +143,7 @@ module _ {a b : List Row} {w : Standing} {u : Key} {r had len : ℕ} (x : Replac
       go false e = row_kept e w.fill.count (λ z. omega (arith, x.least, first_row e))
 
   -- a sum over rows, with the one before number r and without it
-  module _ (f : Row → ℕ) (none : (k : Key) (start : ℕ) → f (record { key = k; start = start; len = 0 }) ≡ 0) where
+  module _ (f : Row → ℕ) (none : (k : Key) (start : ℕ) → f (row_of k start 0) ≡ 0) where
     with_it : (k : ℕ) → r ≤ k → row_sum f a k ≡ row_sum f b k + pick (eqb r 0) 0 (f (row_in a (r - 1)))
     with_it k l = go (eqb r 0) refl
       where

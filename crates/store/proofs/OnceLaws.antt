@@ -13,7 +13,7 @@ use Rattle.store.specs.Decode.{head_at}
 use Rattle.store.specs.Held.{Key, Held, same_key, holds, distinct}
 use Rattle.store.specs.Inner.{Lies, Once}
 use Rattle.store.specs.Keys.{key_of, Lists, AllApart, Twice, Tells}
-use Rattle.store.specs.Rows.{key_in, row_put}
+use Rattle.store.specs.Rows.{key_in, row_put, row_key}
 use Rattle.store.proofs.BoolLaws.{and_both, and_false_left, and_false_right, or_false}
 use Rattle.store.proofs.HeldLaws.{same_refl, same_eq}
 use Rattle.store.proofs.RowLaws.{Rest, first, Onward, ended, stands, onward, size_not, next_within}
@@ -123,10 +123,10 @@ module _ (i : List ℕ) (at : ℕ) (a : List Row) (n : ℕ) (w : Listing i at a 
   }
     where
       old : (k : ℕ) → k < n → K' k ≡ key_in a k
-      old k l = ap (λ (r : Row). r.key) (row_other a n head.key head.off head.len k (λ q. omega arith))
+      old k l = ap row_key (row_other a n head.key head.off head.len k (λ q. omega arith))
 
       new : K' n ≡ head.key
-      new = ap (λ (r : Row). r.key) (row_same a n head.key head.off head.len m)
+      new = ap row_key (row_same a n head.key head.off head.len m)
 
       go : (hs : List Held) (x : Lists' i at (key_in a) n hs) → Onward i at head e x.rest
           → Lists' i (at + head.size) (key_in (row_put a n head.key head.off head.len)) (n + 1) hs

@@ -18,7 +18,7 @@ use Rattle.store.specs.Decode.{decode}
 use Rattle.store.specs.Held.{Key, Held, same_key, strike}
 use Rattle.store.specs.Keys.{Sought}
 use Rattle.store.specs.Layout.{texts}
-use Rattle.store.specs.Rows.{row_in, key_in, start_in, len_in, row_put, len_put, put_before}
+use Rattle.store.specs.Rows.{row_in, key_in, start_in, len_in, row_put, len_put, put_before, row_key, row_of}
 use Rattle.store.specs.Table.{living, source_of, held_at, line_at, Whole, Tabled, InRows, Begins}
 use Rattle.store.proofs.HeldLaws.{same_refl, same_eq}
 use Rattle.store.proofs.LivingLaws.{gives_none}
@@ -87,14 +87,14 @@ module _ {i t s : List ℕ} {a : List Row} {heads : List ℕ} {links : List Link
     pub row_before : (k : ℕ) → k < f.count → row_in (row_put a f.count u start len) k ≡ row_in a k
     row_before k l = row_other a f.count u start len k (λ z. omega arith)
 
-    pub row_new : row_in (row_put a f.count u start len) f.count ≡ record { key = u; start = start; len = len }
+    pub row_new : row_in (row_put a f.count u start len) f.count ≡ row_of u start len
     row_new = row_same a f.count u start len cl
 
     pub key_before : (k : ℕ) → k < f.count → key_in (row_put a f.count u start len) k ≡ key_in a k
-    key_before k l = ap (λ (r : Row). r.key) (row_before k l)
+    key_before k l = ap row_key (row_before k l)
 
     pub key_new : key_in (row_put a f.count u start len) f.count ≡ u
-    key_new = ap (λ (r : Row). r.key) row_new
+    key_new = ap row_key row_new
 
     pub start_before : (k : ℕ) → k < f.count → start_in (row_put a f.count u start len) k ≡ start_in a k
     start_before k l = ap (λ (r : Row). r.start) (row_before k l)
@@ -161,7 +161,7 @@ module _ {i t s : List ℕ} {a : List Row} {heads : List ℕ} {links : List Link
         pub keys : (k : ℕ) → k < f.count + 1 → key_in (row_put a f.count u start len) k ≡ key_in b k
         pub starts : (k : ℕ) → k < f.count → start_in b k ≡ start_in a k
         pub either : (k : ℕ) → k < f.count → (len_in b k ≡ 0) ⊎ (row_in b k ≡ row_in a k)
-        pub last : row_in b f.count ≡ record { key = u; start = start; len = len }
+        pub last : row_in b f.count ≡ row_of u start len
         pub long : length b ≡ length a
         pub once : (j : ℕ) → j < f.count → key_in a j ≡ u → len_in b j ≡ 0
 
@@ -174,7 +174,7 @@ module _ {i t s : List ℕ} {a : List Row} {heads : List ℕ} {links : List Link
           record {
             lines = is ∙ x.tabled.is ∙ living-same S S'' f.count
                 (λ k l. sym (gives_same t s a' b old k (same k) ∙ gives-before k l));
-            keys = λ k l. sym (ap (λ (v : Row). v.key) (same k));
+            keys = λ k l. sym (ap row_key (same k));
             starts = λ k l. ap (λ (v : Row). v.start) (same k ∙ row_before k l);
             either = λ k l. inr (same k ∙ row_before k l);
             last = same f.count ∙ row_new;
@@ -184,8 +184,8 @@ module _ {i t s : List ℕ} {a : List Row} {heads : List ℕ} {links : List Link
       struck (one j jl ej g el) = record {
         lines = strikes;
         keys = λ k l. sym (⊎_elim
-            (λ e. ap (λ (v : ℕ). key_in b v) e ∙ ap (λ (v : Row). v.key) gone ∙ ap (λ (v : ℕ). K' v) (sym e))
-            (λ e. ap (λ (v : Row). v.key) (other k e)) (same_or k j));
+            (λ e. ap (λ (v : ℕ). key_in b v) e ∙ ap row_key gone ∙ ap (λ (v : ℕ). K' v) (sym e))
+            (λ e. ap row_key (other k e)) (same_or k j));
         starts = λ k l. ⊎_elim
             (λ e. ap (λ (v : ℕ). start_in b v) e ∙ ap (λ (v : Row). v.start) gone ∙ start_before j jl
             ∙ ap (λ (v : ℕ). start_in a v) (sym e))
@@ -202,7 +202,7 @@ module _ {i t s : List ℕ} {a : List Row} {heads : List ℕ} {links : List Link
           other : (k : ℕ) → (k ≡ j → ⊥) → row_in b k ≡ row_in a' k
           other k e = ap (λ (v : List Row). row_in v k) el ∙ len_other a' j 0 k e
 
-          gone : row_in b j ≡ record { key = key_in a' j; start = start_in a' j; len = 0 }
+          gone : row_in b j ≡ row_of (key_in a' j) (start_in a' j) 0
           gone = ap (λ (v : List Row). row_in v j) el
               ∙ len_same a' j 0 (omega (arith, put_long a f.count u start len, cl, jl))
 

@@ -28,7 +28,7 @@ use Rattle.store.specs.Fronts.{Fronts}
 use Rattle.store.specs.Shares.{Content}
 use Rattle.store.specs.Inner.{HasRecord, known}
 use Rattle.store.specs.Keys.{Enough, Suits, Says, Tells, told_of, Chained, Sought}
-use Rattle.store.specs.Rows.{key_in, row_put}
+use Rattle.store.specs.Rows.{key_in, row_put, row_key, start_max}
 use Rattle.store.specs.Table.{InRows, Loads, Surveys, OnceSurveyed, Stocks, OnceStocked}
 use Rattle.map.proofs.FilledLaws.{none_refused}
 use Rattle.store.proofs.BodyLaws.{bytes_part}
@@ -105,6 +105,12 @@ module _ {i t : List ℕ} {at : ℕ} {a : List Row} {heads : List ℕ} {links : 
     pub survey_on : b ≡ true → Walking i t (known (walk (suc (length i)) 0 i t)) (at + head.size) (used + head.len)
     survey_on q = walking_turn i t _ at used w.walks head e some_size b fit q
 
+    -- a row holds what it says
+    pub survey_fits : b ≡ true → length t ≤ text_max → (head.off ≤ start_max) × (head.len ≤ 65535)
+    survey_fits q m =
+        let fits : Fits used head (length t - used) = fits_of used head (length t - used) (sym fit ∙ q) in
+        (omega (arith, fits.offset, w.walks.text), omega (arith, fits.most))
+
     pub survey_turn : b ≡ true → (c : List Row) → c ≡ row_put a n head.key head.off head.len
         → (heads' : List ℕ) (links' : List Link) → Chained (key_in c) heads' links' (n + 1)
         → (r : ℕ) → Sought (key_in c) n r → (u : Verdict) → u ≡ told_of v n r
@@ -123,7 +129,7 @@ module _ {i t : List ℕ} {at : ℕ} {a : List Row} {heads : List ℕ} {links : 
       where
         same : (k : ℕ) → k < n → key_in a k ≡ key_in c k
         same k l = sym (ap (λ (x : List Row). key_in x k) ec
-            ∙ ap (λ (x : Row). x.key) (row_other a n head.key head.off head.len k (λ z. omega arith)))
+            ∙ ap row_key (row_other a n head.key head.off head.len k (λ z. omega arith)))
 
 -- ---- `take_stock`
 

@@ -14,7 +14,7 @@ use Rattle.store.specs.declared.rows.Row.{Row}
 use Rattle.store.specs.Held.{Key, Held, same_key, strike}
 use Rattle.store.specs.Keys.{bucket, tag_of, next_in, Last, Chained}
 use Rattle.store.specs.Layout.{texts}
-use Rattle.store.specs.Rows.{row_in, row_put}
+use Rattle.store.specs.Rows.{row_in, row_put, row_key}
 use Rattle.store.specs.Table.{living, source_of, line_at}
 use Rattle.store.proofs.RowLaws.{texts_sum}
 use Rattle.store.proofs.WriteLaws.{row_same, row_other}
@@ -87,7 +87,7 @@ living_most S S' (suc n) g =
 
 -- by its row
 abbrev given_by : List ℕ → Row → List Held
-given_by src r = pick (eqb r.len 0) [] (record { key = r.key; line = take r.len (drop r.start src) } ∷ [])
+given_by src r = pick (eqb r.len 0) [] (record { key = row_key r; line = take r.len (drop r.start src) } ∷ [])
 
 pub gives_same : (t s : List ℕ) (a b : List Row) (old k : ℕ) → row_in b k ≡ row_in a k
     → line_at t s b old k ≡ line_at t s a old k

@@ -191,20 +191,20 @@ module _ (a : List Row) (n : ℕ) (w : Addable a n) where
 
 -- the same of row k where the first n rows are taken
 module _ {a : List Row} {n : ℕ} (w : Addable a n) {u : List ℕ} {k : ℕ} (x : Adding a n u k)
-    (h : k < length (take n a)) (b : (get_or (take n a) k unused).key.owner < owners) where
+    (h : k < length (take n a)) (b : (get_or (take n a) k unused).owner < owners) where
   less : k < n
   less = omega (arith, h, length-take n a)
 
   taken : get_or (take n a) k unused ≡ row_in a k
   taken = get_or-take n a k unused less
 
-  pub taken_most : get_or u (get_or (take n a) k unused).key.owner 0 + (get_or (take n a) k unused).len ≤ text_max
+  pub taken_most : get_or u (get_or (take n a) k unused).owner 0 + (get_or (take n a) k unused).len ≤ text_max
   taken_most = omega (arith, ap (λ (r : Row). r.len) taken, add_most a n w u k x less _ b)
 
-  pub taken_next : Adding a n (set u (get_or (take n a) k unused).key.owner
-      (get_or u (get_or (take n a) k unused).key.owner 0 + (get_or (take n a) k unused).len)) (k + 1)
+  pub taken_next : Adding a n (set u (get_or (take n a) k unused).owner
+      (get_or u (get_or (take n a) k unused).owner 0 + (get_or (take n a) k unused).len)) (k + 1)
   taken_next =
-      add_next a n w u k x less _ (ap (λ (r : Row). r.key.owner) taken) b _ (ap (λ (r : Row). r.len) taken)
+      add_next a n w u k x less _ (ap (λ (r : Row). r.owner) taken) b _ (ap (λ (r : Row). r.len) taken)
 
 -- a use is within the text's most bytes
 pub use_most : (a : List Row) (n : ℕ) → Addable a n → (u : List ℕ) → Adds a n u → (o : ℕ) → o < owners

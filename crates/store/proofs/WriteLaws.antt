@@ -12,7 +12,7 @@ use borrow.Author.Tests.{eqb-true, eqb-false}
 use Rattle.text.specs.Bytes.{pick}
 use Rattle.store.specs.declared.rows.Row.{Row}
 use Rattle.store.specs.Held.{Key}
-use Rattle.store.specs.Rows.{unused, row_in, key_in, start_in, len_in, row_put, len_put, put_before}
+use Rattle.store.specs.Rows.{unused, row_in, key_in, start_in, len_in, row_put, len_put, put_before, row_key, row_of}
 
 module _ (w : List Row) (k : ℕ) (u : Key) (start len : ℕ) where
   pub put_long : length (row_put w k u start len) ≡ length w
@@ -22,7 +22,7 @@ module _ (w : List Row) (k : ℕ) (u : Key) (start len : ℕ) where
   row_other j n = get_or-set_other w k j _ unused n
 
   pub row_same : k < length w
-      → row_in (row_put w k u start len) k ≡ record { key = u; start = start; len = len }
+      → row_in (row_put w k u start len) k ≡ row_of u start len
   row_same m = get_or-set_same w k _ unused m
 
 -- its length alone
@@ -34,13 +34,13 @@ module _ (w : List Row) (k len : ℕ) where
   len_other j n = get_or-set_other w k j _ unused n
 
   pub len_same : k < length w
-      → row_in (len_put w k len) k ≡ record { key = key_in w k; start = start_in w k; len = len }
+      → row_in (len_put w k len) k ≡ row_of (key_in w k) (start_in w k) len
   len_same m = get_or-set_same w k _ unused m
 
 -- and put back
 pub len_back : (w : List Row) (k : ℕ) → k < length w → len_put (len_put w k 0) k (len_in w k) ≡ w
 len_back w k m =
-    ap (λ (r : Row). set (len_put w k 0) k (record { key = r.key; start = r.start; len = len_in w k }))
+    ap (λ (r : Row). set (len_put w k 0) k (row_of (row_key r) r.start (len_in w k)))
     (len_same w k 0 m)
     ∙ set-set w k _ _ ∙ set-get_or w k unused
 
@@ -59,9 +59,9 @@ put_before_key a r len l k = go (eqb r 0) refl
     written true e n =
         let same : k ≡ r - 1 = eqb-true k (r - 1) e in
         ap (λ (j : ℕ). key_in (len_put a (r - 1) len) j) same
-        ∙ ap (λ (v : Row). v.key) (len_same a (r - 1) len (omega (arith, l, n)))
+        ∙ ap row_key (len_same a (r - 1) len (omega (arith, l, n)))
         ∙ ap (λ (j : ℕ). key_in a j) (sym same)
-    written false e n = ap (λ (v : Row). v.key) (len_other a (r - 1) len k (eqb-false k (r - 1) e))
+    written false e n = ap row_key (len_other a (r - 1) len k (eqb-false k (r - 1) e))
 
     go : (b : Bool) → eqb r 0 ≡ b → key_in (pick b a (len_put a (r - 1) len)) k ≡ key_in a k
     go true e = refl

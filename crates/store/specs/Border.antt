@@ -21,7 +21,7 @@ one_line r = pick (eqb r.len 0) 0 1
 
 -- a line's record, as long as behind the border
 abbrev pub far_size : Row → ℕ
-far_size r = pick (eqb r.len 0) 0 (size_by r.key.owner true)
+far_size r = pick (eqb r.len 0) 0 (size_by r.owner true)
 
 -- the rows before a border start at 65535 or below
 pub record Near (a : List Row) (n : ℕ) (b : Border) : Type 0 where

@@ -3,7 +3,7 @@ ghost use Rattle.std.specs.Prelude.{◌≡◌, true, false, ℕ, suc, ◌+◌, �
 ghost use Rattle.store.specs.Decode.{decode};
 ghost use Rattle.store.specs.Inner.{known};
 ghost use Rattle.store.specs.Keys.{Enough};
-ghost use Rattle.store.specs.Rows.{key_in};
+ghost use Rattle.store.specs.Rows.{key_in, start_max};
 ghost use Rattle.store.specs.Tree.{Searched};
 ghost use Rattle.store.specs.Table.{SomeRows, ReachesRow, TakesLines, Went, Batches, SearchedOn};
 
@@ -12,6 +12,7 @@ use crate::calls::StoreError;
 use crate::chains::Table;
 use crate::claims::dues_of;
 use crate::lines::{line_length, wanted};
+use crate::rows::START_MAX;
 use crate::settle::settle;
 use crate::shares::OWNERS;
 use crate::soundness::{LINE_MAX, survey};
@@ -39,6 +40,7 @@ impl Filing<'_> {
         len: usize,
     ) -> Result<Standing, StoreError>
         requires count_lt_rows { (standing.fill.count < length table.old.rows) × (at + len ≤ length self.now.lines.now) }
+        requires near { at ≤ start_max }
         requires some_rows { SomeRows self.now.dues self.now.owner self.now.index.now self.now.text.now
             self.now.lines.now
             table.old.rows table.old.heads table.old.links
@@ -63,8 +65,8 @@ impl Filing<'_> {
         Ok(filed)
     }
 
-    // Walks the lines from a place on, while there are numbers for them, up to the first whose chain is too long where there
-    // is no tree.
+    // Walks the lines from a place on, while there are numbers for them and rows hold where they start, up to the first whose
+    // chain is too long where there is no tree.
     fn take_lines<const N: usize>(
         &self,
         table: &mut Table<N>,
@@ -72,7 +74,7 @@ impl Filing<'_> {
         first: Standing,
         from: usize,
     ) -> Walked
-        requires from_in_bounds { from ≤ length self.now.lines.now + 1 }
+        requires from_in_bounds { (from ≤ length self.now.lines.now + 1) × (from ≤ start_max) }
         requires some_rows { SomeRows self.now.dues self.now.owner self.now.index.now self.now.text.now
             self.now.lines.now
             table.old.rows table.old.heads table.old.links
@@ -88,7 +90,7 @@ impl Filing<'_> {
         let mut count = 0;
         let mut standing = first;
         // A `while`, since it may stop within the text and hands its place back, which no `split` tells.
-        while at < self.lines.len() && standing.fill.count < table.rows.len() {
+        while at < self.lines.len() && standing.fill.count < table.rows.len() && at <= START_MAX {
             let end = find_far(&self.lines[at..], b'\n');
             let len = line_length(&self.lines[at..], end);
             let start = at;
@@ -120,7 +122,7 @@ impl Filing<'_> {
     // The same to the end; where a chain was too long, from the next line on by a tree. It is cleared only where it is
     // needed.
     fn take_all<const N: usize>(&self, table: &mut Table<N>, first: Standing, from: usize) -> Walked
-        requires from_in_bounds { from ≤ length self.now.lines.now + 1 }
+        requires from_in_bounds { (from ≤ length self.now.lines.now + 1) × (from ≤ start_max) }
         requires some_rows { SomeRows self.now.dues self.now.owner self.now.index.now self.now.text.now
             self.now.lines.now
             table.old.rows table.old.heads table.old.links
@@ -132,7 +134,7 @@ impl Filing<'_> {
         ensures went { Went self.now.lines.now from first.fill.count (length table.old.rows) result }
     {
         let some = self.take_lines(table, &mut [], first, from);
-        if some.answer.is_err() || !table.long {
+        if some.answer.is_err() || !table.long || START_MAX < some.at {
             return some;
         }
         // Else the walk would stop behind the next line again.
@@ -149,8 +151,8 @@ impl Filing<'_> {
     }
 }
 
-// Files the lines from a place on, into a sound store, as far as there are numbers for them. The index is the part
-// behind the shares.
+// Files the lines from a place on, into a sound store, as far as there are numbers for them and rows hold where they start,
+// which is told from that place. The index is the part behind the shares.
 #[inline(never)]
 pub fn insert_batch<const N: usize>(
     index: &mut [u8],
@@ -162,7 +164,7 @@ pub fn insert_batch<const N: usize>(
 ) -> Walked
     requires enough { Enough N (length index.old) }
     requires text_value { known (decode index.old text.old) ≡ true }
-    requires from_in_bounds { from ≤ length lines.now + 1 }
+    requires from_in_bounds { from ≤ length lines.now }
     ensures batches { Batches shares.now index.old text.old owner lines.now from result
         index.new text.new }
     ensures went { Went lines.now from 0 N result }
@@ -171,19 +173,25 @@ pub fn insert_batch<const N: usize>(
     let seen = survey(index, text, &mut table).unwrap();
     let fill = seen.fill;
     let dues = dues_of(&table.rows, fill, shares, owner);
+    let rest = &lines[from..];
     let filing = Filing {
         index,
         text,
         dues,
         owner,
-        lines,
+        lines: rest,
     };
     let standing = Standing {
         fill,
         border: border_of(&table.rows, fill),
     };
-    let part = filing.take_all(&mut table, standing, from);
+    let part = filing.take_all(&mut table, standing, 0);
     let count = part.standing.fill.count;
-    settle(index, text, lines, &table.rows, fill, count);
-    part
+    settle(index, text, rest, &table.rows, fill, count);
+    Walked {
+        answer: part.answer,
+        at: from + part.at,
+        count: part.count,
+        standing: part.standing,
+    }
 }

@@ -63,7 +63,7 @@ fn advance(rows: &[Row], from: Border, count: usize) -> Moved
     let mut passed = 0;
     // A `while`, since it hands its place back.
     while at < count && bytes <= SHORT_MAX {
-        let len = rows[at].len;
+        let len = rows[at].len as usize;
         bytes += len;
         passed += one_if(len);
         at += 1;

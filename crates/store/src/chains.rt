@@ -72,7 +72,7 @@ fn has_key(rows: &[Row], links: &[Link], a: usize, k: usize, tag: u16) -> bool
     if links[a].tag != tag {
         return false;
     }
-    rows[a].key == rows[k].key
+    rows[a].key() == rows[k].key()
 }
 
 // Seeks the key of number k, whose tag that is, in the chain that starts before `from`: one more than the number that has
@@ -156,7 +156,7 @@ impl<const N: usize> Table<N> {
         ensures sought { Sought (key_in self.now.rows) k result }
         ensures upper_bound { result ≤ k }
     {
-        let hash = hash_of::<N>(self.rows[k].key);
+        let hash = hash_of::<N>(self.rows[k].key());
         let head = self.heads[hash.bucket];
         seek(&self.rows, &self.links, usize::from(head), k, hash.tag, N)
     }
@@ -188,7 +188,7 @@ impl<const N: usize> Table<N> {
         ensures sought { Sought (key_in self.new.rows) k result }
         ensures chained_2 { Chained (key_in self.new.rows) self.new.heads self.new.links (k + 1) }
     {
-        let hash = hash_of::<N>(self.rows[k].key);
+        let hash = hash_of::<N>(self.rows[k].key());
         let h = hash.bucket;
         let next = self.heads[h];
         self.links[k] = Link {

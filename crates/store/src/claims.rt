@@ -47,7 +47,7 @@ impl Listed<'_> {
     {
         let rows = self.rows;
         for row in &rows[..self.count] {
-            let o = row.key.owner as usize;
+            let o = row.owner as usize;
             uses[o] += row.len as u32;
         }
     }

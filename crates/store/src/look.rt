@@ -9,7 +9,7 @@ use crate::calls::LookError;
 use crate::chains::Table;
 use crate::owners::owner_of;
 use crate::parties::{Key, Party};
-use crate::rows::{Row, by_area};
+use crate::rows::by_area;
 use crate::soundness::Ledger;
 use crate::table::{Fill, len_before};
 use text::uuid::Uuid;
@@ -32,11 +32,7 @@ pub fn seek_key<const N: usize>(table: &mut Table<N>, fill: Fill, key: Key) -> u
     ensures upper_bound { result ≤ fill.count }
 {
     let n = fill.count;
-    table.rows[n] = Row {
-        key,
-        start: 0,
-        len: 0,
-    };
+    table.rows[n].put(key, 0, 0);
     table.seek_before(n)
 }
 
@@ -49,11 +45,11 @@ pub fn part_of<const N: usize>(table: &mut Table<N>, fill: Fill, key: Key) -> Op
     ensures spots { Spots table.old.rows table.old.heads table.old.links fill key result }
 {
     let r = seek_key(table, fill, key);
-    let len = len_before(&table.rows, r);
+    let len = len_before(&table.rows, r) as usize;
     if len == 0 {
         return None;
     }
-    let start = table.rows[r - 1].start;
+    let start = table.rows[r - 1].start as usize;
     Some(Part { start, len })
 }
 

@@ -2,8 +2,9 @@
 //
 // Where a call asks that a number is below that of the rows, a type for such a number would be made anew at each call
 // and taken apart in it: it is a loop's number, a count, or a link less one.
-ghost use Rattle.std.specs.Prelude.{◌≡◌, length};
+ghost use Rattle.std.specs.Prelude.{◌≡◌, ◌≤◌, length};
 ghost use Rattle.store.specs.Keys.{Suits};
+ghost use Rattle.store.specs.Rows.{start_max, row_key, row_of};
 
 use crate::parties::Key;
 use crate::soundness::INDEX_MAX;
@@ -73,33 +74,48 @@ macro_rules! by_area {
 
 pub(crate) use by_area;
 
-// The length is 0 where the line is struck out.
+// A line's key, where the line starts, and its length, which is 0 where it is struck out. A row has 24 bytes, since to
+// clear the rows is a good part of what a look-up in a large store takes: so a start has four of them, and where an
+// insert's lines are longer than those tell, the insert goes on with another table.
 #[derive(Clone, Copy)]
 pub struct Row {
-    pub key: Key,
-    pub start: usize,
-    pub len: usize,
+    pub uuid: Uuid,
+    pub start: u32,
+    pub len: u16,
+    pub owner: u8,
 }
+
+// The greatest start that a row holds.
+pub const START_MAX: usize = 4294967295;
 
 impl Row {
     // What stands where no line is written down.
     pub const UNUSED: Row = Row {
-        key: Key {
-            owner: 0,
-            uuid: Uuid::NIL,
-        },
+        uuid: Uuid::NIL,
         start: 0,
         len: 0,
+        owner: 0,
     };
+
+    // The key of the line.
+    pub fn key(self) -> Key
+        ensures { result ≡ row_key self }
+    {
+        Key {
+            owner: self.owner,
+            uuid: self.uuid,
+        }
+    }
 
     // Writes a line down. Number by number: a key that is copied whole takes the unused bytes behind its owner along, and
     // a look-up waits for them at each record.
     pub fn put(&mut self, key: Key, start: usize, len: usize)
-        ensures { self.new ≡ record { key = key; start = start; len = len } }
+        requires { (start ≤ start_max) × (len ≤ 65535) }
+        ensures { self.new ≡ row_of key start len }
     {
-        self.key.owner = key.owner;
-        self.key.uuid = key.uuid;
-        self.start = start;
-        self.len = len;
+        self.uuid = key.uuid;
+        self.start = start as u32;
+        self.len = len as u16;
+        self.owner = key.owner;
     }
 }

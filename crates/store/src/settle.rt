@@ -45,8 +45,8 @@ fn kept_rows(rows: &[Row], old: usize) -> Kept
         if row.len == 0 {
             return Kept { rows: k, at, off };
         }
-        at += record_size(row.key, off);
-        off += row.len;
+        at += record_size(row.key(), off);
+        off += row.len as usize;
     }
     Kept { rows: old, at, off }
 }
@@ -76,10 +76,13 @@ fn close_up(
         if row.len == 0 {
             continue;
         }
-        put_record(&mut part[at..], row.key, off, row.len);
-        put_text(text, lines, off, row.start, row.len, k < was.count);
-        at += record_size(row.key, off);
-        off += row.len;
+        let key = row.key();
+        let start = row.start as usize;
+        let len = row.len as usize;
+        put_record(&mut part[at..], key, off, len);
+        put_text(text, lines, off, start, len, k < was.count);
+        at += record_size(key, off);
+        off += len;
     }
     zero_between(part, at, was.end - kept.at);
     zero_between(text, off, was.used);

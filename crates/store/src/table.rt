@@ -1,7 +1,7 @@
 // Lines by number: a row for each, and chains by the keys. A line that is struck out keeps its row, with length 0.
 ghost use Rattle.std.specs.Prelude.{◌≡◌, List, ℕ, suc, ◌+◌, ◌-◌, ◌≤◌, ◌<◌, length, take, drop};
 ghost use Rattle.store.specs.Keys.{Chained, Sought};
-ghost use Rattle.store.specs.Rows.{key_in, row_put, len_before, put_before};
+ghost use Rattle.store.specs.Rows.{key_in, row_put, len_before, put_before, start_max};
 ghost use Rattle.store.specs.Tree.{Searched};
 ghost use Rattle.store.specs.Table.{Weighable, room_by, Fileable, FilesRow, SearchedOn};
 
@@ -37,6 +37,7 @@ impl<const N: usize> Table<N> {
     #[inline(always)]
     pub fn add_row(&mut self, n: usize, key: Key, start: usize, len: usize, most: usize) -> usize
         requires n_lt_rows { n < length self.old.rows }
+        requires fits { (start ≤ start_max) × (len ≤ 65535) }
         requires chained { Chained (key_in self.old.rows) self.old.heads self.old.links n }
         ensures rows_after { self.new.rows ≡ row_put self.old.rows n key start len }
         ensures sought { Sought (key_in self.new.rows) n result }
@@ -51,6 +52,7 @@ impl<const N: usize> Table<N> {
     // is too long is walked to its end then, and the table says so.
     fn add_by(&mut self, nodes: &mut [Node], n: usize, key: Key, start: usize, len: usize) -> usize
         requires n_lt_rows { n < length self.old.rows }
+        requires fits { (start ≤ start_max) × (len ≤ 65535) }
         requires chained { Chained (key_in self.old.rows) self.old.heads self.old.links n }
         requires searched { Searched (key_in self.old.rows) nodes.old n (length self.old.rows) }
         ensures rows_after { self.new.rows ≡ row_put self.old.rows n key start len }
@@ -72,7 +74,7 @@ impl<const N: usize> Table<N> {
 }
 
 // The length of the line of the number before r, and 0 where r is 0.
-pub fn len_before(rows: &[Row], r: usize) -> usize
+pub fn len_before(rows: &[Row], r: usize) -> u16
     requires { r ≤ length rows.now }
     ensures { result ≡ len_before rows.now r }
 {
@@ -83,7 +85,7 @@ pub fn len_before(rows: &[Row], r: usize) -> usize
 }
 
 // Writes the length of the line of the number before r, 0 striking it out; r is 0 where there is none.
-pub fn put_len_before(rows: &mut [Row], r: usize, len: usize)
+pub fn put_len_before(rows: &mut [Row], r: usize, len: u16)
     requires { r ≤ length rows.old }
     ensures { rows.new ≡ put_before rows.old r len }
 {
@@ -131,7 +133,7 @@ impl Filing<'_> {
         start: usize,
         len: usize,
     ) -> Result<Standing, Full>
-        requires count_lt_rows { standing.fill.count < length table.old.rows }
+        requires count_lt_rows { (standing.fill.count < length table.old.rows) × (start ≤ start_max) }
         requires fileable { Fileable self.now.dues self.now.index.now self.now.text.now
             table.old.rows table.old.heads table.old.links
             standing (record { owner = self.now.owner; uuid = uuid }) start len }
@@ -149,7 +151,7 @@ impl Filing<'_> {
         let r = table.add_by(nodes, n, key, start, len);
         let had = len_before(&table.rows, r);
         put_len_before(&mut table.rows, r, 0);
-        let filed = standing.with_row(&table.rows, key, r, had, len);
+        let filed = standing.with_row(&table.rows, key, r, had as usize, len);
         if let Err(full) = self.room(filed.fill) {
             put_len_before(&mut table.rows, r, had);
             return Err(full);

@@ -54,11 +54,11 @@ fn descend(nodes: &[Node], rows: &[Row], n: usize) -> Place
     requires treed { Treed (key_in rows.now) nodes.now n }
     ensures { Lands (key_in rows.now) nodes.now n result }
 {
-    let key = rows[n].key;
+    let key = rows[n].key();
     let mut at = 0;
     let mut depth = 0;
     // A `while`, since no index is counted: the node says which one is next.
-    while rows[at].key != key {
+    while rows[at].key() != key {
         let d = digit(key, depth);
         let kid = usize::from(nodes[at].kids[d]);
         if kid == 0 {

@@ -1,4 +1,5 @@
 -- The walk writes the lines of a sound store down, `take_lines` files by number, and `settle` writes out.
+use native.Mathlib.Omega.{arith}
 use mathlib.Core.List.{List}
 use mathlib.Core.Option.{some}
 use mathlib.Core.Path.{◌≡◌, ◌∙◌}
@@ -9,7 +10,8 @@ use Rattle.store.specs.Claims.{Owed, row_lengths}
 use Rattle.store.specs.Decode.{decode}
 use Rattle.store.specs.Held.{Held, text_max}
 use Rattle.store.specs.Table.{Surveys}
-use Rattle.store.proofs.BatchLaws.{both_most, loads_held, batch_settles, batch_end, went_from}
+use Rattle.store.proofs.BatchLaws.{both_most, loads_held, batch_settles, batch_end, takes_behind, went_behind}
+use Rattle.text.proofs.LentLaws.{tail_part}
 use Rattle.store.proofs.LoadLaws.{loads_extend}
 use Rattle.store.proofs.StandingLaws.{loads_border}
 use Rattle.store.proofs.SurveyLaws.{walk_of, survey_some, survey_of}
@@ -69,7 +71,7 @@ take_all-part-requires g c =
     let most : g.row.N ≤ 65535 = c.requires.enough.most in (
       search rules,
       (
-        c.requires.from_in_bounds,
+        (omega arith, omega arith),
         loads_held _ _ _ _ _ _ _ _ _ _ (walked g from).loads _ c.border_of.ensures (owed g from) c.requires.text_value,
       ),
     )
@@ -79,7 +81,7 @@ settle-requires g c =
     let from = (goal.at.settle-requires g c).After-dues_of-dues in
     record {
       extends = loads_extend _ _ _ _ _ _ (walked g from).loads;
-      settles = batch_settles _ _ _ _ _ _ _ _ _ _ (walked g from).loads _ c.border_of.ensures (owed g from) c.args.from _ _
+      settles = batch_settles _ _ _ _ _ _ _ _ _ _ (walked g from).loads _ c.border_of.ensures (owed g from) 0 _ _
           c.take_all-part.ensures.takes_lines c.requires.text_value;
     }
 
@@ -88,7 +90,9 @@ returns g c =
     let from = (goal.at.returns g c).After-dues_of-dues in
     let long : length c.new-table.result.rows ≡ g.row.N = search rules in
     record {
-      batches = batch_end _ _ _ _ _ _ _ _ _ _ (walked g from).loads _ c.border_of.ensures (owed g from) c.args.from _ _
-          c.take_all-part.ensures.takes_lines _ _ c.settle.ensures;
-      went = rw (c.survey.ensures.rows_kept ∙ long) at (went_from c.args.lines.now c.args.from _ _ _ (walked g from).most c.take_all-part.ensures.went);
+      batches = λ hs e.
+          takes_behind c.args.lines.now _ c.args.from (tail_part c.args.from c.args.lines.now) _ _ hs _
+          (batch_end _ _ _ _ _ _ _ _ _ _ (walked g from).loads _ c.border_of.ensures (owed g from) 0 _ _
+          c.take_all-part.ensures.takes_lines _ _ c.settle.ensures hs e);
+      went = rw (c.survey.ensures.rows_kept ∙ long) at (went_behind c.args.lines.now _ c.args.from (tail_part c.args.from c.args.lines.now) _ _ _ (walked g from).most c.requires.from_in_bounds c.take_all-part.ensures.went);
     }

@@ -14,7 +14,7 @@ insert_batch-some-requires g c =
     record {
       enough = enough_less (omega (arith, c.loop-at.invariant.index)) c.requires.enough;
       text_value = still_sound c.loop-at.invariant;
-      from_in_bounds = c.loop-at.invariant.within;
+      from_in_bounds = omega (arith, c.loop-at-test.true);
     }
 
 pub returns-in-Err : goal.returns-in-Err

@@ -1,6 +1,6 @@
 -- A key has one tag: where the tags differ, the keys do.
 use mathlib.Core.Bool.{Bool, true, false}
-use mathlib.Core.Path.{◌≡◌, refl, sym, ap, ◌∙◌}
+use mathlib.Core.Path.{◌≡◌, refl, sym, ap, ap₂, ◌∙◌}
 use Rattle.store.specs.Held.{Key, same_key}
 use Rattle.store.specs.Keys.{tag_of}
 use Rattle.store.specs.Rows.{key_in}
@@ -20,4 +20,4 @@ returns-then-links-a c =
 
 pub returns : goal.returns
 unfolding same_key
-returns c = c.eq.ensures
+returns c = c.eq.ensures ∙ ap₂ same_key c.key.ensures c.key-2.ensures

@@ -29,7 +29,7 @@ file_row-requires g c =
     let most : g.row.N ≤ 65535 = omega (arith, (pre.loads.0 args.text.now [] held.0 held.1).chained.most, long) in
     let files = one_files args.dues args.index.now args.text.now args.line.now _ _ _ args.fill
     pre.loads.0 _ c.border_of.ensures args.key pre.in_bounds.0 pre.in_bounds.1 pre.text_value pre.some_dues in
-    (search rules, (pre.loads.1, (files, λ p. absurd (omega (arith, p)))))
+    (search rules, ((pre.loads.1, omega arith), (files, λ p. absurd (omega (arith, p)))))
 
 pub settle-requires : goal.settle-requires
 settle-requires g c =

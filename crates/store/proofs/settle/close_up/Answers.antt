@@ -22,7 +22,7 @@ slice_bounds-put_record-start c =
     omega (arith, close_within loop.invariant)
 
 pub put_record-requires : goal.put_record-requires
-put_record-requires c = close_fits c.loop-k.invariant (omega arith) c.if-row-eq0.false
+put_record-requires c = rw c.key-key.ensures (close_fits c.loop-k.invariant (omega arith) c.if-row-eq0.false)
 
 pub put_text-requires : goal.put_text-requires
 put_text-requires c =
@@ -35,8 +35,8 @@ put_text-requires c =
 
 pub loop-k-preserved : goal.loop-k-preserved
 loop-k-preserved c =
-    close_turn c.loop-k.invariant c.loop-k-test.true c.if-row-eq0.false _ c.record_size-at.ensures _ _
-    c.put_record.ensures c.put_text.ensures
+    close_turn c.loop-k.invariant c.loop-k-test.true c.if-row-eq0.false _ (rw c.key-key.ensures at c.record_size-at.ensures) _ _
+    (rw c.key-key.ensures at c.put_record.ensures) c.put_text.ensures
 
 pub overflow_sub-was : goal.overflow_sub-was
 overflow_sub-was c =

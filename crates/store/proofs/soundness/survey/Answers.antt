@@ -1,5 +1,5 @@
-use mathlib.Core.Path.{refl, ap, ◌∙◌}
-use Prim.Native.Nat.{suc, ◌+◌}
+use mathlib.Core.Path.{◌≡◌, refl, ap, ◌∙◌}
+use Prim.Native.Nat.{suc, ◌+◌, ◌≤◌}
 use native.Mathlib.Omega.{arith}
 use lib.ListN.{length}
 use borrow.Author.Rules.{rules}
@@ -7,7 +7,7 @@ use Rattle.store.specs.Decode.{walk}
 use Rattle.store.specs.Inner.{known}
 use Rattle.store.proofs.SoundLaws.{Walking}
 use Rattle.store.proofs.SurveyLaws.{survey_first, survey_tail, survey_end, survey_bad, survey_on}
-use Rattle.store.proofs.SurveyLaws.{some_size, survey_turn}
+use Rattle.store.proofs.SurveyLaws.{some_size, survey_less, survey_fits, survey_turn}
 use Rattle.store.proofs.WriteLaws.{put_long}
 use Rattle.store.proofs.soundness.survey.Goals.{Else-not-head_fits}
 use Rattle.store.proofs.soundness.survey.Goals as goal
@@ -34,6 +34,21 @@ on : (g : _) (c : Else-not-head_fits g)
 on g c =
     survey_on c.loop-head.invariant.0 (c.stands.ensures.0 c.loop-head-test.true) _ c.whole_head-head.ensures _
     c.head_fits.ensures c.if-not-head_fits.false
+
+pub add_row-r-requires : goal.add_row-r-requires
+add_row-r-requires g c =
+    let long : length c.args.table.now.heads ≡ g.row.N = search rules in
+    let most : g.row.N ≤ 65535 = omega (arith, c.requires.chained.most, long) in (
+      search rules,
+      (
+        survey_less c.loop-head.invariant.0,
+        (
+          survey_fits c.loop-head.invariant.0 (c.stands.ensures.0 c.loop-head-test.true) _ c.whole_head-head.ensures _
+              c.head_fits.ensures c.if-not-head_fits.false c.requires.text_len_bound,
+          c.loop-head.invariant.0.loading.chained,
+        ),
+      ),
+    )
 
 pub overflow_add-at : goal.overflow_add-at
 overflow_add-at g c = omega (arith, (on g (goal.at.overflow_add-at g c).Else-not-head_fits).index)

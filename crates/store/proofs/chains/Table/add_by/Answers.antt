@@ -6,7 +6,7 @@ use native.Mathlib.Omega.{arith}
 use borrow.Author.Rules.{rules}
 use lib.ListN.{length}
 use Rattle.store.specs.declared.rows.Row.{Row}
-use Rattle.store.specs.Rows.{key_in}
+use Rattle.store.specs.Rows.{key_in, row_key}
 use Rattle.store.proofs.TreeLaws.{treed_keys}
 use Rattle.store.proofs.WriteLaws.{row_other}
 use Rattle.store.proofs.chains.Table.add_by.Goals as goal
@@ -18,5 +18,5 @@ put-requires-clause-treed g c =
     let some : 0 < length args.nodes.now = search rules in
     treed_keys (key_in rows) _ args.nodes.now args.n
     (λ k l. sym (ap (λ (v : List Row). key_in v k) c.add_row.ensures.rows_after
-    ∙ ap (λ (r : Row). r.key) (row_other rows args.n args.key args.start args.len k (λ e. omega arith))))
+    ∙ ap row_key (row_other rows args.n args.key args.start args.len k (λ e. omega arith))))
     (c.requires.searched some).1.1

@@ -3,8 +3,7 @@ use Prim.Native.Nat.{◌≤◌}
 use native.Mathlib.Omega.{arith}
 use borrow.Author.Rules.{rules}
 use lib.ListN.{length}
-use Rattle.store.specs.declared.rows.Row.{Row}
-use Rattle.store.specs.Rows.{key_in}
+use Rattle.store.specs.Rows.{key_in, row_key}
 use Rattle.store.proofs.TableLaws.{chained_agree}
 use Rattle.store.proofs.WriteLaws.{put_long, row_other}
 use Rattle.store.proofs.chains.Table.add_row.Goals as goal
@@ -18,9 +17,9 @@ link-requires g c =
     let most : g.row.N ≤ 65535 = omega (arith, pre.chained.most, long) in (
       search rules,
       (
-        omega (arith, pre.n_lt_rows, put_long args.self.now.rows args.n row.key row.start row.len),
+        omega (arith, pre.n_lt_rows, put_long args.self.now.rows args.n (row_key row) row.start row.len),
         chained_agree (key_in args.self.now.rows) _ args.n
-            (λ k l. sym (ap (λ (r : Row). r.key) (row_other args.self.now.rows args.n row.key row.start row.len k
+            (λ k l. sym (ap row_key (row_other args.self.now.rows args.n (row_key row) row.start row.len k
             (λ e. omega arith))))
             args.self.now.heads args.self.now.links pre.chained,
       ),

@@ -18,7 +18,7 @@ module _ {g s : List ℕ} {old : ℕ} {hs : List Held} where
       → (w : Files' g c.args.self.now.dues c.args.self.now.index.now c.args.self.now.text.now s c.args.table.now.rows
       c.args.table.now.heads c.args.table.now.links old c.args.standing
       (record { owner = c.args.self.now.owner; uuid = c.args.uuid }) c.args.start c.args.len hs)
-      → Placed w c.requires.count_lt_rows c.add_by-r.new.self.rows c.add_by-r.result c.len_before-had.result
+      → Placed w c.requires.count_lt_rows.0 c.add_by-r.new.self.rows c.add_by-r.result c.len_before-had.result
   placed v c w = record {
     put = c.add_by-r.ensures.rows_after;
     sought = c.add_by-r.ensures.sought.0;
@@ -70,7 +70,7 @@ returns g c = record {
       c.with_row-filed.ensures c.add_by-r.ensures.chained_2 (sym c.room.ensures ∙ c.in_default.is);
   searched_2 = searched_on c.add_by-r.new.nodes c.add_by-r.new.self.rows _ c.args.standing.fill.count _
       c.add_by-r.result
-      (omega (arith, c.add_by-r.ensures.sought.1, c.requires.count_lt_rows, rows_long _ _ _ _ _ _ c.add_by-r.ensures.rows_after))
+      (omega (arith, c.add_by-r.ensures.sought.1, c.requires.count_lt_rows.0, rows_long _ _ _ _ _ _ c.add_by-r.ensures.rows_after))
       c.put_len_before.ensures c.with_row-filed.ensures.count c.add_by-r.ensures.searched_2;
   rows_kept = kept g (goal.at.returns g c).After-put_len_before;
 }

@@ -33,7 +33,7 @@ file_row-requires g c =
     c.in-Some.is c.if-len-gt-LINE_MAX.false w.0 w.1.0 w.1.1.0 w.1.1.1.0 w.1.1.1.1 in (
       search rules,
       (
-        c.requires.count_lt_rows.0,
+        (c.requires.count_lt_rows.0, c.requires.near),
         ((w.0, c.args.self.now.lines.now, (w.1.0, (w.1.1.0, files))), c.requires.searched),
       ),
     )

@@ -19,7 +19,7 @@ take_lines-rest-requires g c =
     let most : g.row.N ≤ 65535 = omega (arith, c.requires.some_rows.1.1.1.1.in_rows.chained.most, long) in (
       search rules,
       (
-        first.ensures.went.within,
+        (first.ensures.went.within, search rules),
         (some, λ p. (omega (arith, rows_long, nodes_long), (omega (arith, most, nodes_long), c.grow.ensures))),
       ),
     )

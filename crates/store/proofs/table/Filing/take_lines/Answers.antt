@@ -20,7 +20,7 @@ reach_row-requires g c =
           omega (arith, c.if-standing.true, c.loop-at.invariant.1.0),
           omega (arith, tail_length c.loop-at.at c.args.self.now.lines.now, c.line_length-len.ensures.0),
         ),
-        (some, c.loop-at.invariant.1.1),
+        (search rules, (some, c.loop-at.invariant.1.1)),
       ),
     )
 
@@ -59,6 +59,12 @@ returns-else-standing g c =
     (λ p q. ⊎_elim
     (λ e. absurd (omega (arith, p, long, c.loop-at.invariant.0.still (sym e), c.if-standing.false))) (λ l. l)
     (eq-or-lt_of_le (first_at_lem c.loop-at.invariant.0))) in
+    record { takes_lines = r.0; went = r.1 }
+
+-- rows don't hold where the next line starts
+pub returns-else-at-le-START_MAX : goal.returns-else-at-le-START_MAX
+returns-else-at-le-START_MAX g c =
+    let r = take_on c.loop-at.invariant.0 (λ p q. omega (arith, c.requires.from_in_bounds.1, c.if-at-le-START_MAX.false)) in
     record { takes_lines = r.0; went = r.1 }
 
 -- a chain was too long
