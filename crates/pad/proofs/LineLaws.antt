@@ -4,13 +4,13 @@ use Rattle.std.specs.Prelude.{Option, Some, None, get_or, length}
 use Rattle.std.specs.Bool.{then_some}
 use Rattle.std.specs.Int.{from_bool}
 use Rattle.std.specs.Int.RustNames.{unsigned_abs}
-use Prim.Native.Nat.{ℕ, zero, suc, ◌+◌, ◌-◌, ◌*◌, ◌<◌, ◌≤◌}
+use Prim.Native.Nat.{ℕ, zero, suc, ◌+◌, ◌-◌, ◌*◌, ◌<◌}
 use native.Mathlib.Omega.{arith}
 use mathlib.Core.Path.{◌≡◌, refl, ap, sym, ◌∙◌}
 use mathlib.Core.Bool.{Bool, true, false}
 use mathlib.Core.List.{List, [], ◌∷◌}
-use borrow.Author.Tests.{le-leb, eqb-true}
-use lib.Dec.{eqb}
+use borrow.Author.Tests.{le-leb, leb-true, eqb-true}
+use lib.Dec.{eqb, leb}
 use lib.IntN.{ℤ, pos, negsuc, ◌*ℤ◌}
 use lib.Signed.{le_z}
 use mir.Syntax.{w16}
@@ -64,6 +64,10 @@ some l v z c e = rw (c, e)
 
 no_value : (l : Line) (v : ℤ) → counts l v ≡ false → told l v ≡ None
 no_value l v c = rw c
+
+lower_none : (a : Axis) (l : Line) (k : ℕ) (o : AxisRange) (w : Bool) → counts l (pos (suc k)) ≡ false
+    → told l (pos (suc k)) ≡ axis_value (El.Axis a) o w (part_of (pos (suc k)) Ar.LowerHalf)
+lower_none a l k o w c = no_value l (pos (suc k)) c ∙ sym (ap (axis_value (El.Axis a) o w) (beyond k))
 
 -- ---- the lines of axis values
 row : (a : Axis) (i o : AxisRange) (w : Bool) (v : ℤ) → SFits w16 v
@@ -158,14 +162,14 @@ row a Ar.UpperHalf Ar.LowerHalf true (pos k) f =
 row a Ar.UpperHalf Ar.LowerHalf true (negsuc j) f = no_value (line_in 11) (negsuc j) (from_above_not j)
 row a Ar.LowerHalf Ar.Full false (pos zero) f = refl
 row a Ar.LowerHalf Ar.Full false (pos (suc k)) f =
-    no_value (line_in 12) (pos (suc k)) (to_below_not k) ∙ sym (ap (axis_value (El.Axis a) Ar.Full false) (beyond k))
+    lower_none a (line_in 12) k Ar.Full false (to_below_not k)
 row a Ar.LowerHalf Ar.Full false (negsuc j) f =
     let h : j < 32768 = f.sfits in
     some (line_in 12) (negsuc j) _ (to_below j)
     (lower_full (suc j) (suc j * 8589803520 + 422212465065984) (omega arith) (omega arith))
 row a Ar.LowerHalf Ar.Full true (pos zero) f = refl
 row a Ar.LowerHalf Ar.Full true (pos (suc k)) f =
-    no_value (line_in 13) (pos (suc k)) (to_below_not k) ∙ sym (ap (axis_value (El.Axis a) Ar.Full true) (beyond k))
+    lower_none a (line_in 13) k Ar.Full true (to_below_not k)
 row a Ar.LowerHalf Ar.Full true (negsuc j) f =
     let h : j < 32768 = f.sfits in
     some (line_in 13) (negsuc j) _ (to_below j)
@@ -173,14 +177,14 @@ row a Ar.LowerHalf Ar.Full true (negsuc j) f =
     (lower_full (32768 - suc j) (703683146809344 - suc j * 8589803520) (omega arith) (omega arith)))
 row a Ar.LowerHalf Ar.UpperHalf false (pos zero) f = refl
 row a Ar.LowerHalf Ar.UpperHalf false (pos (suc k)) f =
-    no_value (line_in 14) (pos (suc k)) (to_below_not k) ∙ sym (ap (axis_value (El.Axis a) Ar.UpperHalf false) (beyond k))
+    lower_none a (line_in 14) k Ar.UpperHalf false (to_below_not k)
 row a Ar.LowerHalf Ar.UpperHalf false (negsuc j) f =
     let h : j < 32768 = f.sfits in
     some (line_in 14) (negsuc j) _ (to_below j)
     (lower_upper (suc j) (suc j * 4294836224 + 562949953421312) (omega arith) (omega arith))
 row a Ar.LowerHalf Ar.UpperHalf true (pos zero) f = refl
 row a Ar.LowerHalf Ar.UpperHalf true (pos (suc k)) f =
-    no_value (line_in 15) (pos (suc k)) (to_below_not k) ∙ sym (ap (axis_value (El.Axis a) Ar.UpperHalf true) (beyond k))
+    lower_none a (line_in 15) k Ar.UpperHalf true (to_below_not k)
 row a Ar.LowerHalf Ar.UpperHalf true (negsuc j) f =
     let h : j < 32768 = f.sfits in
     some (line_in 15) (negsuc j) _ (to_below j)
@@ -188,7 +192,7 @@ row a Ar.LowerHalf Ar.UpperHalf true (negsuc j) f =
     (lower_upper (32768 - suc j) (703683146809344 - suc j * 4294836224) (omega arith) (omega arith)))
 row a Ar.LowerHalf Ar.LowerHalf false (pos zero) f = refl
 row a Ar.LowerHalf Ar.LowerHalf false (pos (suc k)) f =
-    no_value (line_in 16) (pos (suc k)) (to_below_not k) ∙ sym (ap (axis_value (El.Axis a) Ar.LowerHalf false) (beyond k))
+    lower_none a (line_in 16) k Ar.LowerHalf false (to_below_not k)
 row a Ar.LowerHalf Ar.LowerHalf false (negsuc j) f =
     let h : j < 32768 = f.sfits in
     some (line_in 16) (negsuc j) _ (to_below j)
@@ -196,7 +200,7 @@ row a Ar.LowerHalf Ar.LowerHalf false (negsuc j) f =
     (lower_lower (suc j) (562954248388607 - suc j * 4294967296) (omega arith) (omega arith)))
 row a Ar.LowerHalf Ar.LowerHalf true (pos zero) f = refl
 row a Ar.LowerHalf Ar.LowerHalf true (pos (suc k)) f =
-    no_value (line_in 17) (pos (suc k)) (to_below_not k) ∙ sym (ap (axis_value (El.Axis a) Ar.LowerHalf true) (beyond k))
+    lower_none a (line_in 17) k Ar.LowerHalf true (to_below_not k)
 row a Ar.LowerHalf Ar.LowerHalf true (negsuc j) f =
     let h : j < 32768 = f.sfits in
     some (line_in 17) (negsuc j) _ (to_below j)
@@ -242,96 +246,41 @@ pub answered : (e : AxisOrBtn) (r : Ranges) (raw : Raw) (l : Line) (v x : ℤ) (
     → then_some t x ≡ raw_value e r raw
 answered e r raw l v x t f a b c d = rw (c, d, a, b) (given e r raw f)
 
--- ---- no line is steep
-abbrev AllGentle : List Line → Type 0
-AllGentle [] = Unit {0}
-AllGentle (l ∷ ls) = Gentle l × AllGentle ls
+-- ---- no line is steep: tests that each line passes, computed
+abbrev all_of : (Line → Bool) → List Line → Bool
+all_of p [] = true
+all_of p (l ∷ ls) = pick (p l) (all_of p ls) false
 
-mild : {l : Line} (s : ℕ) → l.start ≡ pos s → 422212465065984 ≤ s → s ≤ 703687474446337
-    → unsigned_abs l.rise ≤ 8590065669 → unsigned_abs l.side ≤ 1 → Gentle l
-mild s e a b c d = record { rise = c; start = s; starts = e; least = a; most = b; side = d }
+all_both : (b c : Bool) → pick b c false ≡ true → (b ≡ true) × (c ≡ true)
+all_both true c e = (refl, e)
+all_both false c e = let z : ◌≡◌ {A = ℕ} 0 1 = cc in absurd (omega arith)
 
-gentle_at : (ls : List Line) (i : ℕ) → AllGentle ls → i < length ls → Gentle (get_or ls i flat)
-gentle_at [] i g h = absurd (omega arith)
-gentle_at (l ∷ ls) zero g h = g.0
-gentle_at (l ∷ ls) (suc i) g h = gentle_at ls i g.1 (omega arith)
+each : (p : Line → Bool) (ls : List Line) (i : ℕ) → all_of p ls ≡ true → i < length ls → p (get_or ls i flat) ≡ true
+each p [] i e h = absurd (omega arith)
+each p (l ∷ ls) zero e h = (all_both (p l) (all_of p ls) e).0
+each p (l ∷ ls) (suc i) e h = each p ls i (all_both (p l) (all_of p ls) e).1 (omega arith)
 
-all_gentle : AllGentle lines
-unfolding lines
-all_gentle = (
-  mild 562949953421312 refl (omega arith) (omega arith) (omega arith) (omega arith),
-  (
-    mild 562945658454016 refl (omega arith) (omega arith) (omega arith) (omega arith),
-    (
-      mild 633317623857152 refl (omega arith) (omega arith) (omega arith) (omega arith),
-      (
-        mild 633315476406272 refl (omega arith) (omega arith) (omega arith) (omega arith),
-        (
-          mild 492584430436351 refl (omega arith) (omega arith) (omega arith) (omega arith),
-          (
-            mild 492586577952768 refl (omega arith) (omega arith) (omega arith) (omega arith),
-            (
-              mild 422212465065984 refl (omega arith) (omega arith) (omega arith) (omega arith),
-              (
-                mild 703683146842107 refl (omega arith) (omega arith) (omega arith) (omega arith),
-                (
-                  mild 562949953421312 refl (omega arith) (omega arith) (omega arith) (omega arith),
-                  (
-                    mild 703683146809344 refl (omega arith) (omega arith) (omega arith) (omega arith),
-                    (
-                      mild 562954248388607 refl (omega arith) (omega arith) (omega arith) (omega arith),
-                      (
-                        mild 422216760000516 refl (omega arith) (omega arith) (omega arith) (omega arith),
-                        (
-                          mild 422212465065984 refl (omega arith) (omega arith) (omega arith) (omega arith),
-                          (
-                            mild 703683146809344 refl (omega arith) (omega arith) (omega arith) (omega arith),
-                            (
-                              mild 562949953421312 refl (omega arith) (omega arith) (omega arith) (omega arith),
-                              (
-                                mild 703683146809344 refl (omega arith) (omega arith) (omega arith) (omega arith),
-                                (
-                                  mild 562954248388607 refl (omega arith) (omega arith) (omega arith) (omega arith),
-                                  (
-                                    mild 422216760033279 refl (omega arith) (omega arith) (omega arith) (omega arith),
-                                    (
-                                      mild 562949953421312 refl (omega arith) (omega arith) (omega arith) (omega arith),
-                                      (
-                                        mild 562949953421312 refl (omega arith) (omega arith) (omega arith) (omega arith),
-                                        (
-                                          mild 562949953421312 refl (omega arith) (omega arith) (omega arith) (omega arith),
-                                          (
-                                            mild 562949953421312 refl (omega arith) (omega arith) (omega arith) (omega arith),
-                                            (
-                                              mild 562954248388607 refl (omega arith) (omega arith) (omega arith) (omega arith),
-                                              (
-                                                mild 562954248388607 refl (omega arith) (omega arith) (omega arith) (omega arith),
-                                                tt,
-                                              ),
-                                            ),
-                                          ),
-                                        ),
-                                      ),
-                                    ),
-                                  ),
-                                ),
-                              ),
-                            ),
-                          ),
-                        ),
-                      ),
-                    ),
-                  ),
-                ),
-              ),
-            ),
-          ),
-        ),
-      ),
-    ),
-  ),
-)
+-- a line's start, which is no negative number
+abbrev natural : ℤ → ℕ
+natural (pos s) = s
+natural (negsuc s) = 0
+
+abbrev start_of : Line → ℕ
+start_of l = natural l.start
+
+start_is : (z : ℤ) (s : ℕ) → 0 < s → s ≡ natural z → z ≡ pos s
+start_is (pos n) s h e = ap pos (sym e)
+start_is (negsuc n) s h e = absurd (omega (arith, h, e))
 
 pub line_gentle : (i : ℕ) → i < 24 → Gentle (line_in i)
 unfolding line_in lines
-line_gentle i h = gentle_at lines i all_gentle h
+line_gentle i h =
+    let least = leb-true _ _ (each (λ l. leb 422212465065984 (start_of l)) lines i refl h) in
+    record {
+      rise = leb-true _ _ (each (λ l. leb (unsigned_abs l.rise) 8590065669) lines i refl h);
+      start = start_of (line_in i);
+      starts = start_is (line_in i).start _ (omega (arith, least)) refl;
+      least = least;
+      most = leb-true _ _ (each (λ l. leb (start_of l) 703687474446337) lines i refl h);
+      side = leb-true _ _ (each (λ l. leb (unsigned_abs l.side) 1) lines i refl h);
+    }

@@ -19,16 +19,25 @@ pub struct Line {
     side: i64,
 }
 
+// The value as it is, from below 0 on; and a raw button's with a lower half.
+const UPWARD: Line = Line {
+    rise: 4294967296,
+    start: 562949953421312,
+    side: 0,
+};
+
+const DOWNWARD: Line = Line {
+    rise: -4295098373,
+    start: 562954248388607,
+    side: 0,
+};
+
 // Inputs, of each the outputs, of each upright and inverted. A rise is k / d in units of 2^-32, rounded up: k is the
 // output's greatest number (65535 full, 32767 upper, 32768 lower), d the input's. A start is the value at 0 in the same
 // units: 2^49 more, so that no sum is below 0, and for a lower output nearly 1 more, which is to be rounded toward 0.
 static LINES: [Line; 24] = [
     // a full input: to a full output, to an upper one or a button, to a lower one; each upright, then inverted
-    Line {
-        rise: 4294967296,
-        start: 562949953421312,
-        side: 0,
-    },
+    UPWARD,
     Line {
         rise: -4294967296,
         start: 562945658454016,
@@ -117,36 +126,12 @@ static LINES: [Line; 24] = [
         side: -1,
     },
     // a raw button
-    Line {
-        rise: 4294967296,
-        start: 562949953421312,
-        side: 0,
-    },
-    Line {
-        rise: 4294967296,
-        start: 562949953421312,
-        side: 0,
-    },
-    Line {
-        rise: 4294967296,
-        start: 562949953421312,
-        side: 0,
-    },
-    Line {
-        rise: 4294967296,
-        start: 562949953421312,
-        side: 0,
-    },
-    Line {
-        rise: -4295098373,
-        start: 562954248388607,
-        side: 0,
-    },
-    Line {
-        rise: -4295098373,
-        start: 562954248388607,
-        side: 0,
-    },
+    UPWARD,
+    UPWARD,
+    UPWARD,
+    UPWARD,
+    DOWNWARD,
+    DOWNWARD,
 ];
 
 // The first row of an input.

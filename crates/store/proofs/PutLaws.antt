@@ -48,6 +48,14 @@ alone_none (suc (suc (suc (suc (suc (suc zero)))))) = refl
 alone_none (suc (suc (suc (suc (suc (suc (suc zero))))))) = refl
 alone_none (suc (suc (suc (suc (suc (suc (suc (suc d)))))))) = refl
 
+-- the first n numbers are in the tree, and the node of number n stands alone
+pub record Lone (K : ℕ → Key) (w : List Node) (n : ℕ) : Type 0 where
+  pub treed : Treed K w n
+  pub digits : length (node_in w n).kids ≡ 8
+  pub childless : (d : ℕ) → kid_in w n d ≡ 0
+  pub last : last_in w n ≡ n + 1
+  pub long : n < length w
+
 module _ (w : List Node) (n : ℕ) (long : n < length w) where
   alone_node : node_in (set w n (alone n)) n ≡ alone n
   alone_node = node_same w n (alone n) long
@@ -55,17 +63,23 @@ module _ (w : List Node) (n : ℕ) (long : n < length w) where
   pub alone_treed : {K : ℕ → Key} → Treed K w n → Treed K (set w n (alone n)) n
   alone_treed {K} s = treed_same K w (set w n (alone n)) n (λ p l. node_other w n (alone n) p (λ e. omega (arith, e, l))) s
 
-  pub alone_digits : length (node_in (set w n (alone n)) n).kids ≡ 8
+  alone_digits : length (node_in (set w n (alone n)) n).kids ≡ 8
   alone_digits = ap (λ (v : Node). length v.kids) alone_node
 
-  pub alone_kids : (d : ℕ) → kid_in (set w n (alone n)) n d ≡ 0
+  alone_kids : (d : ℕ) → kid_in (set w n (alone n)) n d ≡ 0
   alone_kids d = ap (λ (v : Node). get_or v.kids d 0) alone_node ∙ alone_none d
 
-  pub alone_last : last_in (set w n (alone n)) n ≡ n + 1
+  alone_last : last_in (set w n (alone n)) n ≡ n + 1
   alone_last = ap (λ (v : Node). v.last) alone_node
 
-  pub alone_long : n < length (set w n (alone n))
-  alone_long = omega (arith, long, length-set w n (alone n))
+  pub alone_lone : {K : ℕ → Key} → Treed K w n → Lone K (set w n (alone n)) n
+  alone_lone s = record {
+    treed = alone_treed s;
+    digits = alone_digits;
+    childless = alone_kids;
+    last = alone_last;
+    long = omega (arith, long, length-set w n (alone n));
+  }
 
   -- number 0 is the whole tree
   pub alone_first : (K : ℕ → Key) → n ≡ 0 → Treed K (set w n (alone n)) (n + 1)
@@ -93,8 +107,26 @@ module _ (w : List Node) (n : ℕ) (long : n < length w) where
             (λ p l q. absurd (omega (arith, l, z))) (λ q. absurd (omega (arith, q, alone_kids d))) p l;
       }
 
-module _ {K : ℕ → Key} {w : List Node} {n : ℕ} (some : 0 < n) (s : Treed K w n) (digits : length (node_in w n).kids ≡ 8)
-    (childless : (d : ℕ) → kid_in w n d ≡ 0) (long : n < length w) where
+module _ {K : ℕ → Key} {w : List Node} {n : ℕ} (some : 0 < n) (lone : Lone K w n) where
+  abbrev s : Treed K w n
+  s = lone.treed
+
+  -- a key that number n has not stands where it stood, and its node names the same number
+  later : (w' : List Node) (v : Key) (y : Stands K w n v) → (K n ≡ v → ⊥) → At K w' v y.t y.m
+      → last_in w' y.m ≡ last_in w y.m → Stands K w' (n + 1) v
+  later w' v y o a l = record {
+    t = y.t;
+    m = y.m;
+    at = a;
+    within = omega (arith, y.within);
+    some = omega (arith, l, y.some);
+    most = omega (arith, l, y.most);
+    hit = ap (λ (q : ℕ). K (q - 1)) l ∙ y.hit;
+    clear = λ j b m.
+        below_more (λ (j : ℕ). last_in w y.m ≤ j → K j ≡ v → ⊥) n (λ j m b. y.clear j b m)
+        (λ b q. o q) j m (omega (arith, b, l));
+  }
+
   -- the key is there: its node names n
   module _ {at : ℕ} (x : Meets K w (K n) n at) {w' : List Node}
       (is : w' ≡ set w at (record { kids = (node_in w at).kids; last = n + 1 })) where
@@ -102,7 +134,7 @@ module _ {K : ℕ → Key} {w : List Node} {n : ℕ} (some : 0 < n) (s : Treed K
     u = K n
 
     at_node : node_in w' at ≡ record { kids = (node_in w at).kids; last = n + 1 }
-    at_node = ap (λ (v : List Node). node_in v at) is ∙ node_same w at _ (omega (arith, x.led.within, long))
+    at_node = ap (λ (v : List Node). node_in v at) is ∙ node_same w at _ (omega (arith, x.led.within, lone.long))
 
     other_node : (q : ℕ) → (q ≡ at → ⊥) → node_in w' q ≡ node_in w q
     other_node q e = ap (λ (v : List Node). node_in v q) is ∙ node_other w at _ q e
@@ -160,40 +192,29 @@ module _ {K : ℕ → Key} {w : List Node} {n : ℕ} (some : 0 < n) (s : Treed K
     stands_on : (v : Key) → Stands K w n v → Stands K w' (n + 1) v
     stands_on v y = same_or_not y.m at
         (λ e. named v y.t y.m (onto y.at) e (sym y.at.key ∙ ap K e ∙ x.key))
-        (λ e.
-        let l : last_in w' y.m ≡ last_in w y.m = ap (λ (q : Node). q.last) (other_node y.m e) in
-        record {
-          t = y.t;
-          m = y.m;
-          at = onto y.at;
-          within = omega (arith, y.within);
-          some = omega (arith, l, y.some);
-          most = omega (arith, l, y.most);
-          hit = ap (λ (q : ℕ). K (q - 1)) l ∙ y.hit;
-          clear = λ j b m.
-              below_more (λ (j : ℕ). last_in w y.m ≤ j → K j ≡ v → ⊥) n (λ j m b. y.clear j b m)
-              (λ b q. e (meets_one K w u x.t at y.t y.m x.led.leads x.key x.led.passed
-              (subst (λ (k : Key). At K w k y.t y.m) (sym q) y.at))) j m (omega (arith, b, l));
-        })
+        (λ e. later w' v y
+        (λ q. e (meets_one K w u x.t at y.t y.m x.led.leads x.key x.led.passed
+        (subst (λ (k : Key). At K w k y.t y.m) (sym q) y.at)))
+        (onto y.at) (ap (λ (q : Node). q.last) (other_node y.m e)))
 
     pub found_treed : Treed K w' (n + 1)
     found_treed = record {
       stands = below_more (λ (k : ℕ). Stands K w' (n + 1) (K k)) n (λ k l. stands_on (K k) (s.stands k l))
           (named (K n) its.t its.m (onto its.at) its_node refl);
       digits = below_more (λ (p : ℕ). length (node_in w' p).kids ≡ 8) n
-          (λ p l. ap length (kids_same p) ∙ s.digits p l) (ap length (kids_same n) ∙ digits);
+          (λ p l. ap length (kids_same p) ∙ s.digits p l) (ap length (kids_same n) ∙ lone.digits);
       below = λ p d l. below_more (λ (p : ℕ). kid_in w' p d ≤ n + 1) n
-          (λ p l. omega (arith, kid_same p d, s.below p d l)) (omega (arith, kid_same n d, childless d)) p l;
+          (λ p l. omega (arith, kid_same p d, s.below p d l)) (omega (arith, kid_same n d, lone.childless d)) p l;
       up = λ p d l. below_more (λ (p : ℕ). 0 < kid_in w' p d → p + 1 < kid_in w' p d) n
           (λ p l q. omega (arith, kid_same p d, s.up p d l (omega (arith, kid_same p d, q))))
-          (λ q. absurd (omega (arith, q, kid_same n d, childless d))) p l;
+          (λ q. absurd (omega (arith, q, kid_same n d, lone.childless d))) p l;
     }
 
   -- the path ended: it goes on to n
-  module _ {at d : ℕ} (x : Ends K w (K n) n at d) (own : last_in w n ≡ n + 1) {w' : List Node}
+  module _ {at d : ℕ} (x : Ends K w (K n) n at d) {w' : List Node}
       (is : w' ≡ set w at (record { kids = set (node_in w at).kids d (n + 1); last = (node_in w at).last })) where
     at_node' : node_in w' at ≡ record { kids = set (node_in w at).kids d (n + 1); last = (node_in w at).last }
-    at_node' = ap (λ (v : List Node). node_in v at) is ∙ node_same w at _ (omega (arith, x.led.within, long))
+    at_node' = ap (λ (v : List Node). node_in v at) is ∙ node_same w at _ (omega (arith, x.led.within, lone.long))
 
     other_node' : (q : ℕ) → (q ≡ at → ⊥) → node_in w' q ≡ node_in w q
     other_node' q e = ap (λ (v : List Node). node_in v q) is ∙ node_other w at _ q e
@@ -240,20 +261,7 @@ module _ {K : ℕ → Key} {w : List Node} {n : ℕ} (some : 0 < n) (s : Treed K
         }
 
     stands_on' : (v : Key) → (K n ≡ v → ⊥) → Stands K w n v → Stands K w' (n + 1) v
-    stands_on' v o y =
-        let l : last_in w' y.m ≡ last_in w y.m = lasts y.m in
-        record {
-          t = y.t;
-          m = y.m;
-          at = onto' y.at;
-          within = omega (arith, y.within);
-          some = omega (arith, l, y.some);
-          most = omega (arith, l, y.most);
-          hit = ap (λ (q : ℕ). K (q - 1)) l ∙ y.hit;
-          clear = λ j b m.
-              below_more (λ (j : ℕ). last_in w y.m ≤ j → K j ≡ v → ⊥) n (λ j m b. y.clear j b m)
-              (λ b q. o q) j m (omega (arith, b, l));
-        }
+    stands_on' v o y = later w' v y o (onto' y.at) (lasts y.m)
 
     none : (k : ℕ) → k < n → K k ≡ K n → ⊥
     none = ends_none s (K n) x
@@ -262,7 +270,7 @@ module _ {K : ℕ → Key} {w : List Node} {n : ℕ} (some : 0 < n) (s : Treed K
     new_stands =
         let there : 0 < place w (K n) x.t = omega (arith, x.led.leads) in
         let leads : place w' (K n) x.t ≡ at + 1 = goes_on (K n) x.t there ∙ x.led.leads in
-        let l : last_in w' n ≡ n + 1 = lasts n ∙ own in
+        let l : last_in w' n ≡ n + 1 = lasts n ∙ lone.last in
         let back : last_in w' n - 1 ≡ n = omega (arith, l) in
         record {
           t = x.t + 1;
@@ -308,18 +316,18 @@ module _ {K : ℕ → Key} {w : List Node} {n : ℕ} (some : 0 < n) (s : Treed K
       stands = below_more (λ (k : ℕ). Stands K w' (n + 1) (K k)) n
           (λ k l. stands_on' (K k) (λ e. none k l (sym e)) (s.stands k l)) new_stands;
       digits = below_more (λ (p : ℕ). length (node_in w' p).kids ≡ 8) n
-          (λ p l. kids_long p ∙ s.digits p l) (kids_long n ∙ digits);
+          (λ p l. kids_long p ∙ s.digits p l) (kids_long n ∙ lone.digits);
       below = λ p c l. kid_or p c (λ e q. omega (arith, q)) (λ q. omega (
         arith,
         q,
         below_more (λ (p : ℕ). kid_in w p c ≤ n + 1) n (λ p l. omega (arith, s.below p c l))
-            (omega (arith, childless c)) p l,
+            (omega (arith, lone.childless c)) p l,
       ));
       up = λ p c l. kid_or p c (λ e q v. omega (arith, q, e, x.led.within)) (λ q v.
           omega (
             arith,
             q,
             below_more (λ (p : ℕ). 0 < kid_in w p c → p + 1 < kid_in w p c) n
-                (λ p l. s.up p c l) (λ z. absurd (omega (arith, z, childless c))) p l (omega (arith, q, v)),
+                (λ p l. s.up p c l) (λ z. absurd (omega (arith, z, lone.childless c))) p l (omega (arith, q, v)),
           ));
     }

@@ -2,7 +2,7 @@
 -- the node where the path ended.
 use mathlib.Core.Path.{refl}
 use native.Mathlib.Omega.{arith}
-use Rattle.store.proofs.PutLaws.{alone_treed, alone_digits, alone_kids, alone_last, alone_long, alone_first}
+use Rattle.store.proofs.PutLaws.{alone_treed, alone_lone, alone_first}
 use Rattle.store.proofs.PutLaws.{found_sought, found_treed, ends_sought, ends_treed}
 use Rattle.store.proofs.tree.put.Goals as goal
 
@@ -18,29 +18,25 @@ returns-in-Found-clause-sought c =
     let n = c.args.n in
     let long = c.requires.n_lt_rows.1.0 in
     rw c.from.ensures
-    (found_sought (omega (arith, c.if-n-eq0.false)) (alone_treed w n long c.requires.treed) (alone_digits w n long)
-    (alone_kids w n long) (alone_long w n long) c.in-Found.ensures refl)
+    (found_sought (omega (arith, c.if-n-eq0.false)) (alone_lone w n long c.requires.treed) c.in-Found.ensures refl)
 
 pub returns-in-Found-clause-treed_2 : goal.returns-in-Found-clause-treed_2
 returns-in-Found-clause-treed_2 c =
     let w = c.args.nodes.now in
     let n = c.args.n in
     let long = c.requires.n_lt_rows.1.0 in
-    found_treed (omega (arith, c.if-n-eq0.false)) (alone_treed w n long c.requires.treed) (alone_digits w n long)
-    (alone_kids w n long) (alone_long w n long) c.in-Found.ensures refl
+    found_treed (omega (arith, c.if-n-eq0.false)) (alone_lone w n long c.requires.treed) c.in-Found.ensures refl
 
 pub returns-in-Missing-clause-sought : goal.returns-in-Missing-clause-sought
 returns-in-Missing-clause-sought c =
     let w = c.args.nodes.now in
     let n = c.args.n in
     let long = c.requires.n_lt_rows.1.0 in
-    ends_sought (omega (arith, c.if-n-eq0.false)) (alone_treed w n long c.requires.treed) (alone_digits w n long)
-    (alone_kids w n long) (alone_long w n long) c.in-Missing.ensures (alone_last w n long) refl
+    ends_sought (omega (arith, c.if-n-eq0.false)) (alone_lone w n long c.requires.treed) c.in-Missing.ensures refl
 
 pub returns-in-Missing-clause-treed_2 : goal.returns-in-Missing-clause-treed_2
 returns-in-Missing-clause-treed_2 c =
     let w = c.args.nodes.now in
     let n = c.args.n in
     let long = c.requires.n_lt_rows.1.0 in
-    ends_treed (omega (arith, c.if-n-eq0.false)) (alone_treed w n long c.requires.treed) (alone_digits w n long)
-    (alone_kids w n long) (alone_long w n long) c.in-Missing.ensures (alone_last w n long) refl
+    ends_treed (omega (arith, c.if-n-eq0.false)) (alone_lone w n long c.requires.treed) c.in-Missing.ensures refl
