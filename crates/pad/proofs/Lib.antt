@@ -9,6 +9,7 @@ pub mod TouchLaws
 pub mod ReaderLaws
 pub mod BackLaws
 pub mod NumberLaws
+pub mod ListedLaws
 pub mod MarkLaws
 pub mod BestLaws
 pub mod EventLaws

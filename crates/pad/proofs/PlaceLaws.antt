@@ -94,7 +94,7 @@ has_place k None p e = absurd cc
 has_place k (Some j) p e = omega (arith, p.0, p.1)
 
 -- the same element is the same
-same_is : (a b : AxisOrBtn) → same_element a b ≡ true → a ≡ b
+pub same_is : (a b : AxisOrBtn) → same_element a b ≡ true → a ≡ b
 same_is (El.Axis a) (El.Axis b) e = ap (λ (n : ℕ). El.Axis (record { 0 = n })) (eqb-true a.0 b.0 e)
 same_is (El.Axis a) (El.Btn b) e = let z : ◌≡◌ {A = ℕ} 0 1 = cc in absurd (omega arith)
 same_is (El.Btn a) (El.Axis b) e = let z : ◌≡◌ {A = ℕ} 0 1 = cc in absurd (omega arith)

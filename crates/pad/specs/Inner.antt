@@ -1,6 +1,6 @@
 -- Values counted from the least one: what private functions compute with. No public contract cites these.
 -- Assumes nothing.
-use Rattle.std.specs.Prelude.{ℕ, suc, ◌+◌, ◌-◌, ◌/◌, ◌%◌, ◌≤◌, ◌<◌, ◌≡◌, Bool, false, List, [], ◌∷◌, ◌++◌, map, eqb, ltb, length, take, drop, get_or, ℤ, pos, negsuc, ◌-ℤ◌, Option, Some, None, set, MatchOption, Result, Ok, MatchResult}
+use Rattle.std.specs.Prelude.{ℕ, suc, ◌+◌, ◌-◌, ◌/◌, ◌%◌, ◌≤◌, ◌<◌, ◌≡◌, Bool, false, List, [], ◌∷◌, ◌++◌, map, eqb, ltb, length, take, drop, get_or, ◌&&◌, is_none, ℤ, pos, negsuc, ◌-ℤ◌, Option, Some, None, set, MatchOption, Result, Ok, MatchResult}
 use Rattle.std.specs.Borrow.{MutBor, Fml, Lends}
 use Rattle.text.specs.Bytes.{pick}
 use Rattle.line.specs.declared.ev.AxisOrBtn.{AxisOrBtn}
@@ -9,6 +9,7 @@ use Rattle.line.specs.declared.parser.AxisRange.TheVariants as Ar
 use Rattle.line.specs.declared.ev.Code.{Code}
 use Rattle.line.specs.declared.mapping.Entry.{Entry}
 use Rattle.line.specs.Elements.{same_element}
+use Rattle.line.specs.Maps.{entry_at}
 use Rattle.line.specs.Numbers.{code_unit, entry_in}
 use Rattle.pad.specs.declared.events.Held.{Held}
 use Rattle.pad.specs.declared.events.Event.{Event}
@@ -21,7 +22,7 @@ use Rattle.pad.specs.declared.events.Events.{Events}
 use Rattle.pad.specs.declared.events.Raw.{Raw}
 use Rattle.pad.specs.declared.state.TooManyCodes.{TooManyCodes}
 use Rattle.pad.specs.declared.telling.Change.{Change}
-use Rattle.pad.specs.Pads.{held_max, put_held, gives, Chosen, none, chosen, preferred, choose, element_count, element_at, sameℤ, changes}
+use Rattle.pad.specs.Pads.{held_max, put_held, gives, Chosen, none, chosen, preferred, choose, element_count, element_at, place_of, sameℤ, changes}
 use Rattle.pad.specs.States.{held_in, pad_values, pad_value, events_in, caught, Told, refused_of, raw_event_of}
 use Rattle.pad.specs.TwoPads.{farther, with_pad}
 use Rattle.pad.specs.contracts.two.Pads as P
@@ -64,6 +65,30 @@ chosen_by (Some b) = chosen b.code b.value
 unfoldable pub place_in : ℕ → List ℕ → ℕ
 place_in c [] = 0
 place_in c (y ∷ ys) = pick (eqb (y / code_unit) c) 0 (suc (place_in c ys))
+
+-- ---- the entries that count
+-- an entry of an element is wanted: those of one element are, or of each that has a place
+abbrev pub is_wanted : Option AxisOrBtn → AxisOrBtn → Bool
+is_wanted (Some el) other = same_element other el
+is_wanted None other = ltb (place_of other) element_count
+
+-- an entry, if there is one and it is wanted
+abbrev pub if_wanted : Option AxisOrBtn → Option Entry → Option Entry
+if_wanted of (Some e) = pick (is_wanted of e.element) (Some e) None
+if_wanted of None = None
+
+-- the listed numbers have, of each code, the first entry of it if that is wanted
+abbrev pub Listed_in : Option AxisOrBtn → List ℕ → List ℕ → Type 0
+Listed_in of xs listed = (c : Code) → entry_at (map entry_in listed) c ≡ if_wanted of (entry_at (map entry_in xs) c)
+
+-- codes from n on are not among those of the entries
+abbrev pub FreshFrom : ℕ → List ℕ → Type 0
+FreshFrom n xs = (c : Code) → n ≤ c.0 → entry_at (map entry_in xs) c ≡ None
+
+-- t says whether a number after others counts: it is of a wanted entry, and the first of its code
+abbrev pub Counts : Option AxisOrBtn → List ℕ → ℕ → Bool → Type 0
+Counts of before x t =
+    t ≡ is_wanted of (entry_in x).element && is_none (entry_at (map entry_in before) (entry_in x).code)
 
 -- a code that is not marked, by what is left of it over 256, gives an element nothing by entries
 abbrev pub Marked : AxisOrBtn → List ℕ → List Bool → Type 0

@@ -1,19 +1,20 @@
 // Which of the held codes an element takes its value from. Held codes and entries are numbers in two lent slices, which
 // `codes` and `rows` cut from a pad: its counts may be over the most, and here none is left.
-ghost use Rattle.std.specs.Prelude.{◌≡◌, ◌≤◌, ◌/◌, ◌%◌, ◌==◌, length, map, position};
+ghost use Rattle.std.specs.Prelude.{◌≡◌, ◌≤◌, ◌/◌, ◌%◌, ◌==◌, length, map, position, take};
 ghost use Rattle.line.specs.Maps.{entry_at};
 ghost use Rattle.line.specs.Numbers.{code_unit, entry_in};
 ghost use Rattle.pad.specs.Pads.{gives, preferred, choose, value_of};
 ghost use Rattle.pad.specs.States.{held_in};
 ghost use Rattle.pad.specs.Values.{event_of};
 ghost use Rattle.pad.specs.Inner.{chosen_by, place_in, Marked, AllChosen, CountsIn};
+ghost use Rattle.pad.specs.Inner.{is_wanted, Listed_in, FreshFrom, Counts};
 
 use crate::events::{ELEMENTS, Event, Held};
 use crate::numbers::held_of;
 use crate::telling::place_of;
 use crate::value::{entry_event, entry_value};
 use line::ev::{AxisOrBtn, Code};
-use line::mapping::{CODE_UNIT, Entry};
+use line::mapping::{CODE_UNIT, CODES_MAX, Entry};
 
 // How many marks there are.
 const MARKS: usize = 256;
@@ -83,6 +84,44 @@ fn prefer(first: Best, rest: Option<Best>) -> Best
     rest.map_or(first, |other| farther(first, other))
 }
 
+// Whether an entry of an element is wanted: those of one element are, or of each that has events.
+fn is_wanted(of: Option<AxisOrBtn>, element: AxisOrBtn) -> bool
+    ensures { result ≡ is_wanted of element }
+{
+    match of {
+        Some(el) => element == el,
+        None => place_of(element).is_some(),
+    }
+}
+
+// Whether an entry counts, by those before it: it is wanted, and the first of its code. Codes from `fresh` on have not
+// been met, so that entries in the order of their codes, as those of a map are, are not sought among the ones before.
+fn counts(before: &[u64], fresh: u64, x: u64, of: Option<AxisOrBtn>) -> bool
+    requires { FreshFrom fresh before.now }
+    ensures { Counts of before.now x result }
+{
+    let e = Entry::of_number(x);
+    is_wanted(of, e.element) && (fresh <= x / CODE_UNIT || first_entry(before, e.code).is_none())
+}
+
+// Lists the entries that count, and says how many there are: the others are passed over once, and not for each held
+// code.
+fn list_entries(room: &mut [u64; CODES_MAX], entries: &[u64], of: Option<AxisOrBtn>) -> usize
+    requires { length entries.now ≤ 256 }
+    ensures { Listed_in of entries.now (take result room.new) × (result ≤ 256) }
+{
+    let mut count = 0;
+    let mut fresh = 0;
+    for (j, x) in entries.iter().enumerate() {
+        if counts(&entries[..j], fresh, *x, of) {
+            room[count] = *x;
+            count += 1;
+        }
+        fresh = fresh.max(x / CODE_UNIT + 1);
+    }
+    count
+}
+
 // The codes that may give to an element are marked, by what is left of them over 256: a code that is not marked has no
 // entry of the element. Most held codes are passed over by one look at these, and not looked up in the map.
 fn mark(marks: &mut [bool; MARKS], entries: &[u64], el: AxisOrBtn)
@@ -124,9 +163,12 @@ fn best_of(held: &[u64], entries: &[u64], el: AxisOrBtn) -> Option<Best>
 
 // The value of an element; 0 where no code gives it one.
 pub fn element_value(held: &[u64], entries: &[u64], el: AxisOrBtn) -> i16
+    requires { length entries.now ≤ 256 }
     ensures { result ≡ value_of (map held_in held.now) (map entry_in entries.now) el }
 {
-    best_of(held, entries, el).map_or(0, |best| best.value)
+    let mut own = [0; CODES_MAX];
+    let n = list_entries(&mut own, entries, Some(el));
+    best_of(held, &own[..n], el).map_or(0, |best| best.value)
 }
 
 // The element of a held code with the value that it gives.
@@ -148,7 +190,7 @@ fn count_in(bests: &mut [Option<Best>; ELEMENTS], code: u32, e: Event)
 }
 
 // The codes and the values that all elements have, in one pass over the held codes.
-pub fn all_bests(held: &[u64], entries: &[u64]) -> [Option<Best>; ELEMENTS]
+fn bests_of(held: &[u64], entries: &[u64]) -> [Option<Best>; ELEMENTS]
     ensures { AllChosen (map held_in held.now) (map entry_in entries.now) result }
 {
     let mut bests = [None; ELEMENTS];
@@ -159,4 +201,14 @@ pub fn all_bests(held: &[u64], entries: &[u64]) -> [Option<Best>; ELEMENTS]
         }
     }
     bests
+}
+
+// The same by the entries that count.
+pub fn all_bests(held: &[u64], entries: &[u64]) -> [Option<Best>; ELEMENTS]
+    requires { length entries.now ≤ 256 }
+    ensures { AllChosen (map held_in held.now) (map entry_in entries.now) result }
+{
+    let mut counted = [0; CODES_MAX];
+    let n = list_entries(&mut counted, entries, None);
+    bests_of(held, &counted[..n])
 }

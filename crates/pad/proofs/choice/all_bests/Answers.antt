@@ -1,18 +1,12 @@
--- One held code more. Assumes nothing.
-use Rattle.std.proofs.Common.{map, sym, ◌∙◌}
-use Rattle.line.specs.Numbers.{entry_in}
-use Rattle.pad.proofs.BestLaws.{none_chosen, all_more, all_passed}
+-- The entries that count give each element what all entries give it. Assumes nothing.
+use Rattle.std.proofs.Common.{map, None, ◌∙◌}
+use Rattle.pad.specs.Pads.{element_at}
+use Rattle.pad.specs.States.{held_in}
+use Rattle.pad.proofs.ListedLaws.{listed_choose, placed_wanted}
 use Rattle.pad.proofs.choice.all_bests.Goals as goal
 
-pub loop-x-init : goal.loop-x-init
-loop-x-init c = none_chosen (map entry_in c.args.entries.now)
-
-pub loop-x-preserved-in-Some-told_by : goal.loop-x-preserved-in-Some-told_by
-loop-x-preserved-in-Some-told_by c =
-    all_more c.loop-x.yielded c.in-Some.x (map entry_in c.args.entries.now) _ c.held_of-h.ensures c.loop-x.bests
-    c.loop-x.invariant c.in-Some-told_by.e _ (sym c.in-Some-told_by.is ∙ c.told_by.ensures) c.count_in.ensures
-
-pub loop-x-preserved : goal.loop-x-preserved
-loop-x-preserved c =
-    all_passed c.loop-x.yielded c.in-Some.x (map entry_in c.args.entries.now) _ c.held_of-h.ensures c.loop-x.bests
-    c.loop-x.invariant (sym c.in_default.is ∙ c.told_by.ensures)
+pub returns : goal.returns
+returns c k l =
+    c.bests_of.ensures k l
+    ∙ listed_choose None c.args.entries.now _ c.list_entries-n.ensures.0 (element_at k) (placed_wanted k l)
+    (map held_in c.args.held.now)
