@@ -1,12 +1,12 @@
 -- How long a built line is, where build's checks pass: at most 8544 bytes, a bound made of the limits by name.
 -- Assumes nothing.
-use Rattle.std.specs.Prelude.{Option, Some, None, Ok}
+use Rattle.std.specs.Prelude.{Option, Some, None, Result, Ok, Err, ⊤}
 use Prim.Native.Nat.{ℕ, zero, suc, ◌+◌, ◌-◌, ◌<◌, ◌≤◌}
 use mathlib.Core.Path.{◌≡◌, refl, sym, ap}
 use mathlib.Core.Bool.{Bool, true, false}
 use mathlib.Core.List.{List, ◌∷◌}
 use native.Mathlib.Omega.{arith}
-use borrow.Author.Tests.{ltb-true, ltb-false, leb-true}
+use borrow.Author.Tests.{ltb-true, ltb-false, leb-true, le-leb}
 use lib.Dec.{leb, ltb}
 use lib.ListN.{length}
 use Rattle.text.specs.Bytes.{pick}
@@ -19,12 +19,14 @@ use Rattle.line.specs.declared.mapping.Entry.{Entry}
 use Rattle.line.specs.Maps.{entry_of}
 use Rattle.line.specs.Reading.{list_max}
 use Rattle.line.specs.Tables.{axes_sdl, axes_table, element_from, element_row, as_button, as_axis}
+use Rattle.map.specs.declared.error.MappingError.{MappingError}
 use Rattle.map.specs.declared.error.MappingError.TheVariants as Me
 use Rattle.map.specs.declared.from_data.filled.Pairs.{Pairs}
 use Rattle.map.specs.declared.mapping_data.MappingData.{MappingData}
 use Rattle.map.specs.Lists.{place_of, in_list}
 use Rattle.map.specs.Slots.{button_of, axis_of}
 use Rattle.map.specs.Build.{also, filled_from, filled_buttons, filled_axes, missing_of, checks_of, built_line, refused_build, Builds}
+use Rattle.map.specs.Build.{answer_of}
 use Rattle.map.specs.Inner.{pair_max, pairs_max, built_max}
 use Rattle.map.specs.Inner.{pair_length, pairs_length, line_length, built_line_max, short_of}
 use Rattle.map.specs.Inner.{Gathered, Room, line_text, line_len_of, put_map_of}
@@ -108,6 +110,18 @@ module _ (d : MappingData) (buttons axes name : List ℕ) (uuid : Uuid) where
 
   pub built_positive : 1 ≤ length (built_line d buttons axes name uuid)
   built_positive = omega (arith, line_length_lem d buttons axes name uuid)
+
+  answer_by : (a : Result ⊤ MappingError) (room : ℕ) → built_max ≤ room → checks_of d buttons axes name ≡ a
+      → answer_of d buttons axes name uuid room ≡ a
+  unfolding answer_of
+  answer_by (Ok tt) room h e =
+      let l : length (built_line d buttons axes name uuid) ≤ room = omega (arith, built_length e) in
+      rw (e, le-leb (length (built_line d buttons axes name uuid)) room l)
+  answer_by (Err x) room h e = rw e
+
+  -- an output of that length is never too short
+  pub room_enough : (room : ℕ) → built_max ≤ room → answer_of d buttons axes name uuid room ≡ checks_of d buttons axes name
+  room_enough room h = answer_by (checks_of d buttons axes name) room h refl
 
 -- ---- whether an output is too short: one that holds every line is not
 short_so : (room n : ℕ) → short_of room n ≡ true → room < n
