@@ -1,4 +1,5 @@
 // Cases of build: the slots are filled one after the other, from lists in which some codes stand twice.
+use crate::lines::flag;
 use crate::same;
 use line::ev::{Axis, Button, Code};
 use map::from_data::from_data;
@@ -59,7 +60,7 @@ pub fn build_case<R: Print + AllocGlobal>(rt: &R, args: &[u8]) -> io::Result<boo
     let mut out = Vec::new(rt.alloc());
     match built.answer {
         Ok(()) => {
-            let map = format!(in rt.alloc(); "{}:", MapText(&built.map))?;
+            let map = format!(in rt.alloc(); "{}{}:", MapText(&built.map), flag(&built.map))?;
             out.extend_from_slice(map.as_bytes())?;
             out.extend_from_slice(first(&line, built.len))?;
         }

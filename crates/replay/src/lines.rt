@@ -3,6 +3,7 @@
 // `><element>`, the input and the output range, `F`, `U` or `L`, and `~` where inverted; a refusal `!<number>@<place>`; the
 // end `E`. Each has `/` after it.
 use crate::same;
+use line::mapping::Mapping;
 use line::reading::parse_sdl_mapping;
 use map::default::default;
 use parts::cuts::{count_of, first, rest, word};
@@ -21,20 +22,24 @@ pub fn walk_case<R: Print + AllocGlobal>(rt: &R, args: &[u8]) -> io::Result<bool
     same(rt, out.as_bytes(), word(args))
 }
 
+// What stands after a map: `d` after a default map.
+pub fn flag(map: &Mapping) -> &'static str {
+    if map.is_default { "d" } else { "" }
+}
+
 // `read ANSWER LINE`
 pub fn read_case<R: Print + AllocGlobal>(rt: &R, args: &[u8]) -> io::Result<bool> {
     let read = parse_sdl_mapping(rest(args), &BUTTON_CODES, &AXIS_CODES);
     let out = match read.answer {
-        Ok(()) => format!(in rt.alloc(); "{}", MapText(&read.map))?,
+        Ok(()) => format!(in rt.alloc(); "{}{}", MapText(&read.map), flag(&read.map))?,
         Err(e) => format!(in rt.alloc(); "{}", Refused(Data::Recorded, e.refusal()))?,
     };
     same(rt, out.as_bytes(), word(args))
 }
 
-// `default ANSWER TAKE`: the default map of the first so many buttons, and of all axes; `d` after a default map.
+// `default ANSWER TAKE`: the default map of the first so many buttons, and of all axes.
 pub fn default_case<R: Print + AllocGlobal>(rt: &R, args: &[u8]) -> io::Result<bool> {
     let made = default(first(&BUTTON_CODES, number(rest(args))), &AXIS_CODES);
-    let flag = if made.map.is_default { "d" } else { "" };
-    let out = format!(in rt.alloc(); "{}{flag}", MapText(&made.map))?;
+    let out = format!(in rt.alloc(); "{}{}", MapText(&made.map), flag(&made.map))?;
     same(rt, out.as_bytes(), word(args))
 }

@@ -1,6 +1,6 @@
 // Cases of the parties' shares of the text.
 use crate::cases::{Store, insert_answer};
-use crate::spelled::{big, owner};
+use crate::spelled::{big, large, owner};
 use parts::cuts::{rest, word};
 use parts::numbers::number;
 use store::sharing::{ShareUse, set_share, share_of};
@@ -15,7 +15,7 @@ impl Store<'_> {
         insert_answer(set, word(args))
     }
 
-    // `told ANSWER OWNER SHARE USE`: 0 or 19; share and use are 0 where nothing is told.
+    // `told ANSWER OWNER SHARE USE`: 0 or 19; share and use are 0 where nothing is told. A word that is none is wrong.
     pub fn told_case(&self, args: &[u8]) -> bool {
         let more = rest(args);
         let uses = rest(more);
@@ -24,7 +24,7 @@ impl Store<'_> {
             Err(e) => (e.refusal().number, ShareUse { share: 0, used: 0 }),
         };
         refused as usize == number(word(args))
-            && shown.share == big(word(uses))
-            && shown.used == big(word(rest(uses)))
+            && large(word(uses)) == Some(shown.share)
+            && large(word(rest(uses))) == Some(shown.used)
     }
 }

@@ -16,12 +16,17 @@ pub fn uuid(s: &[u8]) -> Uuid {
     uuid_or(s, small)
 }
 
-// A length, a place or a share in a word, 0 where it is none; `most` is the largest number that a machine word holds.
-pub fn big(s: &[u8]) -> usize {
+// A length, a place or a share in a word; `most` is the largest number that a machine word holds.
+pub fn large(s: &[u8]) -> Option<usize> {
     match s {
-        b"most" => usize::MAX,
-        _ => decimal(s).unwrap_or(0),
+        b"most" => Some(usize::MAX),
+        _ => decimal(s),
     }
+}
+
+// The same, 0 where it is none.
+pub fn big(s: &[u8]) -> usize {
+    large(s).unwrap_or(0)
 }
 
 fn decimal(s: &[u8]) -> Option<usize> {
