@@ -8,6 +8,7 @@ pub mod PutLaws
 pub mod ViewLaws
 pub mod NumberLaws
 pub mod TurnLaws
+pub mod DraftLaws
 pub mod OfNumbersLaws
 -- the walker and the reading
 pub mod CountLaws

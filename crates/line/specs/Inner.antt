@@ -1,6 +1,6 @@
 -- What the private functions of the tables, of a put and of a reading promise. No public contract cites these.
 -- Assumes nothing.
-use Rattle.std.specs.Prelude.{ℕ, ◌-◌, ◌<◌, ◌≤◌, ◌≡◌, List, ◌∷◌, ◌++◌, length, take, drop, set, replicate, Option, Some, None, Result, Ok, Err, ⊤}
+use Rattle.std.specs.Prelude.{ℕ, ◌-◌, ◌<◌, ◌≤◌, ◌≡◌, false, map, List, ◌∷◌, ◌++◌, length, take, drop, set, replicate, Option, Some, None, Result, Ok, Err, ⊤}
 use Rattle.text.specs.Bytes.{byte, first_of}
 use Rattle.line.specs.Fields.{count_of}
 use Rattle.line.specs.declared.parser.pair.Cut.{Cut}
@@ -10,8 +10,10 @@ use Rattle.line.specs.declared.parser.Token.{Token}
 use Rattle.line.specs.declared.mapping.Entry.{Entry}
 use Rattle.line.specs.declared.mapping.Mapping.{Mapping}
 use Rattle.line.specs.declared.parser.ErrorKind.{ErrorKind}
+use Rattle.line.specs.declared.reading.draft.Draft.{Draft}
 use Rattle.line.specs.declared.refusal.Refusal.{Refusal}
 use Rattle.line.specs.Maps.{codes_max, unused_entry, MapView, held, put_entry}
+use Rattle.line.specs.Numbers.{entry_in}
 use Rattle.line.specs.Refusals.{reading_refusal}
 use Rattle.line.specs.Reading.{taken}
 
@@ -33,6 +35,18 @@ abbrev pub CutAt : List ℕ → Cut → Type 0
 CutAt s c =
     (c.len ≡ first_of (byte ",") s) × (c.colons ≡ count_of (byte ":") (take c.len s))
     × (c.colons ≡ 1 → c.colon ≡ first_of (byte ":") (take c.len s))
+
+-- the map that a draft comes to: its numbers as entries
+unfoldable pub draft_map : Draft → Mapping
+draft_map d =
+    record {
+      count = d.count;
+      entries = map entry_in d.numbers;
+      name_start = d.name_start;
+      name_len = d.name_len;
+      is_default = false;
+      hats_mapped = d.hats_mapped;
+    }
 
 -- the view of a map, whatever stands behind its entries
 abbrev pub view_of : Mapping → MapView

@@ -3,7 +3,7 @@ use mathlib.Core.Path.{refl, sym, ap, ◌∙◌}
 use native.Mathlib.Omega.{arith}
 use Rattle.std.specs.Prelude.{Result, ⊤}
 use Rattle.line.specs.declared.reading.ParseSdlMappingError.{ParseSdlMappingError}
-use Rattle.line.specs.Inner.{outcome}
+use Rattle.line.specs.Inner.{draft_map, outcome}
 use Rattle.line.proofs.ViewLaws.{empty_padded, empty_viewed}
 use Rattle.line.proofs.ReadingLaws.{rest_of, at_first, rest_done, turn_refused, turn_accepted, turn_moves, turn_begun}
 use Rattle.line.proofs.TurnLaws.{was_accepted, was_refused, passed_on}
@@ -23,7 +23,7 @@ returns-in_err-take_answer c =
     let r = turn_refused a.line.now a.buttons.now a.axes.now l.pos l.state _ c.loop-pos-test.true l.invariant.1.1
     x.result x.ensures _ was in (
       sym l.invariant.0 ∙ r
-          ∙ ap (λ (o : Result ⊤ ParseSdlMappingError). outcome o c.take_answer.new.map)
+          ∙ ap (λ (o : Result ⊤ ParseSdlMappingError). outcome o (draft_map c.take_answer.new.draft))
           (sym (passed_on c.from_residual.result c.in_err-take_answer.field-0.0 c.from_residual.ensures)),
       t.1,
     )
