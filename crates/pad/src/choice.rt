@@ -161,14 +161,19 @@ fn best_of(held: &[u64], entries: &[u64], el: AxisOrBtn) -> Option<Best>
     best
 }
 
-// The value of an element; 0 where no code gives it one.
+// The value of an element; 0 where no code gives it one. The entries that count for it are listed first; where there are
+// more entries than the list has room for, all of them are asked.
 pub fn element_value(held: &[u64], entries: &[u64], el: AxisOrBtn) -> i16
-    requires { length entries.now ≤ 256 }
     ensures { result ≡ value_of (map held_in held.now) (map entry_in entries.now) el }
 {
-    let mut own = [0; CODES_MAX];
-    let n = list_entries(&mut own, entries, Some(el));
-    best_of(held, &own[..n], el).map_or(0, |best| best.value)
+    let mut room = [0; CODES_MAX];
+    let own = if entries.len() > CODES_MAX {
+        entries
+    } else {
+        let n = list_entries(&mut room, entries, Some(el));
+        &room[..n]
+    };
+    best_of(held, own, el).map_or(0, |best| best.value)
 }
 
 // The element of a held code with the value that it gives.
@@ -203,12 +208,62 @@ fn bests_of(held: &[u64], entries: &[u64]) -> [Option<Best>; ELEMENTS]
     bests
 }
 
-// The same by the entries that count.
+// The same by the entries that count for any element, which are listed first; where there are more entries than the list
+// has room for, by all of them.
 pub fn all_bests(held: &[u64], entries: &[u64]) -> [Option<Best>; ELEMENTS]
-    requires { length entries.now ≤ 256 }
     ensures { AllChosen (map held_in held.now) (map entry_in entries.now) result }
 {
-    let mut counted = [0; CODES_MAX];
-    let n = list_entries(&mut counted, entries, None);
-    bests_of(held, &counted[..n])
+    let mut room = [0; CODES_MAX];
+    let counted = if entries.len() > CODES_MAX {
+        entries
+    } else {
+        let n = list_entries(&mut room, entries, None);
+        &room[..n]
+    };
+    bests_of(held, counted)
+}
+
+#[cfg(test)]
+mod tests {
+    use super::*;
+    use crate::events::Raw;
+    use line::ev::Button;
+
+    // 300 entries, and the last 256 of them. Those of codes 299, 298 and 44 count among both, that of 0 among the 300.
+    // Button 20 has no events: it has a value, and no place among all elements.
+    #[test]
+    fn more_entries_than_a_list_has_room_for(rt: HostRuntime) {
+        let south = AxisOrBtn::Btn(Button(1));
+        let north = AxisOrBtn::Btn(Button(4));
+        let west = AxisOrBtn::Btn(Button(5));
+        let other = AxisOrBtn::Btn(Button(20));
+        let mut entries = [0; 300];
+        for i in 0..300 {
+            let element = match i {
+                299 => south,
+                298 => other,
+                _ => west,
+            };
+            entries[i] = Entry::new(Code(i as u32), element).number();
+        }
+        let held = [299, 298, 44, 0].map(|code| crate::numbers::held_number(
+            Code(code),
+            Raw::ButtonPressed,
+        ));
+        for from in [0, 44] {
+            let some = &entries[from..];
+            for (el, value) in [(south, 32767), (west, 32767), (other, 32767), (north, 0)] {
+                assert_eq!(rt; element_value(&held, some, el), value, "from {from} on");
+            }
+            for (k, best) in all_bests(&held, some).iter().enumerate() {
+                let told = best.map(|best| (best.code, best.value));
+                let wanted = match k {
+                    0 => Some((299, 32767)),
+                    4 => Some((from as u32, 32767)),
+                    _ => None,
+                };
+                assert_eq!(rt; told, wanted, "element {k}, from {from} on");
+            }
+        }
+    }
 }
