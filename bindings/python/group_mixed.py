@@ -108,6 +108,12 @@ def hub(seed, path):
 # ---- All of them
 
 
+def noted(log):
+    """The notes of a hub. A kill can cut the last one short, which then ends without a line's end: that call was not
+    made, or that answer counts as none."""
+    return [json.loads(line) for line in log.read_bytes().split(b"\n")[:-1]]
+
+
 def play(server, seconds, seed):
     """Runs the hubs for so long, kills one about three times a second, and crashes the server in the middle. Hands
     back the notes of all, and how many were killed."""
@@ -133,8 +139,7 @@ def play(server, seconds, seed):
     for left in hubs:
         left.kill()
         left.wait()
-    notes = [json.loads(line) for log in sorted(folder.glob("hub-*")) for line in log.read_text().splitlines()]
-    return notes, killed
+    return [note for log in sorted(folder.glob("hub-*")) for note in noted(log)], killed
 
 
 # ---- The book
