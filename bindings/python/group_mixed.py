@@ -109,9 +109,14 @@ def hub(seed, path):
 
 
 def noted(log):
-    """The notes of a hub. A kill can cut the last one short, which then ends without a line's end: that call was not
-    made, or that answer counts as none."""
-    return [json.loads(line) for line in log.read_bytes().split(b"\n")[:-1]]
+    """The notes of a hub. A kill can cut the last one short: that call was not made, or that answer counts as none. A
+    note that is whole but for its line's end counts, and half a line before another is an error."""
+    *lines, last = log.read_bytes().split(b"\n")
+    notes = [json.loads(line) for line in lines]
+    try:
+        return [*notes, json.loads(last)]
+    except json.JSONDecodeError:
+        return notes
 
 
 def play(server, seconds, seed):
